@@ -1,0 +1,32 @@
+-- The numbers that come back: the code and the place of each answer, and the one number that holds both.
+use Prim.Native.Nat.{ℕ, _+_, _*_}
+use Rattle.answer.specs.declared.Answer.{Answer}
+use Rattle.answer.specs.declared.Answer.the-variants.{Done, OutOfRange, OrderAboveRoom, MatrixLength, SliceLength, BadRecord, ZeroMark, NotPositive, ZeroDiagonal, BadLine}
+
+abbrev pub codeOf : Answer → ℕ
+codeOf Done = 0
+codeOf OutOfRange = 1
+codeOf OrderAboveRoom = 2
+codeOf MatrixLength = 3
+codeOf SliceLength = 4
+codeOf (BadRecord row) = 5
+codeOf (ZeroMark row) = 6
+codeOf (NotPositive column) = 7
+codeOf (ZeroDiagonal column) = 8
+codeOf (BadLine line) = 20
+
+-- 0 where the answer names no row, column or line
+abbrev pub placeOf : Answer → ℕ
+placeOf Done = 0
+placeOf OutOfRange = 0
+placeOf OrderAboveRoom = 0
+placeOf MatrixLength = 0
+placeOf SliceLength = 0
+placeOf (BadRecord row) = row
+placeOf (ZeroMark row) = row
+placeOf (NotPositive column) = column
+placeOf (ZeroDiagonal column) = column
+placeOf (BadLine line) = line
+
+abbrev pub numberOf : Answer → ℕ
+numberOf a = codeOf a * 4096 + placeOf a

@@ -1,0 +1,75 @@
+// What a call answers: done, or one of the numbered refusals.
+ghost use mathlib.Core.Path.{_≡_};
+ghost use Rattle.answer.specs.Number.{codeOf, placeOf, numberOf};
+
+pub enum Answer {
+    // The result stands in the lent slices.
+    Done,
+    // An order, room or column count above 1,024, or UDU of order 0.
+    OutOfRange,
+    // Cholesky: an order above the room, or an earlier order above the order.
+    OrderAboveRoom,
+    // The first matrix has the wrong length.
+    MatrixLength,
+    // Another slice has the wrong length.
+    SliceLength,
+    // The pivot record breaks its rule: the row, or the order for the mark.
+    BadRecord(u32),
+    // Solve: a zero mark stands, at this row.
+    ZeroMark(u32),
+    // Cholesky: the diagonal at this column is zero, negative or NaN.
+    NotPositive(u32),
+    // UDU: the diagonal at this column is zero.
+    ZeroDiagonal(u32),
+    // The sheet's first wrong line, from 1.
+    BadLine(u32),
+}
+
+// An answer with a number beside it: a determinant, +0 where refused.
+pub struct Valued {
+    pub answer: Answer,
+    pub value: f64,
+}
+
+impl Answer {
+    pub fn code(self) -> u8
+        ensures { λ r. ⌜ r ≡ codeOf self ⌝ }
+    {
+        match self {
+            Answer::Done => 0,
+            Answer::OutOfRange => 1,
+            Answer::OrderAboveRoom => 2,
+            Answer::MatrixLength => 3,
+            Answer::SliceLength => 4,
+            Answer::BadRecord(_) => 5,
+            Answer::ZeroMark(_) => 6,
+            Answer::NotPositive(_) => 7,
+            Answer::ZeroDiagonal(_) => 8,
+            Answer::BadLine(_) => 20,
+        }
+    }
+
+    pub fn place(self) -> u32
+        ensures { λ r. ⌜ r ≡ placeOf self ⌝ }
+    {
+        match self {
+            Answer::Done => 0,
+            Answer::OutOfRange => 0,
+            Answer::OrderAboveRoom => 0,
+            Answer::MatrixLength => 0,
+            Answer::SliceLength => 0,
+            Answer::BadRecord(row) => row,
+            Answer::ZeroMark(row) => row,
+            Answer::NotPositive(column) => column,
+            Answer::ZeroDiagonal(column) => column,
+            Answer::BadLine(line) => line,
+        }
+    }
+
+    // The one number of an answer, code·4,096 + place.
+    pub fn number(self) -> u64
+        ensures { λ r. ⌜ r ≡ numberOf self ⌝ }
+    {
+        (self.code() as u64) * 4096 + (self.place() as u64)
+    }
+}

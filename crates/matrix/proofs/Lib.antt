@@ -1,0 +1,4 @@
+pub mod Loops
+pub mod Grids
+pub mod Places
+pub mod Squares

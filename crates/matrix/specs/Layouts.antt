@@ -1,0 +1,56 @@
+-- The grids of the project: the lower triangle of a layout, the upper triangle and the whole of a square matrix.
+use mathlib.Core.Path.{_≡_}
+use mathlib.Core.Bool.{Bool, _&&_}
+use mathlib.Core.List.{List}
+use Prim.Native.Nat.{ℕ, _+_, _*_, _≤_}
+use lib.Dec.{leb, ltb}
+use lib.ListN.{length}
+use lib.Ieee.{Float}
+use Rattle.matrix.specs.Matrix.{Matrix}
+use Rattle.matrix.specs.Grid.{Grid, load}
+use Rattle.matrix.specs.declared.Layout.{Layout}
+
+-- the order is at most the room, and the room at most 1,024
+pub record Roomy (y : Layout) : Type 0 where
+  pub ordered : y .order ≤ y .room
+  pub small : y .room ≤ 1024
+
+-- entry (i, j) stands at i + startOf y j
+unfoldable pub startOf : Layout → ℕ → ℕ
+startOf y j = j * y .room
+
+unfoldable pub sizeOf : Layout → ℕ
+sizeOf y = y .room * y .room
+
+unfoldable pub inLower : ℕ → ℕ → ℕ → Bool
+inLower n i j = leb j i && ltb i n
+
+unfoldable pub placeIn : Layout → ℕ → ℕ → ℕ
+unfolding startOf
+placeIn y i j = i + startOf y j
+
+unfoldable pub lower : Layout → Grid
+unfolding inLower placeIn sizeOf
+lower y = record { inside = inLower (y .order); place = placeIn y; size = sizeOf y }
+
+unfoldable pub inUpper : ℕ → ℕ → ℕ → Bool
+inUpper n i j = leb i j && ltb j n
+
+unfoldable pub inSquare : ℕ → ℕ → ℕ → Bool
+inSquare n i j = ltb i n && ltb j n
+
+unfoldable pub placeSquare : ℕ → ℕ → ℕ → ℕ
+placeSquare n i j = i + j * n
+
+unfoldable pub upper : ℕ → Grid
+unfolding inUpper placeSquare
+upper n = record { inside = inUpper n; place = placeSquare n; size = n * n }
+
+unfoldable pub square : ℕ → Grid
+unfolding inSquare placeSquare
+square n = record { inside = inSquare n; place = placeSquare n; size = n * n }
+
+-- the slice is the n·n matrix M and nothing else
+pub record Fills (n : ℕ) (l : List Float) (M : Matrix) : Type 0 where
+  pub long : length l ≡ n * n
+  pub cells : load (square n) l ≡ M

@@ -1,0 +1,4 @@
+pub mod Matrix
+pub mod Loop
+pub mod Grid
+pub mod Layouts
