@@ -1,0 +1,72 @@
+-- The promise of `first_twin` fixes its answer, and its number tells the three kinds of answer apart. Assumes nothing.
+use mathlib.Core.Path.{_≡_, refl, sym, _∙_, ap, subst}
+use mathlib.Core.List.{List}
+use Prim.Native.Nat.{ℕ, _+_, _*_, _/_, _%_, _≤_, _<_}
+use native.Mathlib.Decide.{decLe}
+use native.Mathlib.Omega.{arith}
+use lib.Dec.{lit≤}
+use lib.ListN.{length}
+use lib.Ieee.{Float}
+use Rattle.answer.specs.declared.Answer.{Answer}
+use Rattle.answer.specs.declared.Answer.the-variants.{Done}
+use Rattle.answer.proofs.Back.{done-only}
+use Rattle.answer.specs.Number.{codeOf, placeOf, numberOf}
+use Rattle.matrix.specs.Matrix.{Matrix}
+use Rattle.twins.specs.declared.Twin.{Twin}
+use Rattle.twins.specs.declared.Twin.the-variants.{Nothing, Pair, Refused}
+use Rattle.twins.specs.Twins.{Twins}
+use Rattle.twins.specs.Sizes.{sizes}
+use Rattle.twins.specs.First.{FirstPair, First, FirstTwin, none, pair}
+use Rattle.twins.specs.Number.{twinNumber}
+
+-- no later second row, and no later first row of one second row
+no-later : {n : ℕ} {M : Matrix} {p q r s : ℕ} → FirstPair n M p q → FirstPair n M r s → q < s → ⊥
+no-later f g lt = g .least _ _ (f .apart) lt (f .twins)
+
+same-second : {n : ℕ} {M : Matrix} {p q r s : ℕ} → FirstPair n M p q → FirstPair n M r s → q ≡ s
+same-second {q = q} {s = s} f g =
+    let under : (q < s) → ⊥ = no-later f g in
+    let over : (s < q) → ⊥ = no-later g f in
+    omega arith
+
+no-later-first : {n : ℕ} {M : Matrix} {p q r : ℕ} → FirstPair n M p q → FirstPair n M r q → p < r → ⊥
+no-later-first f g lt = g .nearest _ lt (f .twins)
+
+same-first : {n : ℕ} {M : Matrix} {p q r : ℕ} → FirstPair n M p q → FirstPair n M r q → p ≡ r
+same-first {p = p} {r = r} f g =
+    let under : (p < r) → ⊥ = no-later-first f g in
+    let over : (r < p) → ⊥ = no-later-first g f in
+    omega arith
+
+pub first-unique : {n : ℕ} {M : Matrix} {t u : Twin} → First n M t → First n M u → t ≡ u
+first-unique (none a) (none b) = refl
+first-unique (none a) (pair g) = absurd (a _ _ (g .apart) (g .within) (g .twins))
+first-unique (pair f) (none b) = absurd (b _ _ (f .apart) (f .within) (f .twins))
+first-unique {n} {M} (pair {p} {q} f) (pair {p = r} {q = s} g) =
+    let second : q ≡ s = same-second f g in
+    let g' : FirstPair n M r q = subst (λ (k : ℕ). FirstPair n M r k) (sym second) g in
+    ap (λ (k : ℕ). Pair k q) (same-first f g') ∙ ap (Pair r) second
+
+-- two answers that meet the promise are equal
+pub first-twin-unique : (l : List Float) (room n : ℕ) {t u : Twin} → FirstTwin l room n t → FirstTwin l room n u → t ≡ u
+first-twin-unique l room n {t} {u} a b = by (decLe (codeOf (sizes room n (length l))) 0)
+  where
+    by : Dec (codeOf (sizes room n (length l)) ≤ 0) → t ≡ u
+    by (yes zero) =
+        let done : sizes room n (length l) ≡ Done = done-only (sizes room n (length l)) (omega arith) in
+        first-unique (a .found done) (b .found done)
+    by (no code) =
+        let other : sizes room n (length l) ≡ Done → ⊥ = λ done. code (subst (λ (x : Answer). codeOf x ≤ 0) (sym done) (lit≤ tt)) in
+        a .refused other ∙ sym (b .refused other)
+
+-- ---- the number
+
+-- none, a refusal and a pair of rows below 1,024 have different numbers, and a pair's rows come back from its own
+pub pair-number : (p q : ℕ) → p < 4096 → (twinNumber (Pair p q) / 4096 ≡ 4096 + q) × (twinNumber (Pair p q) % 4096 ≡ p)
+pair-number p q below = (omega arith, omega arith)
+
+pub pair-above : (p q : ℕ) (a : Answer) → placeOf a < 4096 → codeOf a < 4096 → numberOf a < twinNumber (Pair p q)
+pair-above p q a place code = omega arith
+
+pub refusal-above : (a : Answer) → (codeOf a ≡ 0 → ⊥) → twinNumber Nothing < twinNumber (Refused a)
+refusal-above a code = omega arith

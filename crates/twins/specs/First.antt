@@ -1,0 +1,54 @@
+-- What `first_twin` answers: the pair of twin rows p < q with the least q and then the least p.
+use mathlib.Core.Path.{_≡_}
+use mathlib.Core.Bool.{Bool, true, false}
+use mathlib.Core.List.{List}
+use Prim.Native.Nat.{ℕ, _≤_, _<_}
+use lib.ListN.{length}
+use lib.Ieee.{Float}
+use Rattle.answer.specs.declared.Answer.the-variants.{Done}
+use Rattle.matrix.specs.declared.Layout.{Layout}
+use Rattle.matrix.specs.Matrix.{Matrix}
+use Rattle.matrix.specs.Grid.{load}
+use Rattle.matrix.specs.Layouts.{lower}
+use Rattle.twins.specs.declared.Twin.{Twin}
+use Rattle.twins.specs.declared.Twin.the-variants.{Nothing, Pair, Refused}
+use Rattle.twins.specs.Twins.{Twins}
+use Rattle.twins.specs.Sizes.{sizes}
+
+-- no two rows below q are twins
+abbrev pub NoneBelow : ℕ → Matrix → ℕ → Type 0
+NoneBelow n M q = (r s : ℕ) → r < s → s < q → Twins n M r s → ⊥
+
+-- no row before p is row q's twin
+abbrev pub NoneBefore : ℕ → Matrix → ℕ → ℕ → Type 0
+NoneBefore n M p q = (r : ℕ) → r < p → Twins n M r q → ⊥
+
+pub record FirstPair (n : ℕ) (M : Matrix) (p q : ℕ) : Type 0 where
+  pub apart : p < q
+  pub within : q < n
+  pub twins : Twins n M p q
+  pub least : NoneBelow n M q
+  pub nearest : NoneBefore n M p q
+
+pub data First (n : ℕ) (M : Matrix) : Twin → Type 0 where
+  none : NoneBelow n M n → First n M Nothing
+  pair : {p q : ℕ} → FirstPair n M p q → First n M (Pair p q)
+
+-- whether rows p and q are twins
+pub record Told (n : ℕ) (M : Matrix) (p q : ℕ) (r : Bool) : Type 0 where
+  pub yes : r ≡ true → Twins n M p q
+  pub no : r ≡ false → Twins n M p q → ⊥
+
+-- r is the first row before q that is its twin, or q where there is none
+pub record FirstBefore (n : ℕ) (M : Matrix) (q r : ℕ) : Type 0 where
+  pub upto : r ≤ q
+  pub twins : r < q → Twins n M r q
+  pub nearest : NoneBefore n M r q
+
+abbrev pub layoutOf : ℕ → ℕ → Layout
+layoutOf room n = record { order = n; room = room }
+
+-- a refusal by size, or the first pair of the lower triangle
+pub record FirstTwin (l : List Float) (room n : ℕ) (r : Twin) : Type 0 where
+  pub refused : (sizes room n (length l) ≡ Done → ⊥) → r ≡ Refused (sizes room n (length l))
+  pub found : sizes room n (length l) ≡ Done → First n (load (lower (layoutOf room n)) l) r

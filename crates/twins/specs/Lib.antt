@@ -1,0 +1,5 @@
+pub mod Twins
+pub mod Sizes
+pub mod First
+pub mod Number
+pub mod Mark

@@ -1,0 +1,205 @@
+// Finds rows of a symmetric matrix that came twice.
+ghost use mathlib.Core.Path.{_≡_};
+ghost use mathlib.Core.Bool.{true, false};
+ghost use Prim.Native.Nat.{ℕ, _≤_, _<_};
+ghost use lib.ListN.{length, getD};
+ghost use lib.Ieee.{binary64, toBits};
+ghost use Rattle.matrix.specs.Grid.{Sound, load};
+ghost use Rattle.matrix.specs.Layouts.{Roomy, lower};
+ghost use Rattle.twins.specs.Twins.{symmetric, Twins};
+ghost use Rattle.twins.specs.First.{First, FirstBefore, FirstTwin, Told};
+ghost use Rattle.twins.specs.Number.{twinNumber};
+ghost use Rattle.twins.specs.Mark.{mixed, rowMark, Marked};
+use answer::Answer;
+use matrix::Layout;
+
+pub enum Twin {
+    Nothing,
+    // Rows first < second are twins.
+    Pair(u32, u32),
+    Refused(Answer),
+}
+
+impl Twin {
+    pub fn number(self) -> u64
+        ensures { λ r. ⌜ r ≡ twinNumber self ⌝ }
+    {
+        match self {
+            Twin::Nothing => 0,
+            Twin::Pair(first, second) => (4096 + (second as u64)) * 4096 + (first as u64),
+            Twin::Refused(answer) => answer.number(),
+        }
+    }
+}
+
+// The bits of x, where all NaNs have those of one.
+fn bits(x: f64) -> u64
+    ensures { λ r. ⌜ r ≡ toBits binary64 x ⌝ }
+{
+    if x != x {
+        return 0x7ff8_0000_0000_0000;
+    }
+    f64::to_bits(x)
+}
+
+fn entry_bits(y: Layout, a: &[f64], i: usize, j: usize) -> u64
+    requires { ⌜ Roomy y ⌝ }
+    requires { ⌜ Sound (lower y) (now a) ⌝ }
+    requires { ⌜ i < y .order ⌝ }
+    requires { ⌜ j < y .order ⌝ }
+    ensures { λ r. ⌜ r ≡ toBits binary64 (symmetric (load (lower y) (now (a .entry))) i j) ⌝ }
+{
+    if j <= i {
+        return bits(matrix::get(y, a, i, j));
+    }
+    bits(matrix::get(y, a, j, i))
+}
+
+fn mix(mark: u64, bits: u64) -> u64
+    ensures { λ r. ⌜ r ≡ mixed mark bits ⌝ }
+{
+    let sum = std::num::wrapping_add_u64(mark, bits);
+    sum % 0x1_0000_0000 * 4294967118 + sum / 0x1_0000_0000
+}
+
+fn mark_row(y: Layout, a: &[f64], i: usize) -> u64
+    requires { ⌜ Roomy y ⌝ }
+    requires { ⌜ Sound (lower y) (now a) ⌝ }
+    requires { ⌜ i < y .order ⌝ }
+    ensures { λ r. ⌜ r ≡ rowMark (y .order) (load (lower y) (now (a .entry))) i ⌝ }
+{
+    let n = y.order;
+    let mut mark: u64 = 0;
+    let mut k = 0;
+    while k < n {
+        mark = mix(mark, entry_bits(y, a, i, k));
+        k += 1;
+    }
+    mark
+}
+
+fn mark_rows(y: Layout, a: &[f64], marks: &mut [u64])
+    requires { ⌜ Roomy y ⌝ }
+    requires { ⌜ Sound (lower y) (now a) ⌝ }
+    requires { ⌜ y .order ≤ length (now marks) ⌝ }
+    ensures { λ _. ⌜ Marked (y .order) (load (lower y) (now (a .entry))) (now (marks .exit)) ⌝ }
+{
+    let n = y.order;
+    let mut i = 0;
+    while i < n {
+        marks[i] = mark_row(y, a, i);
+        i += 1;
+    }
+}
+
+fn same_rows(y: Layout, a: &[f64], p: usize, q: usize) -> bool
+    requires { ⌜ Roomy y ⌝ }
+    requires { ⌜ Sound (lower y) (now a) ⌝ }
+    requires { ⌜ p < y .order ⌝ }
+    requires { ⌜ q < y .order ⌝ }
+    ensures { λ r. ⌜ Told (y .order) (load (lower y) (now (a .entry))) p q r ⌝ }
+{
+    let n = y.order;
+    let mut k = 0;
+    while k < n {
+        if entry_bits(y, a, q, k) != entry_bits(y, a, p, k) {
+            return false;
+        }
+        k += 1;
+    }
+    true
+}
+
+// The marks are compared first, so that rows are read again only where they may be twins.
+fn twins(y: Layout, a: &[f64], marks: &[u64], p: usize, q: usize) -> bool
+    requires { ⌜ Roomy y ⌝ }
+    requires { ⌜ Sound (lower y) (now a) ⌝ }
+    requires { ⌜ y .order ≤ length (now marks) ⌝ }
+    requires { ⌜ Marked (y .order) (load (lower y) (now a)) (now marks) ⌝ }
+    requires { ⌜ (p < y .order) × (q < y .order) ⌝ }
+    ensures { λ r. ⌜ Told (y .order) (load (lower y) (now (a .entry))) p q r ⌝ }
+{
+    if marks[p] != marks[q] {
+        return false;
+    }
+    same_rows(y, a, p, q)
+}
+
+fn first_before(y: Layout, a: &[f64], marks: &[u64], q: usize) -> usize
+    requires { ⌜ Roomy y ⌝ }
+    requires { ⌜ Sound (lower y) (now a) ⌝ }
+    requires { ⌜ y .order ≤ length (now marks) ⌝ }
+    requires { ⌜ Marked (y .order) (load (lower y) (now a)) (now marks) ⌝ }
+    requires { ⌜ q < y .order ⌝ }
+    ensures { λ r. ⌜ FirstBefore (y .order) (load (lower y) (now (a .entry))) q r ⌝ }
+{
+    let mut p = 0;
+    while p < q {
+        if twins(y, a, marks, p, q) {
+            return p;
+        }
+        p += 1;
+    }
+    p
+}
+
+fn first_pair(y: Layout, a: &[f64], marks: &mut [u64]) -> Twin
+    requires { ⌜ Roomy y ⌝ }
+    requires { ⌜ Sound (lower y) (now a) ⌝ }
+    requires { ⌜ y .order ≤ length (now marks) ⌝ }
+    ensures { λ r. ⌜ First (y .order) (load (lower y) (now (a .entry))) r ⌝ }
+{
+    mark_rows(y, a, marks);
+    let n = y.order;
+    let mut q = 0;
+    while q < n {
+        let p = first_before(y, a, marks, q);
+        if p < q {
+            return Twin::Pair(p as u32, q as u32);
+        }
+        q += 1;
+    }
+    Twin::Nothing
+}
+
+fn first_of_few(y: Layout, a: &[f64]) -> Twin
+    requires { ⌜ Roomy y ⌝ }
+    requires { ⌜ Sound (lower y) (now a) ⌝ }
+    requires { ⌜ y .order ≤ 32 ⌝ }
+    ensures { λ r. ⌜ First (y .order) (load (lower y) (now (a .entry))) r ⌝ }
+{
+    let mut marks = [0u64; 32];
+    first_pair(y, a, &mut marks)
+}
+
+fn first_of_many(y: Layout, a: &[f64]) -> Twin
+    requires { ⌜ Roomy y ⌝ }
+    requires { ⌜ Sound (lower y) (now a) ⌝ }
+    ensures { λ r. ⌜ First (y .order) (load (lower y) (now (a .entry))) r ⌝ }
+{
+    let mut marks = [0u64; 1024];
+    first_pair(y, a, &mut marks)
+}
+
+// The first pair of twin rows of the symmetric matrix of order n whose lower part stands in the room.
+pub fn first_twin(a: &[f64], room: usize, n: usize) -> Twin
+    ensures { λ r. ⌜ FirstTwin (now (a .entry)) room n r ⌝ }
+{
+    if room > 1024 {
+        return Twin::Refused(Answer::OutOfRange);
+    }
+    if n > 1024 {
+        return Twin::Refused(Answer::OutOfRange);
+    }
+    if n > room {
+        return Twin::Refused(Answer::OrderAboveRoom);
+    }
+    if a.len() != room * room {
+        return Twin::Refused(Answer::MatrixLength);
+    }
+    let y = Layout { order: n, room };
+    if n <= 32 {
+        return first_of_few(y, a);
+    }
+    first_of_many(y, a)
+}
