@@ -1,0 +1,15 @@
+pub mod Nan
+pub mod Sign
+pub mod Larger
+pub mod Cut
+pub mod Worked
+pub mod Scaled
+pub mod Values
+pub mod Rounded
+pub mod Patterns
+pub mod Fields
+pub mod Neighbours
+pub mod Between
+pub mod Nearest
+pub mod Once
+pub mod Cases

@@ -1,0 +1,7 @@
+pub mod Abs
+pub mod Maximum
+pub mod Root
+pub mod Nearest
+pub mod Cut
+pub mod Guess
+pub mod Scaled
