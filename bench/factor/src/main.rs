@@ -1,0 +1,60 @@
+//! factor [--seconds S] [--only WORD] [--orders N,N,..]: how many times the text's time the port takes less, for each call and order.
+//!
+//! Both run in turn on the same matrices, many to a turn at small orders; the ratio is that of the two medians. A ratio above 1 says that the
+//! port is faster. Copies of the given matrices are made before the clock starts. What the text allocates for its result is part of its time.
+
+mod measure;
+mod work;
+
+use std::process::ExitCode;
+
+use measure::Pair;
+use work::WORKS;
+
+const ORDERS: [usize; 8] = [3, 8, 16, 60, 128, 256, 512, 1024];
+
+fn main() -> ExitCode {
+    match options() {
+        Some(options) => {
+            run(&options);
+            ExitCode::SUCCESS
+        }
+        None => {
+            eprintln!("usage: factor [--seconds S] [--only WORD] [--orders N,N,..]");
+            ExitCode::FAILURE
+        }
+    }
+}
+
+struct Options {
+    /// For each call and order, about.
+    seconds: f64,
+    only: String,
+    orders: Vec<usize>,
+}
+
+fn options() -> Option<Options> {
+    let mut out = Options { seconds: 1.0, only: String::new(), orders: ORDERS.to_vec() };
+    let mut words = std::env::args().skip(1);
+    while let Some(word) = words.next() {
+        let value = words.next()?;
+        match word.as_str() {
+            "--seconds" => out.seconds = value.parse().ok()?,
+            "--only" => out.only = value,
+            "--orders" => out.orders = value.split(',').map(|n| n.parse().ok()).collect::<Option<_>>()?,
+            _ => return None,
+        }
+    }
+    Some(out)
+}
+
+fn run(options: &Options) {
+    println!("text's time / port's time, medians of turns taken one after the other (microseconds: text, port; turns)");
+    for work in WORKS.iter().filter(|w| w.name.contains(&options.only)) {
+        println!("{}", work.name);
+        for &n in &options.orders {
+            let Pair { text, port, turns } = (work.measure)(n, options.seconds);
+            println!("  {n:>5}  {:>6.2}   ({:.3}, {:.3}; {turns})", text / port, text * 1e6, port * 1e6);
+        }
+    }
+}

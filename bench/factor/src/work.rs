@@ -1,0 +1,132 @@
+//! What is timed.
+
+use std::hint::black_box;
+
+use oracle::call::Calls;
+use oracle::cases::Rng;
+use oracle::linalg::cholesky::Cholesky;
+use oracle::linalg::lblt::LBLT;
+use oracle::linalg::udu::UDU;
+use oracle::text::square;
+use oracle::{Dyn, OMatrix};
+use port::Port;
+
+use crate::measure::{Pair, pair, timed};
+
+pub struct Work {
+    pub name: &'static str,
+    pub measure: fn(n: usize, seconds: f64) -> Pair,
+}
+
+pub const WORKS: [Work; 8] = [
+    Work { name: "cholesky factor", measure: cholesky },
+    Work { name: "lblt factor, random symmetric", measure: |n, s| lblt(n, s, 0.0) },
+    Work { name: "lblt factor, heavy diagonal", measure: |n, s| lblt(n, s, n as f64) },
+    Work { name: "lblt solve, 1 column", measure: |n, s| solve(n, s, 1) },
+    Work { name: "lblt solve, 64 columns", measure: |n, s| solve(n, s, 64) },
+    Work { name: "lblt l_permuted", measure: l_permuted },
+    Work { name: "lblt l_permuted, heavy diagonal", measure: l_permuted_heavy },
+    Work { name: "udu factor", measure: udu },
+];
+
+/// Both triangles alike.
+fn symmetric(n: usize, on_diagonal: f64) -> Vec<f64> {
+    let r = &mut Rng::new(n as u64);
+    let mut a = vec![0.0; n * n];
+    for j in 0..n {
+        for i in j..n {
+            let x = r.unit() + if i == j { on_diagonal } else { 0.0 };
+            a[i + j * n] = x;
+            a[j + i * n] = x;
+        }
+    }
+    a
+}
+
+fn copies(a: &[f64], many: usize) -> Vec<Vec<f64>> {
+    vec![a.to_vec(); many]
+}
+
+fn squares(a: &[f64], n: usize, many: usize) -> Vec<OMatrix<f64, Dyn, Dyn>> {
+    vec![square(n, a.to_vec()); many]
+}
+
+fn cholesky(n: usize, seconds: f64) -> Pair {
+    let a = symmetric(n, n as f64);
+    pair(seconds, &mut |many| timed(squares(&a, n, many), Cholesky::new), &mut |many| {
+        timed(copies(&a, many), |mut a| {
+            black_box(Port.cholesky_factor(&mut a, n, n));
+            a
+        })
+    })
+}
+
+fn lblt(n: usize, seconds: f64, on_diagonal: f64) -> Pair {
+    let a = symmetric(n, on_diagonal);
+    pair(seconds, &mut |many| timed(squares(&a, n, many), LBLT::new), &mut |many| {
+        let items = copies(&a, many).into_iter().map(|a| (a, vec![0; 2 * n + 1])).collect();
+        timed(items, |(mut a, mut record)| {
+            black_box(Port.lblt_factor(&mut a, &mut record, n));
+            (a, record)
+        })
+    })
+}
+
+/// The factor of a random symmetric matrix, for the text and for the port.
+fn factored(n: usize, on_diagonal: f64) -> (LBLT<f64, Dyn>, Vec<f64>, Vec<u32>) {
+    let mut a = symmetric(n, on_diagonal);
+    let text = LBLT::new(square(n, a.clone()));
+    let mut record = vec![0; 2 * n + 1];
+    assert_eq!(Port.lblt_factor(&mut a, &mut record, n), 0);
+    (text, a, record)
+}
+
+fn solve(n: usize, seconds: f64, columns: usize) -> Pair {
+    let (text, a, record) = factored(n, 0.0);
+    let r = &mut Rng::new(columns as u64);
+    let b: Vec<f64> = (0..n * columns).map(|_| r.unit()).collect();
+    pair(
+        seconds,
+        &mut |many| {
+            timed(vec![OMatrix::from_vec(Dyn(n), Dyn(columns), b.clone()); many], |mut b| {
+                black_box(text.solve_mut(&mut b));
+                b
+            })
+        },
+        &mut |many| {
+            timed(copies(&b, many), |mut b| {
+                black_box(Port.lblt_solve(&a, &record, &mut b, n, columns));
+                b
+            })
+        },
+    )
+}
+
+fn l_permuted(n: usize, seconds: f64) -> Pair {
+    l_permuted_of(n, seconds, 0.0)
+}
+
+fn l_permuted_heavy(n: usize, seconds: f64) -> Pair {
+    l_permuted_of(n, seconds, n as f64)
+}
+
+fn l_permuted_of(n: usize, seconds: f64, on_diagonal: f64) -> Pair {
+    let (text, a, record) = factored(n, on_diagonal);
+    pair(seconds, &mut |many| timed(vec![(); many], |()| text.l_permuted()), &mut |many| {
+        timed(copies(&vec![0.0; n * n], many), |mut l| {
+            black_box(Port.lblt_l_permuted(&a, &record, &mut l, n));
+            l
+        })
+    })
+}
+
+fn udu(n: usize, seconds: f64) -> Pair {
+    let p = symmetric(n, n as f64);
+    pair(seconds, &mut |many| timed(squares(&p, n, many), UDU::new), &mut |many| {
+        let items = vec![(vec![0.0; n * n], vec![0.0; n]); many];
+        timed(items, |(mut u, mut d)| {
+            black_box(Port.udu_factor(&p, &mut u, &mut d, n));
+            (u, d)
+        })
+    })
+}

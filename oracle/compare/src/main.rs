@@ -1,0 +1,151 @@
+//! compare paper|port FIRST SEEDS: the text against document 01's steps, or against the port, on the cases that need no chance and on the
+//! families of the seeds FIRST, FIRST + 1, .. Every word of every slice is compared, all NaNs being one.
+
+use std::collections::BTreeMap;
+use std::process::ExitCode;
+
+use oracle::call::{Call, Calls, Case, Outcome, word};
+use oracle::cases::{self, Chain};
+use oracle::line::{case_line, outcome_line};
+use oracle::paper::Paper;
+use oracle::text::Text;
+
+fn main() -> ExitCode {
+    let words: Vec<String> = std::env::args().skip(1).collect();
+    let [against, first, seeds] = &words[..] else {
+        eprintln!("usage: compare paper|port FIRST SEEDS");
+        return ExitCode::FAILURE;
+    };
+    let other: &dyn Calls = match against.as_str() {
+        "paper" => &Paper,
+        #[cfg(feature = "port")]
+        "port" => &port::Port,
+        _ => {
+            eprintln!("{against}: not here (the port needs the feature \"port\")");
+            return ExitCode::FAILURE;
+        }
+    };
+    let (Ok(first), Ok(seeds)) = (first.parse::<u64>(), seeds.parse::<u64>()) else {
+        eprintln!("FIRST and SEEDS are numbers");
+        return ExitCode::FAILURE;
+    };
+    let mut tally = Tally::new(other);
+    cases::sweep().for_each(|case| tally.hold(&case));
+    println!("special numbers at orders 1 and 2: {} calls", tally.calls());
+    let before = tally.calls();
+    cases::refusals().iter().for_each(|case| tally.hold(case));
+    println!("refusals and records: {} calls", tally.calls() - before);
+    let before = tally.calls();
+    cases::largest().iter().for_each(|case| tally.hold(case));
+    println!("orders 1,024 and 1,025: {} calls", tally.calls() - before);
+    let before = tally.calls();
+    for seed in first..first + seeds {
+        let family = cases::family(seed);
+        family.cases.iter().for_each(|case| tally.hold(case));
+        family.chains.iter().for_each(|chain| tally.hold_chain(chain));
+    }
+    println!("seeds {first} to {}: {} calls", (first + seeds).saturating_sub(1), tally.calls() - before);
+    tally.print(against);
+    if tally.differences == 0 { ExitCode::SUCCESS } else { ExitCode::FAILURE }
+}
+
+struct Tally<'a> {
+    other: &'a dyn Calls,
+    per_call: BTreeMap<Call, u64>,
+    per_code: BTreeMap<u64, u64>,
+    size_two: u64,
+    marks: u64,
+    chains: u64,
+    differences: u64,
+    smallest: Option<(usize, String)>,
+}
+
+impl<'a> Tally<'a> {
+    fn new(other: &'a dyn Calls) -> Self {
+        Tally {
+            other,
+            per_call: BTreeMap::new(),
+            per_code: BTreeMap::new(),
+            size_two: 0,
+            marks: 0,
+            chains: 0,
+            differences: 0,
+            smallest: None,
+        }
+    }
+
+    fn calls(&self) -> u64 {
+        self.per_call.values().sum()
+    }
+
+    fn hold(&mut self, case: &Case) {
+        let text = case.run(&Text);
+        let other = case.run(self.other);
+        *self.per_call.entry(case.call).or_default() += 1;
+        *self.per_code.entry(text.answer / 4096).or_default() += 1;
+        if case.call == Call::LbltFactor && text.answer == 0 {
+            self.size_two += blocks_of_two(&text);
+            self.marks += (text.record.last() != Some(&0)) as u64;
+        }
+        if text != other {
+            let said = format!("{}\ntext  {}\nother {}", case_line(case), outcome_line(case, &text), outcome_line(case, &other));
+            self.differ(case.size(), said);
+        }
+    }
+
+    fn differ(&mut self, size: usize, said: String) {
+        self.differences += 1;
+        if self.smallest.as_ref().is_none_or(|(least, _)| size < *least) {
+            self.smallest = Some((size, said));
+        }
+    }
+
+    /// Demand 3: the batches of the other implementation against the one call of the text.
+    fn hold_chain(&mut self, chain: &Chain) {
+        self.chains += 1;
+        let n = *chain.cuts.last().expect("a chain has a cut");
+        let mut whole = chain.a.clone();
+        let answer = Text.cholesky_factor(&mut whole, chain.room, n);
+        let mut batched = chain.a.clone();
+        let mut earlier = 0;
+        let mut last = 0;
+        for &cut in &chain.cuts {
+            last = self.other.cholesky_extend(&mut batched, chain.room, earlier, cut);
+            earlier = cut;
+            if last != 0 {
+                break;
+            }
+        }
+        let same = |i: usize, j: usize| {
+            let at = i + j * chain.room;
+            let wanted = if j <= i && i < earlier { whole[at] } else { chain.a[at] };
+            word(batched[at]) == word(wanted)
+        };
+        let all = (0..chain.room).all(|j| (0..chain.room).all(|i| same(i, j)));
+        if last != answer || !all {
+            let case = Case { x: chain.room, ..Case::new(Call::CholeskyFactor, n, chain.a.clone()) };
+            self.differ(case.size(), format!("in batches that end at {:?}: {}", chain.cuts, case_line(&case)));
+        }
+    }
+
+    fn print(&self, against: &str) {
+        for (call, count) in &self.per_call {
+            println!("  {:<22}{count:>9}", call.form().name);
+        }
+        for (code, count) in &self.per_code {
+            println!("  code {code:<17}{count:>9}");
+        }
+        println!(
+            "  blocks of size 2 in factors: {}; factors with a mark: {}; chains of batches: {}",
+            self.size_two, self.marks, self.chains
+        );
+        println!("text against {against}: {} calls, {} chains, {} differ", self.calls(), self.chains, self.differences);
+        if let Some((_, said)) = &self.smallest {
+            println!("the smallest that differs:\n{said}");
+        }
+    }
+}
+
+fn blocks_of_two(factored: &Outcome) -> u64 {
+    factored.record.chunks_exact(2).filter(|pair| pair[1] == 2).count() as u64 / 2
+}

@@ -1,0 +1,263 @@
+//! stored FOLDER: writes the stored lists FOLDER/replay_lblt/stdin, FOLDER/replay_cholesky/stdin and FOLDER/replay_udu/stdin.
+//! stored --replay FOLDER: replays them on the text and on document 01's steps and says what differs.
+
+use std::path::Path;
+use std::process::ExitCode;
+use std::{env, fs, io};
+
+use oracle::call::{Call, Calls, Case, Slice};
+use oracle::cases::{self, SPECIAL, fill, filled};
+use oracle::list::{MOST, Machine, Writer};
+use oracle::paper::Paper;
+use oracle::text::Text;
+
+type Make = fn(&mut Writer);
+
+const LISTS: [(&str, Make); 3] = [("replay_lblt", lblt), ("replay_cholesky", cholesky), ("replay_udu", udu)];
+
+fn main() -> ExitCode {
+    let words: Vec<String> = env::args().skip(1).collect();
+    let words: Vec<&str> = words.iter().map(String::as_str).collect();
+    let done = match words[..] {
+        ["--replay", folder] => replay(Path::new(folder)),
+        [folder] => write(Path::new(folder)),
+        _ => Err(io::Error::other("usage: stored FOLDER, or stored --replay FOLDER")),
+    };
+    match done {
+        Ok(()) => ExitCode::SUCCESS,
+        Err(e) => {
+            eprintln!("{e}");
+            ExitCode::FAILURE
+        }
+    }
+}
+
+fn write(folder: &Path) -> io::Result<()> {
+    for (name, make) in LISTS {
+        let mut w = Writer::new(&Text);
+        make(&mut w);
+        let bytes: Vec<u8> = w.list.iter().flat_map(|word| word.to_le_bytes()).collect();
+        fs::create_dir_all(folder.join(name))?;
+        fs::write(folder.join(name).join("stdin"), &bytes)?;
+        println!("{name}: {} cases, {} bytes", w.cases, bytes.len());
+    }
+    Ok(())
+}
+
+fn replay(folder: &Path) -> io::Result<()> {
+    for (name, _) in LISTS {
+        let bytes = fs::read(folder.join(name).join("stdin"))?;
+        let list: Vec<u64> = bytes.chunks_exact(8).map(|b| u64::from_le_bytes(b.try_into().expect("8 bytes"))).collect();
+        for (who, calls) in [("text", &Text as &dyn Calls), ("steps", &Paper)] {
+            let mut machine = Machine::new(calls);
+            machine.replay(&list);
+            println!("{name}, {who}: {} cases, {} calls, {} differ", machine.cases, machine.calls_made, machine.differences.len());
+            if let Some(first) = machine.differences.first() {
+                return Err(io::Error::other(first.clone()));
+            }
+        }
+    }
+    Ok(())
+}
+
+/// Sets what the case lends, where it is not there already, and makes its call.
+fn emit(w: &mut Writer, case: &Case) -> u64 {
+    for &slice in case.call.form().slices {
+        let words: Vec<u64> = match slice {
+            Slice::A => case.a.iter().map(|x| x.to_bits()).collect(),
+            Slice::B => case.b.iter().map(|x| x.to_bits()).collect(),
+            Slice::C => case.c.iter().map(|x| x.to_bits()).collect(),
+            Slice::Record => case.record.iter().map(|&x| x as u64).collect(),
+        };
+        if w.words(slice) != words {
+            w.set_or_fill(slice, &words);
+        }
+    }
+    w.call(case.call, case.n, case.x, case.y)
+}
+
+fn emit_all<'a>(w: &mut Writer, cases: impl IntoIterator<Item = &'a Case>) {
+    w.case();
+    for case in cases {
+        emit(w, case);
+    }
+}
+
+fn fits(case: &Case) -> bool {
+    case.a.len().max(case.b.len()) <= MOST[0] && case.c.len() <= MOST[1] && case.record.len() <= MOST[2]
+}
+
+/// Families of this library with orders from `orders`, until `words` more have been written.
+fn families(w: &mut Writer, first: Call, orders: std::ops::RangeInclusive<usize>, words: usize, seed: u64) {
+    let end = w.list.len() + words;
+    let mut seed = seed;
+    while w.list.len() < end {
+        let family = cases::family(seed).cases;
+        if family[0].call == first && orders.contains(&family[0].n) {
+            emit_all(w, &family);
+        }
+        seed += 1;
+    }
+}
+
+/// Of the refusals of these calls, some for each call and code.
+fn refusals(w: &mut Writer, calls: &[Call]) {
+    let all: Vec<Case> = cases::refusals().into_iter().filter(|c| calls.contains(&c.call) && fits(c)).collect();
+    for &call in calls {
+        for code in 1..=6 {
+            let of_code = |c: &&Case| c.call == call && c.run(&Text).answer / 4096 == code;
+            let some: Vec<&Case> = all.iter().filter(of_code).collect();
+            for at in 0..some.len().min(4) {
+                emit_all(w, [some[(2 * at + 1) * some.len() / 8]]);
+            }
+        }
+    }
+}
+
+/// Sound records with each word changed to each of a few.
+fn records(w: &mut Writer) {
+    let sound: [&[u32]; 5] = [&[0, 1, 0], &[1, 1, 1, 1, 2], &[1, 2, 1, 2, 0], &[2, 1, 2, 2, 2, 2, 1], &[2, 2, 2, 2, 2, 1, 0]];
+    for record in sound {
+        let n = record.len() / 2;
+        for at in 0..record.len() {
+            for word in [0, 1, 2, 3, n as u32, n as u32 + 1, u32::MAX] {
+                let mut changed = record.to_vec();
+                changed[at] = word;
+                let a = (0..n * n).map(|at| at as f64 + 1.0).collect();
+                emit_all(w, [&Case { record: changed, ..Case::new(Call::LbltDeterminant, n, a) }]);
+            }
+        }
+    }
+}
+
+/// A matrix by its lower rows.
+fn matrix(n: usize, lower: &[f64]) -> Vec<f64> {
+    let mut a: Vec<f64> = (0..n * n).map(fill).collect();
+    let mut given = lower.iter();
+    for i in 0..n {
+        for j in 0..=i {
+            a[i + j * n] = *given.next().expect("all lower rows");
+        }
+    }
+    a
+}
+
+/// The LBLT calls on one matrix.
+fn lblt_calls(w: &mut Writer, n: usize, columns: usize, sides: impl Fn(&mut Writer)) {
+    w.set(Slice::Record, &vec![9; 2 * n + 1]);
+    w.call(Call::LbltFactor, n, 0, 0);
+    sides(w);
+    w.call(Call::LbltSolve, n, columns, 0);
+    w.call(Call::LbltDeterminant, n, 0, 0);
+    for call in [Call::LbltD, Call::LbltLPermuted] {
+        let square: Vec<u64> = filled(n * n).iter().map(|x| x.to_bits()).collect();
+        w.set_or_fill(Slice::B, &square);
+        w.call(call, n, 0, 0);
+    }
+}
+
+const ORDERS: [usize; 23] = [1, 2, 3, 4, 5, 6, 7, 8, 9, 10, 11, 12, 13, 14, 15, 16, 17, 18, 19, 20, 33, 60, 64];
+
+fn lblt(w: &mut Writer) {
+    let tiny = f64::from_bits((1023 - 600) << 52);
+    let huge = f64::from_bits((1023 + 600) << 52);
+    let document: [(usize, &[f64]); 10] = [
+        (0, &[]),
+        (2, &[0.0, 1.0, 0.0]),
+        (2, &[0.0, 1.0, 4.0]),
+        (2, &[0.0, f64::NAN, 5.0]),
+        (1, &[f64::NAN]),
+        (3, &[0.0, 3.0, 1.0, -3.0, 2.0, 1.0]),
+        (3, &[0.0, tiny, 0.0, 0.0, huge, 0.0]),
+        (2, &[4.0, 2.0, 3.0]),
+        (3, &[0.0, -3.0, 3.0, 3.0, 3.0, -3.0]),
+        (3, &[0.0, f64::INFINITY, 0.0, 1.0, 1.0, 1.0]),
+    ];
+    for (n, lower) in document {
+        w.case();
+        w.set(Slice::A, &matrix(n, lower).iter().map(|x| x.to_bits()).collect::<Vec<_>>());
+        lblt_calls(w, n, 1, |w| w.set(Slice::B, &[3.0f64, 5.0, 7.0].map(f64::to_bits)[..n]));
+    }
+    for seed in 503..551 {
+        emit_all(w, [&cases::alpha_case(seed)]);
+    }
+    refusals(w, &[Call::LbltFactor, Call::LbltSolve, Call::LbltDeterminant, Call::LbltD, Call::LbltLPermuted]);
+    records(w);
+    families(w, Call::LbltFactor, 1..=4, 4000, 1_000_000);
+    families(w, Call::LbltFactor, 5..=8, 3500, 1_100_000);
+    families(w, Call::LbltFactor, 9..=12, 1500, 1_200_000);
+    for n in ORDERS {
+        for shift in [0.0, n as f64] {
+            w.case();
+            w.random(Slice::A, n * n, 1 + n as u64);
+            w.shift(Slice::A, n, n, shift);
+            lblt_calls(w, n, 2.min(64 / n), |w| w.random(Slice::B, n * 2.min(64 / n), 77));
+        }
+    }
+    w.sweep(1, &SPECIAL);
+}
+
+fn cholesky(w: &mut Writer) {
+    let document: [(usize, &[f64]); 5] = [(0, &[]), (2, &[4.0, 2.0, 5.0]), (2, &[1.0, 1.0, 1.0]), (1, &[-0.0]), (2, &[4.0, 2.0, 3.0])];
+    for (n, lower) in document {
+        let a = matrix(n, lower);
+        emit_all(w, [&Case { x: n, ..Case::new(Call::CholeskyFactor, n, a) }]);
+        w.call(Call::CholeskyDeterminant, n, n, 0);
+        w.set(Slice::B, &vec![0x5a5a_0000_0000_0000; n * n]);
+        w.call(Call::CholeskyL, n, n, 0);
+        w.call(Call::CholeskyUnpack, n, n, 0);
+    }
+    let calls = [Call::CholeskyFactor, Call::CholeskyExtend, Call::CholeskyL, Call::CholeskyUnpack, Call::CholeskyDeterminant];
+    refusals(w, &calls);
+    families(w, Call::CholeskyFactor, 1..=3, 3000, 2_000_000);
+    families(w, Call::CholeskyFactor, 4..=6, 4500, 2_100_000);
+    families(w, Call::CholeskyFactor, 9..=12, 2000, 2_200_000);
+    for n in ORDERS {
+        // the smaller shift makes the matrix indefinite at some orders
+        for shift in [n as f64, 0.75] {
+            let room = (n + 1).min(64);
+            let given = |w: &mut Writer| {
+                w.random(Slice::A, room * room, 5 + n as u64);
+                w.shift(Slice::A, n, room, shift);
+            };
+            w.case();
+            given(w);
+            w.call(Call::CholeskyFactor, n, room, 0);
+            w.call(Call::CholeskyDeterminant, n, room, 0);
+            w.random(Slice::B, n * n, 6);
+            w.call(Call::CholeskyL, n, room, 0);
+            w.call(Call::CholeskyUnpack, n, room, 0);
+            given(w);
+            let mut earlier = 0;
+            for cut in [n / 3, n / 3, 2 * n / 3, n] {
+                if w.call(Call::CholeskyExtend, cut, room, earlier) != 0 {
+                    break;
+                }
+                earlier = cut;
+            }
+        }
+    }
+    w.sweep(2, &SPECIAL);
+}
+
+fn udu(w: &mut Writer) {
+    let document: [(usize, Vec<f64>); 4] = [(1, vec![49.0]), (1, vec![0.0]), (1, vec![-0.0]), (2, vec![1.0, fill(1), 1.0, 1.0])];
+    for (n, p) in document {
+        emit_all(w, [&Case { b: filled(n * n), c: filled(n), ..Case::new(Call::UduFactor, n, p) }]);
+    }
+    refusals(w, &[Call::UduFactor]);
+    families(w, Call::UduFactor, 1..=4, 2500, 3_000_000);
+    families(w, Call::UduFactor, 5..=8, 2500, 3_100_000);
+    families(w, Call::UduFactor, 9..=12, 1000, 3_200_000);
+    for n in ORDERS {
+        for shift in [0.0, n as f64] {
+            w.case();
+            w.random(Slice::A, n * n, 9 + n as u64);
+            w.shift(Slice::A, n, n, shift);
+            w.random(Slice::B, n * n, 10);
+            w.random(Slice::C, n, 11);
+            w.call(Call::UduFactor, n, 0, 0);
+        }
+    }
+    w.sweep(3, &SPECIAL);
+}

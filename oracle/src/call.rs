@@ -1,0 +1,174 @@
+//! The eleven calls as document 01 and the C convention give them, and a case: one call with what it is lent.
+
+/// An implementation of the calls. An answer is code·4,096 + place.
+pub trait Calls {
+    fn lblt_factor(&self, a: &mut [f64], record: &mut [u32], n: usize) -> u64;
+    fn lblt_solve(&self, a: &[f64], record: &[u32], b: &mut [f64], n: usize, columns: usize) -> u64;
+    fn lblt_determinant(&self, a: &[f64], record: &[u32], n: usize) -> (u64, f64);
+    fn lblt_d(&self, a: &[f64], record: &[u32], d: &mut [f64], n: usize) -> u64;
+    fn lblt_l_permuted(&self, a: &[f64], record: &[u32], l: &mut [f64], n: usize) -> u64;
+    fn cholesky_factor(&self, a: &mut [f64], room: usize, n: usize) -> u64;
+    fn cholesky_extend(&self, a: &mut [f64], room: usize, earlier: usize, n: usize) -> u64;
+    fn cholesky_l(&self, a: &[f64], l: &mut [f64], room: usize, n: usize) -> u64;
+    fn cholesky_unpack(&self, a: &mut [f64], room: usize, n: usize) -> u64;
+    fn cholesky_determinant(&self, a: &[f64], room: usize, n: usize) -> (u64, f64);
+    fn udu_factor(&self, p: &[f64], u: &mut [f64], d: &mut [f64], n: usize) -> u64;
+}
+
+#[derive(Clone, Copy, Debug, PartialEq, Eq, PartialOrd, Ord)]
+pub enum Call {
+    LbltFactor,
+    LbltSolve,
+    LbltDeterminant,
+    LbltD,
+    LbltLPermuted,
+    CholeskyFactor,
+    CholeskyExtend,
+    CholeskyL,
+    CholeskyUnpack,
+    CholeskyDeterminant,
+    UduFactor,
+}
+
+use Call::*;
+
+/// What a call takes, in the order of the text form: numbers, then slices.
+pub struct Form {
+    pub call: Call,
+    pub name: &'static str,
+    /// The call's number in the stored lists.
+    pub number: u64,
+    pub numbers: &'static [Number],
+    pub slices: &'static [Slice],
+    /// It hands back an f64 beside the answer.
+    pub valued: bool,
+}
+
+#[derive(Clone, Copy, Debug, PartialEq, Eq)]
+pub enum Number {
+    N,
+    /// Columns, or room.
+    X,
+    /// Earlier order.
+    Y,
+}
+
+#[derive(Clone, Copy, Debug, PartialEq, Eq)]
+pub enum Slice {
+    A,
+    B,
+    C,
+    Record,
+}
+
+use Number::{N, X, Y};
+use Slice::{A, B, C, Record};
+
+#[rustfmt::skip]
+pub const FORMS: [Form; 11] = [
+    Form { call: LbltFactor, name: "lblt_factor", number: 1, numbers: &[N], slices: &[A, Record], valued: false },
+    Form { call: LbltSolve, name: "lblt_solve", number: 2, numbers: &[N, X], slices: &[A, Record, B], valued: false },
+    Form { call: LbltDeterminant, name: "lblt_determinant", number: 3, numbers: &[N], slices: &[A, Record], valued: true },
+    Form { call: LbltD, name: "lblt_d", number: 4, numbers: &[N], slices: &[A, Record, B], valued: false },
+    Form { call: LbltLPermuted, name: "lblt_l_permuted", number: 5, numbers: &[N], slices: &[A, Record, B], valued: false },
+    Form { call: CholeskyFactor, name: "cholesky_factor", number: 6, numbers: &[X, N], slices: &[A], valued: false },
+    Form { call: CholeskyExtend, name: "cholesky_extend", number: 7, numbers: &[X, Y, N], slices: &[A], valued: false },
+    Form { call: CholeskyL, name: "cholesky_l", number: 8, numbers: &[X, N], slices: &[A, B], valued: false },
+    Form { call: CholeskyUnpack, name: "cholesky_unpack", number: 9, numbers: &[X, N], slices: &[A], valued: false },
+    Form { call: CholeskyDeterminant, name: "cholesky_determinant", number: 10, numbers: &[X, N], slices: &[A], valued: true },
+    Form { call: UduFactor, name: "udu_factor", number: 11, numbers: &[N], slices: &[A, B, C], valued: false },
+];
+
+impl Call {
+    pub fn form(self) -> &'static Form {
+        FORMS.iter().find(|f| f.call == self).expect("every call has a form")
+    }
+}
+
+/// A call with its numbers and all that is lent to it. What a call does not take is empty or 0.
+#[derive(Clone, Debug)]
+pub struct Case {
+    pub call: Call,
+    /// The order.
+    pub n: usize,
+    /// `lblt_solve`: columns; Cholesky: room.
+    pub x: usize,
+    /// `cholesky_extend`: earlier order.
+    pub y: usize,
+    /// The first matrix.
+    pub a: Vec<f64>,
+    /// Right-hand sides, `d`, `l` or `u`.
+    pub b: Vec<f64>,
+    /// UDU's `d`.
+    pub c: Vec<f64>,
+    pub record: Vec<u32>,
+}
+
+/// What a call answers and what it leaves in everything lent, as words in which all NaNs are one.
+#[derive(Clone, Debug, PartialEq, Eq)]
+pub struct Outcome {
+    pub answer: u64,
+    pub value: Option<u64>,
+    pub a: Vec<u64>,
+    pub b: Vec<u64>,
+    pub c: Vec<u64>,
+    pub record: Vec<u32>,
+}
+
+pub const NAN: u64 = 0x7ff8_0000_0000_0000;
+
+pub fn word(x: f64) -> u64 {
+    if x.is_nan() { NAN } else { x.to_bits() }
+}
+
+pub fn words(s: &[f64]) -> Vec<u64> {
+    s.iter().map(|&x| word(x)).collect()
+}
+
+impl Case {
+    pub fn new(call: Call, n: usize, a: Vec<f64>) -> Case {
+        Case { call, n, x: 0, y: 0, a, b: vec![], c: vec![], record: vec![] }
+    }
+
+    /// Runs the call on what is lent, in place.
+    pub fn run_in_place(&mut self, calls: &dyn Calls) -> (u64, Option<f64>) {
+        let Case { call, n, x, y, a, b, c, record } = self;
+        let (n, x, y) = (*n, *x, *y);
+        match call {
+            LbltFactor => (calls.lblt_factor(a, record, n), None),
+            LbltSolve => (calls.lblt_solve(a, record, b, n, x), None),
+            LbltDeterminant => with_value(calls.lblt_determinant(a, record, n)),
+            LbltD => (calls.lblt_d(a, record, b, n), None),
+            LbltLPermuted => (calls.lblt_l_permuted(a, record, b, n), None),
+            CholeskyFactor => (calls.cholesky_factor(a, x, n), None),
+            CholeskyExtend => (calls.cholesky_extend(a, x, y, n), None),
+            CholeskyL => (calls.cholesky_l(a, b, x, n), None),
+            CholeskyUnpack => (calls.cholesky_unpack(a, x, n), None),
+            CholeskyDeterminant => with_value(calls.cholesky_determinant(a, x, n)),
+            UduFactor => (calls.udu_factor(a, b, c, n), None),
+        }
+    }
+
+    pub fn run(&self, calls: &dyn Calls) -> Outcome {
+        let mut after = self.clone();
+        let (answer, value) = after.run_in_place(calls);
+        Outcome { answer, value: value.map(word), a: words(&after.a), b: words(&after.b), c: words(&after.c), record: after.record }
+    }
+
+    pub fn number(&self, which: Number) -> usize {
+        match which {
+            N => self.n,
+            X => self.x,
+            Y => self.y,
+        }
+    }
+
+    /// How much there is to read in it.
+    pub fn size(&self) -> usize {
+        self.a.len() + self.b.len() + self.c.len() + self.record.len()
+    }
+}
+
+fn with_value((answer, value): (u64, f64)) -> (u64, Option<f64>) {
+    (answer, Some(value))
+}

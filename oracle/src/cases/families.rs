@@ -1,0 +1,205 @@
+//! A family: one matrix by chance and the calls that follow from it.
+
+use super::filled;
+use super::matrices::{FOR_CHOLESKY, FOR_LBLT, FOR_UDU, Symmetric, alpha_edge, fill, numbers, symmetric};
+use super::rng::Rng;
+use crate::call::{Call, Calls, Case};
+use crate::text::Text;
+
+/// A matrix in its room, to be factored in batches that end at the cuts.
+pub struct Chain {
+    pub a: Vec<f64>,
+    pub room: usize,
+    pub cuts: Vec<usize>,
+}
+
+pub struct Family {
+    pub cases: Vec<Case>,
+    pub chains: Vec<Chain>,
+}
+
+pub fn family(seed: u64) -> Family {
+    let r = &mut Rng::new(seed);
+    let n = order(r);
+    match r.below(9) {
+        0..4 => Family { cases: lblt(r, n), chains: vec![] },
+        4..7 => cholesky(r, n),
+        _ => Family { cases: vec![udu(r, n.max(1))], chains: vec![] },
+    }
+}
+
+fn order(r: &mut Rng) -> usize {
+    match r.below(100) {
+        0..72 => r.below(9),
+        72..93 => 9 + r.below(12),
+        93..98 => 33,
+        98 => r.pick(&[60, 64]),
+        _ => r.pick(&[60, 64, 100, 130]),
+    }
+}
+
+/// What stands where no call may read: mostly a number of its own for each place, now and then NaN.
+fn placed(r: &mut Rng, m: &Symmetric, room: usize, lower: bool) -> Vec<f64> {
+    if r.one_in(8) { m.placed(room, lower, |_| f64::NAN) } else { m.placed(room, lower, fill) }
+}
+
+fn lblt(r: &mut Rng, n: usize) -> Vec<Case> {
+    let m = symmetric(r, &FOR_LBLT, n);
+    let a = placed(r, &m, n, true);
+    let factor = Case { record: vec![0x5a5a_5a5a; 2 * n + 1], ..Case::new(Call::LbltFactor, n, a) };
+    let mut own = factor.clone();
+    Text.lblt_factor(&mut own.a, &mut own.record, n);
+    let mut out = vec![factor];
+    readers(r, &own, &mut out);
+    if n <= 20 && r.one_in(4) {
+        let other = Case { record: sound_record(r, n), a: numbers(r, n * n), ..own.clone() };
+        readers(r, &other, &mut out);
+    }
+    if n <= 20 && r.one_in(4) {
+        let broken = Case { record: changed_record(r, &own.record), ..own };
+        readers(r, &broken, &mut out);
+    }
+    out
+}
+
+/// A factor of order 2 to 4 that meets a comparison with α at equality, or one unit beside it.
+pub fn alpha_case(seed: u64) -> Case {
+    let r = &mut Rng::new(seed);
+    let n = 2 + r.below(3);
+    let a = alpha_edge(r, n).placed(n, true, fill);
+    Case { record: vec![9; 2 * n + 1], ..Case::new(Call::LbltFactor, n, a) }
+}
+
+fn readers(r: &mut Rng, own: &Case, out: &mut Vec<Case>) {
+    let n = own.n;
+    let columns = r.pick(&[0, 1, 1, 1, 2, 3, 5]);
+    let b = numbers(r, n * columns);
+    let reader = |call| Case { call, b: filled(n * n), ..own.clone() };
+    out.push(Case { x: columns, b, ..reader(Call::LbltSolve) });
+    out.push(Case { b: vec![], ..reader(Call::LbltDeterminant) });
+    out.push(reader(Call::LbltD));
+    out.push(reader(Call::LbltLPermuted));
+}
+
+/// A record that keeps the rule, whatever the factor would have written.
+fn sound_record(r: &mut Rng, n: usize) -> Vec<u32> {
+    let mut out = vec![];
+    let mut ones = vec![];
+    let mut k = 0;
+    while k < n {
+        let size = if k + 1 < n && r.one_in(2) { 2 } else { 1 };
+        let last = k + size - 1;
+        let index = last + r.below(n - last);
+        if size == 1 {
+            ones.push(k as u32 + 1);
+        }
+        for _ in 0..size {
+            out.extend([index as u32, size as u32]);
+        }
+        k += size;
+    }
+    out.push(if !ones.is_empty() && r.one_in(4) { r.pick(&ones) } else { 0 });
+    out
+}
+
+/// One word of a record changed.
+fn changed_record(r: &mut Rng, record: &[u32]) -> Vec<u32> {
+    let mut out = record.to_vec();
+    let at = r.below(out.len());
+    let n = (out.len() / 2) as u32;
+    let other = r.below(out.len());
+    out[at] = r.pick(&[0, 1, 2, 3, n.saturating_sub(1), n, n + 1, u32::MAX, record[other]]);
+    out
+}
+
+fn cholesky(r: &mut Rng, n: usize) -> Family {
+    let m = symmetric(r, &FOR_CHOLESKY, n);
+    let room = n + r.pick(&[0, 0, 1, 3]);
+    let a = placed(r, &m, room, true);
+    let factor = Case { x: room, ..Case::new(Call::CholeskyFactor, n, a.clone()) };
+    let mut own = factor.clone();
+    Text.cholesky_factor(&mut own.a, room, n);
+    let mut out = vec![factor.clone()];
+    let cuts: Vec<Vec<usize>> = if n <= 8 { (0..=n).map(|m| vec![m, n]).collect() } else { (0..2).map(|_| some_cuts(r, n)).collect() };
+    for cuts in &cuts {
+        batches(&factor, cuts, &mut out);
+    }
+    // earlier rows that are no factor of anything
+    out.push(Case { call: Call::CholeskyExtend, y: r.below(n + 1), ..factor });
+    if r.one_in(4) {
+        let y = r.below(n + 1);
+        out.push(Case { x: room, y, ..Case::new(Call::CholeskyExtend, n, numbers(r, room * room)) });
+    }
+    let reader = |call| Case { call, ..own.clone() };
+    out.push(Case { b: filled(n * n), ..reader(Call::CholeskyL) });
+    out.push(reader(Call::CholeskyUnpack));
+    out.push(reader(Call::CholeskyDeterminant));
+    let chains = cuts.into_iter().map(|cuts| Chain { a: a.clone(), room, cuts }).collect();
+    Family { cases: out, chains }
+}
+
+/// Rising, ending at n, with batches of no rows now and then.
+fn some_cuts(r: &mut Rng, n: usize) -> Vec<usize> {
+    let mut cuts: Vec<usize> = (0..r.below(4) + 1).map(|_| r.below(n + 1)).collect();
+    cuts.push(n);
+    cuts.sort_unstable();
+    cuts
+}
+
+/// The further batches of one chain, each on what the one before it leaves; a refusal ends it.
+fn batches(factor: &Case, cuts: &[usize], out: &mut Vec<Case>) {
+    let mut buffer = factor.a.clone();
+    let mut earlier = 0;
+    for &cut in cuts {
+        out.push(Case { call: Call::CholeskyExtend, n: cut, y: earlier, a: buffer.clone(), ..factor.clone() });
+        if Text.cholesky_extend(&mut buffer, factor.x, earlier, cut) != 0 {
+            return;
+        }
+        earlier = cut;
+    }
+}
+
+fn udu(r: &mut Rng, n: usize) -> Case {
+    let m = symmetric(r, &FOR_UDU, n);
+    let p = placed(r, &m, n, false);
+    Case { b: filled(n * n), c: filled(n), ..Case::new(Call::UduFactor, n, p) }
+}
+
+/// Order 1,024 for every call, and 1,025 with slices to match.
+pub fn largest() -> Vec<Case> {
+    let r = &mut Rng::new(1024);
+    let n = 1024;
+    let a = heavy_or_not(r, n, 0.0);
+    let factor = Case { record: vec![9; 2 * n + 1], ..Case::new(Call::LbltFactor, n, a) };
+    let mut own = factor.clone();
+    Text.lblt_factor(&mut own.a, &mut own.record, n);
+    let reader = |call| Case { call, b: filled(n * n), ..own.clone() };
+    let definite = heavy_or_not(r, n, n as f64);
+    let root = Case { x: n, ..Case::new(Call::CholeskyFactor, n, definite.clone()) };
+    let mut out = vec![
+        factor,
+        Case { x: 3, b: numbers(r, 3 * n), ..reader(Call::LbltSolve) },
+        Case { b: vec![], ..reader(Call::LbltDeterminant) },
+        reader(Call::LbltD),
+        reader(Call::LbltLPermuted),
+        root.clone(),
+        Case { call: Call::CholeskyUnpack, ..root.clone() },
+        Case { call: Call::CholeskyDeterminant, ..root.clone() },
+        Case { call: Call::CholeskyL, b: filled(n * n), ..root.clone() },
+        Case { b: filled(n * n), c: filled(n), ..Case::new(Call::UduFactor, n, definite) },
+    ];
+    batches(&root, &[341, 1000, n], &mut out);
+    let m = n + 1;
+    out.push(Case { record: vec![9; 2 * m + 1], ..Case::new(Call::LbltFactor, m, filled(m * m)) });
+    out.push(Case { x: m, ..Case::new(Call::CholeskyFactor, m, filled(m * m)) });
+    out.push(Case { b: filled(m * m), c: filled(m), ..Case::new(Call::UduFactor, m, filled(m * m)) });
+    out
+}
+
+fn heavy_or_not(r: &mut Rng, n: usize, on_diagonal: f64) -> Vec<f64> {
+    let mut a: Vec<f64> = (0..n * n).map(|_| r.unit()).collect();
+    for i in 0..n {
+        a[i + i * n] += on_diagonal;
+    }
+    a
+}

@@ -1,0 +1,234 @@
+//! Cases that need no chance: special numbers at orders 1 and 2, and every way to be refused.
+
+use crate::call::{Call, Calls, Case, Number, Slice};
+use crate::cases::filled;
+use crate::text::Text;
+
+pub const SPECIAL: [f64; 32] = [
+    0.0,
+    -0.0,
+    1.0,
+    -1.0,
+    0.5,
+    2.0,
+    -3.0,
+    4.0,
+    f64::from_bits(0x3ff0_0000_0000_0001),
+    f64::from_bits(0x3fef_ffff_ffff_ffff),
+    0.6403882032022076,
+    -0.6403882032022076,
+    f64::from_bits(1),
+    f64::from_bits(0x8000_0000_0000_0001),
+    f64::from_bits(0x000f_ffff_ffff_ffff),
+    f64::from_bits(0x0010_0000_0000_0000),
+    f64::from_bits(0x8010_0000_0000_0000),
+    f64::from_bits(0x1a70_0000_0000_0000),
+    f64::from_bits(0x1e60_0000_0000_0000),
+    f64::from_bits(0x6570_0000_0000_0000),
+    f64::from_bits(0xe570_0000_0000_0000),
+    f64::from_bits(0x5fef_ffff_ffff_ffff),
+    f64::from_bits(0x7fe0_0000_0000_0000),
+    f64::MAX,
+    f64::MIN,
+    f64::INFINITY,
+    f64::NEG_INFINITY,
+    f64::NAN,
+    f64::from_bits(0xfff8_0000_0000_0001),
+    f64::from_bits(0x7ff0_0000_0000_0001),
+    1e16,
+    -1e-16,
+];
+
+/// The calls on one matrix of order 1 or 2 whose lower entries are given.
+fn on(lower: &[f64], side: [f64; 2]) -> Vec<Case> {
+    let n = if lower.len() == 1 { 1 } else { 2 };
+    let mut a = filled(n * n);
+    let mut p = filled(n * n);
+    a[0] = lower[0];
+    p[0] = lower[0];
+    if n == 2 {
+        a[1] = lower[1];
+        a[3] = lower[2];
+        p[2] = lower[1];
+        p[3] = lower[2];
+    }
+    let factor = Case { record: vec![9; 2 * n + 1], ..Case::new(Call::LbltFactor, n, a.clone()) };
+    let mut factored = factor.clone();
+    Text.lblt_factor(&mut factored.a, &mut factored.record, n);
+    let reader = |call| Case { call, b: filled(n * n), ..factored.clone() };
+    let cholesky = Case { x: n, ..Case::new(Call::CholeskyFactor, n, a) };
+    let mut rooted = cholesky.clone();
+    Text.cholesky_factor(&mut rooted.a, n, n);
+    vec![
+        factor,
+        Case { x: 1, b: side[..n].to_vec(), ..reader(Call::LbltSolve) },
+        Case { b: vec![], ..reader(Call::LbltDeterminant) },
+        reader(Call::LbltD),
+        reader(Call::LbltLPermuted),
+        Case { call: Call::CholeskyExtend, y: n - 1, ..cholesky.clone() },
+        cholesky,
+        Case { call: Call::CholeskyDeterminant, ..rooted.clone() },
+        Case { call: Call::CholeskyL, b: filled(n * n), ..rooted },
+        Case { b: filled(n * n), c: filled(n), ..Case::new(Call::UduFactor, n, p) },
+    ]
+}
+
+/// Order 1: every special number with every special right-hand side. Order 2: every triple of them.
+pub fn sweep() -> impl Iterator<Item = Case> {
+    let ones = SPECIAL.iter().flat_map(|&x| SPECIAL.iter().flat_map(move |&y| on(&[x], [y, 0.0])));
+    let twos = (0..SPECIAL.len().pow(3)).flat_map(|t| {
+        let at = |k: usize| SPECIAL[k % SPECIAL.len()];
+        let side = [at(t * 7 + t / 32), at(t * 5 + t / 1024 + 3)];
+        on(&[at(t), at(t / 32), at(t / 1024)], side)
+    });
+    ones.chain(twos)
+}
+
+const FAR: [usize; 6] = [1025, 1026, 4096, 1 << 32, 1 << 63, usize::MAX];
+
+/// Wrong counts, wrong orders, wrong lengths and broken records, alone and together, so that the order of the checks shows.
+pub fn refusals() -> Vec<Case> {
+    let mut out = vec![];
+    for n in 0..4usize {
+        let mut sound: Vec<u32> = (0..n as u32).flat_map(|k| [k, 1]).collect();
+        sound.push(0);
+        for call in [Call::LbltFactor, Call::LbltSolve, Call::LbltDeterminant, Call::LbltD, Call::LbltLPermuted] {
+            let base = Case {
+                x: if call == Call::LbltSolve { 2 } else { 0 },
+                b: filled(if call == Call::LbltSolve { 2 * n } else { n * n }),
+                record: sound.clone(),
+                ..Case::new(call, n, filled(n * n))
+            };
+            spoiled(&mut out, &base);
+        }
+        for room in n..n + 2 {
+            for call in [Call::CholeskyFactor, Call::CholeskyExtend, Call::CholeskyL, Call::CholeskyUnpack, Call::CholeskyDeterminant] {
+                let base = Case { x: room, y: n / 2, b: filled(n * n), ..Case::new(call, n, filled(room * room)) };
+                spoiled(&mut out, &base);
+            }
+        }
+        spoiled(&mut out, &Case { b: filled(n * n), c: filled(n), ..Case::new(Call::UduFactor, n, filled(n * n)) });
+    }
+    out.retain(fits);
+    records(&mut out);
+    out
+}
+
+/// The case with one or two things changed in it.
+fn spoiled(out: &mut Vec<Case>, base: &Case) {
+    let base = &taken(base.clone());
+    let edits = edits(base);
+    out.push(base.clone());
+    for (at, one) in edits.iter().enumerate() {
+        let mut case = base.clone();
+        one.apply(&mut case);
+        out.push(case.clone());
+        for other in &edits[at + 1..] {
+            let mut both = case.clone();
+            other.apply(&mut both);
+            out.push(both);
+        }
+    }
+}
+
+#[derive(Clone, Copy)]
+enum Edit {
+    N(usize),
+    X(usize),
+    Y(usize),
+    A(isize),
+    B(isize),
+    C(isize),
+    RecordLength(isize),
+    RecordWord(usize, u32),
+}
+
+fn edits(base: &Case) -> Vec<Edit> {
+    let mut out = vec![];
+    for far in FAR {
+        out.extend([Edit::N(far), Edit::X(far), Edit::Y(far)]);
+    }
+    out.extend([Edit::N(base.n + 1), Edit::X(base.x + 1), Edit::Y(base.n + 1), Edit::N(1024), Edit::X(1024)]);
+    if base.x > 0 {
+        out.push(Edit::X(base.x - 1));
+    }
+    for by in [-1, 1] {
+        out.extend([Edit::A(by), Edit::B(by), Edit::C(by), Edit::RecordLength(by)]);
+    }
+    for at in 0..base.record.len() {
+        for word in [0, 2, 3, base.n as u32, base.n as u32 + 1, u32::MAX] {
+            out.push(Edit::RecordWord(at, word));
+        }
+    }
+    out
+}
+
+impl Edit {
+    fn apply(self, case: &mut Case) {
+        match self {
+            Edit::N(n) => case.n = n,
+            Edit::X(x) => case.x = x,
+            Edit::Y(y) => case.y = y,
+            Edit::A(by) => lengthen(&mut case.a, by),
+            Edit::B(by) => lengthen(&mut case.b, by),
+            Edit::C(by) => lengthen(&mut case.c, by),
+            Edit::RecordLength(by) => {
+                let len = case.record.len().saturating_add_signed(by);
+                case.record.resize(len, 0);
+            }
+            Edit::RecordWord(at, word) => {
+                if let Some(place) = case.record.get_mut(at) {
+                    *place = word;
+                }
+            }
+        }
+    }
+}
+
+fn lengthen(s: &mut Vec<f64>, by: isize) {
+    let len = s.len().saturating_add_signed(by);
+    s.resize(len, 7.0);
+}
+
+/// The case without what its call does not take.
+fn taken(mut case: Case) -> Case {
+    let form = case.call.form();
+    if !form.numbers.contains(&Number::X) {
+        case.x = 0;
+    }
+    if !form.numbers.contains(&Number::Y) {
+        case.y = 0;
+    }
+    if !form.slices.contains(&Slice::B) {
+        case.b.clear();
+    }
+    if !form.slices.contains(&Slice::C) {
+        case.c.clear();
+    }
+    if !form.slices.contains(&Slice::Record) {
+        case.record.clear();
+    }
+    case
+}
+
+/// Only what the call takes differs from empty and 0.
+fn fits(case: &Case) -> bool {
+    let only = taken(case.clone());
+    (only.x, only.y, only.size()) == (case.x, case.y, case.size())
+}
+
+/// All records of orders 1 and 2 over a few words, in a call that checks them.
+fn records(out: &mut Vec<Case>) {
+    let words = [0, 1, 2, 3, u32::MAX];
+    for n in 1..=2usize {
+        let len = 2 * n + 1;
+        for t in 0..words.len().pow(len as u32) {
+            let record: Vec<u32> = (0..len).map(|at| words[t / words.len().pow(at as u32) % words.len()]).collect();
+            let base = Case { record, ..Case::new(Call::LbltSolve, n, (1..=n * n).map(|x| x as f64).collect()) };
+            out.push(Case { x: 1, b: filled(n), ..base.clone() });
+            out.push(Case { call: Call::LbltDeterminant, ..base.clone() });
+            out.push(Case { call: Call::LbltD, b: filled(n * n), ..base.clone() });
+            out.push(Case { call: Call::LbltLPermuted, b: filled(n * n), ..base });
+        }
+    }
+}

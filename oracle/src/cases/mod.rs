@@ -1,0 +1,11 @@
+//! Hard cases for every call. All comes from a seed; the same seed gives the same cases.
+
+mod families;
+mod fixed;
+mod matrices;
+mod rng;
+
+pub use families::{Chain, Family, alpha_case, family, largest};
+pub use fixed::{SPECIAL, refusals, sweep};
+pub use matrices::{fill, filled};
+pub use rng::Rng;

@@ -1,0 +1,98 @@
+//! A case and an outcome as one line of text.
+//!
+//! A case: the call's name and its numbers in decimal, then for each slice `;` and its words in hex. An outcome: the answer in decimal,
+//! the value in hex if there is one, then every slice of the call as it is left, likewise. Fields are parted by blanks.
+
+use crate::call::{Case, FORMS, Number, Outcome, Slice};
+
+pub fn case_line(case: &Case) -> String {
+    let form = case.call.form();
+    let mut out = form.name.to_string();
+    for &number in form.numbers {
+        out += &format!(" {}", case.number(number));
+    }
+    for &slice in form.slices {
+        out += " ;";
+        match slice {
+            Slice::A => floats(&mut out, &case.a),
+            Slice::B => floats(&mut out, &case.b),
+            Slice::C => floats(&mut out, &case.c),
+            Slice::Record => small(&mut out, &case.record),
+        }
+    }
+    out
+}
+
+pub fn outcome_line(case: &Case, outcome: &Outcome) -> String {
+    let mut out = outcome.answer.to_string();
+    if let Some(value) = outcome.value {
+        out += &format!(" {value:016x}");
+    }
+    for &slice in case.call.form().slices {
+        out += " ;";
+        match slice {
+            Slice::A => big(&mut out, &outcome.a),
+            Slice::B => big(&mut out, &outcome.b),
+            Slice::C => big(&mut out, &outcome.c),
+            Slice::Record => small(&mut out, &outcome.record),
+        }
+    }
+    out
+}
+
+fn floats(out: &mut String, s: &[f64]) {
+    big(out, &s.iter().map(|x| x.to_bits()).collect::<Vec<_>>());
+}
+
+fn big(out: &mut String, words: &[u64]) {
+    for word in words {
+        *out += &format!(" {word:016x}");
+    }
+}
+
+fn small(out: &mut String, words: &[u32]) {
+    for word in words {
+        *out += &format!(" {word:08x}");
+    }
+}
+
+pub fn parse_case(line: &str) -> Result<Case, String> {
+    let mut parts = line.split(';');
+    let mut head = parts.next().unwrap_or("").split_whitespace();
+    let name = head.next().ok_or("an empty line")?;
+    let form = FORMS.iter().find(|f| f.name == name).ok_or(format!("no call is named {name}"))?;
+    let mut case = Case::new(form.call, 0, vec![]);
+    for &which in form.numbers {
+        let field = head.next().ok_or("a number is missing")?;
+        let number = field.parse().map_err(|_| format!("{field} is no number"))?;
+        match which {
+            Number::N => case.n = number,
+            Number::X => case.x = number,
+            Number::Y => case.y = number,
+        }
+    }
+    if head.next().is_some() {
+        return Err("a number too many".into());
+    }
+    for &slice in form.slices {
+        let words = hex_words(parts.next().ok_or("a slice is missing")?)?;
+        let floats = || words.iter().map(|&w| f64::from_bits(w)).collect();
+        match slice {
+            Slice::A => case.a = floats(),
+            Slice::B => case.b = floats(),
+            Slice::C => case.c = floats(),
+            Slice::Record => {
+                case.record =
+                    words.iter().map(|&w| w.try_into().map_err(|_| format!("{w:x} is above 32 bits"))).collect::<Result<_, _>>()?
+            }
+        }
+    }
+    match parts.next() {
+        None => Ok(case),
+        Some(_) => Err("a slice too many".into()),
+    }
+}
+
+fn hex_words(fields: &str) -> Result<Vec<u64>, String> {
+    fields.split_whitespace().map(|w| u64::from_str_radix(w, 16).map_err(|_| format!("{w} is no word"))).collect()
+}

@@ -1,0 +1,44 @@
+//! Reads cases on standard input, one to a line, and prints the text's outcome of each; `--paper` answers by document 01's steps instead.
+//! `--family SEED` prints the cases of a seed.
+
+use std::io::{self, BufRead, BufWriter, Write};
+use std::process::ExitCode;
+
+use oracle::call::Calls;
+use oracle::line::{case_line, outcome_line, parse_case};
+use oracle::{cases, paper::Paper, text::Text};
+
+fn main() -> ExitCode {
+    let words: Vec<String> = std::env::args().skip(1).collect();
+    let words: Vec<&str> = words.iter().map(String::as_str).collect();
+    let done = match words[..] {
+        [] => answer(&Text),
+        ["--paper"] => answer(&Paper),
+        ["--family", seed] => print_family(seed),
+        _ => Err("usage: oracle [--paper] < CASES, or oracle --family SEED".into()),
+    };
+    match done {
+        Ok(()) => ExitCode::SUCCESS,
+        Err(e) => {
+            eprintln!("{e}");
+            ExitCode::FAILURE
+        }
+    }
+}
+
+fn answer(calls: &dyn Calls) -> Result<(), Box<dyn std::error::Error>> {
+    let mut out = BufWriter::new(io::stdout().lock());
+    for (at, line) in io::stdin().lock().lines().enumerate() {
+        let case = parse_case(&line?).map_err(|e| format!("line {}: {e}", at + 1))?;
+        writeln!(out, "{}", outcome_line(&case, &case.run(calls)))?;
+    }
+    Ok(out.flush()?)
+}
+
+fn print_family(seed: &str) -> Result<(), Box<dyn std::error::Error>> {
+    let mut out = BufWriter::new(io::stdout().lock());
+    for case in cases::family(seed.parse()?).cases {
+        writeln!(out, "{}", case_line(&case))?;
+    }
+    Ok(out.flush()?)
+}

@@ -1,0 +1,484 @@
+//! The calls, written from document 01's steps and without the text: a matrix is read and written by `a[(i, j)]`, the loops run entry by entry.
+
+// sums and quotients stand as document 01 writes them
+#![allow(clippy::assign_op_pattern)]
+
+use std::ops::{Index, IndexMut};
+
+use crate::call::Calls;
+
+pub struct Paper;
+
+/// A lent buffer with entry (i, j) at i + j·room.
+struct Lent<'a> {
+    cells: &'a mut [f64],
+    room: usize,
+}
+
+impl Index<(usize, usize)> for Lent<'_> {
+    type Output = f64;
+    fn index(&self, (i, j): (usize, usize)) -> &f64 {
+        &self.cells[i + j * self.room]
+    }
+}
+
+impl IndexMut<(usize, usize)> for Lent<'_> {
+    fn index_mut(&mut self, (i, j): (usize, usize)) -> &mut f64 {
+        &mut self.cells[i + j * self.room]
+    }
+}
+
+/// `max` drops a NaN if the other number is none.
+fn max(x: f64, y: f64) -> f64 {
+    if x.is_nan() {
+        y
+    } else if y.is_nan() || x >= y {
+        x
+    } else {
+        y
+    }
+}
+
+fn size(x: f64) -> f64 {
+    f64::from_bits(x.to_bits() & !(1 << 63))
+}
+
+const ALPHA: f64 = 0.6403882032022076;
+
+#[derive(Clone, Copy)]
+enum Pivot {
+    Zero,
+    One(usize),
+    Two(usize),
+}
+
+impl Lent<'_> {
+    fn choose(&self, n: usize, k: usize) -> Pivot {
+        let diag = size(self[(k, k)]);
+        let mut imax = k + 1;
+        let mut colmax = if k + 1 < n { size(self[(k + 1, k)]) } else { 0.0 };
+        for i in k + 1..n {
+            if size(self[(i, k)]) > colmax {
+                imax = i;
+                colmax = size(self[(i, k)]);
+            }
+        }
+        if max(diag, colmax) == 0.0 {
+            return Pivot::Zero;
+        }
+        if diag.is_nan() || colmax.is_nan() || diag >= ALPHA * colmax {
+            return Pivot::One(k);
+        }
+        let left = (k..imax).map(|j| size(self[(imax, j)]));
+        let below = (imax + 1..n).map(|j| size(self[(j, imax)]));
+        let rowmax = left.chain(below).fold(0.0, max);
+        if diag >= (ALPHA * colmax) * (colmax / rowmax) {
+            Pivot::One(k)
+        } else if size(self[(imax, imax)]) < ALPHA * rowmax {
+            Pivot::Two(imax)
+        } else {
+            Pivot::One(imax)
+        }
+    }
+
+    fn exchange(&mut self, one: (usize, usize), other: (usize, usize)) {
+        (self[one], self[other]) = (self[other], self[one]);
+    }
+
+    fn interchange(&mut self, n: usize, k: usize, t: usize, p: usize) {
+        if t == p {
+            return;
+        }
+        for i in p + 1..n {
+            self.exchange((i, t), (i, p));
+        }
+        for j in t + 1..p {
+            self.exchange((j, t), (p, j));
+        }
+        self.exchange((t, t), (p, p));
+        if t == k + 1 {
+            self.exchange((t, k), (p, k));
+        }
+    }
+
+    fn eliminate_one(&mut self, n: usize, k: usize) {
+        let inv = 1.0 / self[(k, k)];
+        for i in k + 1..n {
+            for j in k + 1..=i {
+                self[(i, j)] = self[(i, j)] + (self[(i, k)] * -inv) * self[(j, k)];
+            }
+        }
+        for i in k + 1..n {
+            self[(i, k)] *= inv;
+        }
+    }
+
+    fn eliminate_two(&mut self, n: usize, k: usize) {
+        if k + 2 >= n {
+            return;
+        }
+        let d = size(self[(k + 1, k)]);
+        let d11 = self[(k + 1, k + 1)] / d;
+        let d22 = self[(k, k)] / d;
+        let d21 = self[(k + 1, k)] / d;
+        let multiplier = 1.0 / (d * (d11 * d22 - 1.0));
+        for j in k + 2..n {
+            let (left, right) = (self[(j, k)], self[(j, k + 1)]);
+            let w1 = (left * d11 - right * d21) * multiplier;
+            let w2 = (right * d22 - left * d21) * multiplier;
+            for i in j..n {
+                self[(i, j)] = (self[(i, j)] - self[(i, k)] * w1) - self[(i, k + 1)] * w2;
+            }
+            self[(j, k)] = w1;
+            self[(j, k + 1)] = w2;
+        }
+    }
+
+    fn updated(&self, i: usize, j: usize) -> f64 {
+        let mut x = self[(i, j)];
+        for k in 0..j {
+            x += (-self[(j, k)]) * self[(i, k)];
+        }
+        x
+    }
+
+    /// Column j for the rows from `from` on; `None` if the diagonal is turned down.
+    fn cholesky_column(&mut self, n: usize, from: usize, j: usize) -> Option<()> {
+        for i in from.max(j)..n {
+            self[(i, j)] = self.updated(i, j);
+        }
+        if from <= j {
+            let x = self[(j, j)];
+            if x.is_nan() || x <= 0.0 {
+                return None;
+            }
+            self[(j, j)] = x.sqrt();
+        }
+        for i in from.max(j + 1)..n {
+            self[(i, j)] = self[(i, j)] / self[(j, j)];
+        }
+        Some(())
+    }
+}
+
+/// A pivot record that has been found sound.
+struct Record<'a>(&'a [u32]);
+
+impl Record<'_> {
+    fn index(&self, k: usize) -> usize {
+        self.0[2 * k] as usize
+    }
+
+    fn size(&self, k: usize) -> usize {
+        self.0[2 * k + 1] as usize
+    }
+
+    /// The first row of each block.
+    fn blocks(&self) -> Vec<usize> {
+        let mut rows = vec![];
+        let mut k = 0;
+        while 2 * k + 1 < self.0.len() {
+            rows.push(k);
+            k += self.size(k);
+        }
+        rows
+    }
+
+    /// The place at which the rule is broken.
+    fn broken_at(&self, n: usize) -> Option<usize> {
+        let mut k = 0;
+        let mut ones = vec![];
+        while k < n {
+            let (index, size) = (self.0[2 * k], self.0[2 * k + 1]);
+            if size != 1 && size != 2 {
+                return Some(k);
+            }
+            let least = k + size as usize - 1;
+            if (index as usize) < least || index as usize >= n {
+                return Some(k);
+            }
+            if size == 2 && (self.0[2 * k + 2] != index || self.0[2 * k + 3] != size) {
+                return Some(k);
+            }
+            if size == 1 {
+                ones.push(k as u32);
+            }
+            k = least + 1;
+        }
+        match self.0[2 * n] {
+            0 => None,
+            mark if ones.contains(&(mark - 1)) => None,
+            _ => Some(n),
+        }
+    }
+}
+
+fn code(code: u64, place: usize) -> u64 {
+    code << 12 | place as u64
+}
+
+fn factored(a: &[f64], record: &[u32], n: usize, other: Option<(usize, usize)>) -> u64 {
+    let columns = other.map_or(0, |(_, columns)| columns);
+    if n > 1024 || columns > 1024 {
+        code(1, 0)
+    } else if a.len() != n * n {
+        code(3, 0)
+    } else if record.len() != 2 * n + 1 || other.is_some_and(|(len, columns)| len != n * columns) {
+        code(4, 0)
+    } else if let Some(place) = Record(record).broken_at(n) {
+        code(5, place)
+    } else {
+        0
+    }
+}
+
+fn in_room(a: &[f64], room: usize, earlier: usize, n: usize) -> u64 {
+    if room > 1024 || earlier > 1024 || n > 1024 {
+        code(1, 0)
+    } else if n > room || earlier > n {
+        code(2, 0)
+    } else if a.len() != room * room {
+        code(3, 0)
+    } else {
+        0
+    }
+}
+
+/// One right-hand side.
+fn solve_column(a: &[f64], record: &Record, b: &mut [f64]) {
+    let n = b.len();
+    let l = |i: usize, j: usize| a[i + j * n];
+    let blocks = record.blocks();
+    for &k in &blocks {
+        let last = k + record.size(k) - 1;
+        b.swap(last, record.index(k));
+        for i in last + 1..n {
+            for c in k..=last {
+                b[i] = b[i] - l(i, c) * b[c];
+            }
+        }
+    }
+    for &k in &blocks {
+        if record.size(k) == 1 {
+            b[k] = b[k] / l(k, k);
+        } else {
+            let (d11, d22, d21) = (l(k, k), l(k + 1, k + 1), l(k + 1, k));
+            let det = d11 * d22 - d21 * d21;
+            let (x, y) = (b[k], b[k + 1]);
+            b[k] = (x * d22 - y * d21) / det;
+            b[k + 1] = (y * d11 - x * d21) / det;
+        }
+    }
+    for &k in blocks.iter().rev() {
+        let last = k + record.size(k) - 1;
+        for c in (k..=last).rev() {
+            for i in last + 1..n {
+                b[c] = b[c] - l(i, c) * b[i];
+            }
+        }
+        b.swap(last, record.index(k));
+    }
+}
+
+impl Calls for Paper {
+    fn lblt_factor(&self, a: &mut [f64], record: &mut [u32], n: usize) -> u64 {
+        if n > 1024 {
+            return code(1, 0);
+        }
+        if a.len() != n * n {
+            return code(3, 0);
+        }
+        if record.len() != 2 * n + 1 {
+            return code(4, 0);
+        }
+        let mut a = Lent { cells: a, room: n };
+        let (mut k, mut mark) = (0, 0);
+        while k < n {
+            let pivot = a.choose(n, k);
+            let (index, block) = match pivot {
+                Pivot::Zero => (k, 1),
+                Pivot::One(p) => (p, 1),
+                Pivot::Two(p) => (p, 2),
+            };
+            match pivot {
+                Pivot::Zero if mark == 0 => mark = k as u32 + 1,
+                Pivot::Zero => {}
+                Pivot::One(p) => {
+                    a.interchange(n, k, k, p);
+                    a.eliminate_one(n, k);
+                }
+                Pivot::Two(p) => {
+                    a.interchange(n, k, k + 1, p);
+                    a.eliminate_two(n, k);
+                }
+            }
+            for row in k..k + block {
+                record[2 * row] = index as u32;
+                record[2 * row + 1] = block as u32;
+            }
+            k += block;
+        }
+        record[2 * n] = mark;
+        0
+    }
+
+    fn lblt_solve(&self, a: &[f64], record: &[u32], b: &mut [f64], n: usize, columns: usize) -> u64 {
+        let refused = factored(a, record, n, Some((b.len(), columns)));
+        if refused != 0 {
+            return refused;
+        }
+        if record[2 * n] != 0 {
+            return code(6, record[2 * n] as usize - 1);
+        }
+        for j in 0..columns {
+            solve_column(a, &Record(record), &mut b[j * n..(j + 1) * n]);
+        }
+        0
+    }
+
+    fn lblt_determinant(&self, a: &[f64], record: &[u32], n: usize) -> (u64, f64) {
+        let refused = factored(a, record, n, None);
+        if refused != 0 {
+            return (refused, 0.0);
+        }
+        let record = Record(record);
+        let mut product = 1.0;
+        for k in record.blocks() {
+            let at = k + k * n;
+            product *= if record.size(k) == 1 { a[at] } else { a[at] * a[at + 1 + n] - a[at + 1] * a[at + 1] };
+        }
+        (0, product)
+    }
+
+    fn lblt_d(&self, a: &[f64], record: &[u32], d: &mut [f64], n: usize) -> u64 {
+        let refused = factored(a, record, n, Some((d.len(), n)));
+        if refused == 0 {
+            let record = Record(record);
+            d.fill(0.0);
+            for k in record.blocks() {
+                for c in k..k + record.size(k) {
+                    for r in c..k + record.size(k) {
+                        d[r + c * n] = a[r + c * n];
+                        d[c + r * n] = a[r + c * n];
+                    }
+                }
+            }
+        }
+        refused
+    }
+
+    fn lblt_l_permuted(&self, a: &[f64], record: &[u32], l: &mut [f64], n: usize) -> u64 {
+        let refused = factored(a, record, n, Some((l.len(), n)));
+        if refused == 0 {
+            let record = Record(record);
+            for (at, x) in l.iter_mut().enumerate() {
+                *x = if at % (n + 1) == 0 { 1.0 } else { 0.0 };
+            }
+            for k in record.blocks() {
+                let last = k + record.size(k) - 1;
+                for row in 0..n {
+                    l.swap(row + last * n, row + record.index(k) * n);
+                }
+                for c in k..=last {
+                    for i in last + 1..n {
+                        for row in 0..n {
+                            l[row + c * n] += l[row + i * n] * a[i + c * n];
+                        }
+                    }
+                }
+            }
+        }
+        refused
+    }
+
+    fn cholesky_factor(&self, a: &mut [f64], room: usize, n: usize) -> u64 {
+        self.cholesky_extend(a, room, 0, n)
+    }
+
+    fn cholesky_extend(&self, a: &mut [f64], room: usize, earlier: usize, n: usize) -> u64 {
+        let refused = in_room(a, room, earlier, n);
+        if refused != 0 {
+            return refused;
+        }
+        let mut a = Lent { cells: a, room };
+        (0..n).find(|&j| a.cholesky_column(n, earlier, j).is_none()).map_or(0, |j| code(7, j))
+    }
+
+    fn cholesky_l(&self, a: &[f64], l: &mut [f64], room: usize, n: usize) -> u64 {
+        let refused = in_room(a, room, 0, n);
+        if refused != 0 {
+            return refused;
+        }
+        if l.len() != n * n {
+            return code(4, 0);
+        }
+        for (at, x) in l.iter_mut().enumerate() {
+            let (i, j) = (at % n, at / n);
+            *x = if i < j { 0.0 } else { a[i + j * room] };
+        }
+        0
+    }
+
+    fn cholesky_unpack(&self, a: &mut [f64], room: usize, n: usize) -> u64 {
+        let refused = in_room(a, room, 0, n);
+        if refused == 0 {
+            for i in 0..n {
+                for j in i + 1..n {
+                    a[i + j * room] = 0.0;
+                }
+            }
+        }
+        refused
+    }
+
+    fn cholesky_determinant(&self, a: &[f64], room: usize, n: usize) -> (u64, f64) {
+        let refused = in_room(a, room, 0, n);
+        if refused != 0 {
+            return (refused, 0.0);
+        }
+        let product: f64 = (0..n).fold(1.0, |x, i| x * a[i + i * room]);
+        (0, product * product)
+    }
+
+    fn udu_factor(&self, p: &[f64], u: &mut [f64], d: &mut [f64], n: usize) -> u64 {
+        if n == 0 || n > 1024 {
+            return code(1, 0);
+        }
+        if p.len() != n * n {
+            return code(3, 0);
+        }
+        if u.len() != n * n || d.len() != n {
+            return code(4, 0);
+        }
+        u.fill(0.0);
+        d.fill(0.0);
+        let mut u = Lent { cells: u, room: n };
+        let p = |i: usize, j: usize| p[i + j * n];
+        for j in (0..n).rev() {
+            let mut sum = 0.0;
+            for k in j + 1..n {
+                sum += d[k] * (u[(j, k)] * u[(j, k)]);
+            }
+            d[j] = if j + 1 == n { p(j, j) } else { p(j, j) - sum };
+            if d[j] == 0.0 {
+                return code(8, j);
+            }
+            if j + 1 == n {
+                let inverse = 1.0 / d[j];
+                for i in 0..n {
+                    u[(i, j)] = inverse * p(i, j);
+                }
+                continue;
+            }
+            for i in 0..j {
+                let mut sum = 0.0;
+                for k in j + 1..n {
+                    sum += (d[k] * u[(j, k)]) * u[(i, k)];
+                }
+                u[(i, j)] = (p(i, j) - sum) / d[j];
+            }
+            u[(j, j)] = 1.0;
+        }
+        0
+    }
+}

@@ -1,0 +1,300 @@
+//! The calls, answered by the text.
+//!
+//! The text itself answers `LBLT::new`, `solve_mut`, `determinant`, `d`, `l_permuted`, `Cholesky::new`, `l`, `unpack`, `determinant` and
+//! `UDU::new`. What follows document 01 because the text says nothing of it is marked "document 01": the checks before a call, the room, the
+//! further batch, and what stays in the buffers after a refusal.
+
+use crate::call::Calls;
+use crate::linalg::cholesky::Cholesky;
+use crate::linalg::lblt::{LBLT, parts};
+use crate::linalg::udu::UDU;
+use crate::{Dyn, OMatrix};
+
+pub struct Text;
+
+pub type Square = OMatrix<f64, Dyn, Dyn>;
+
+pub fn square(n: usize, data: Vec<f64>) -> Square {
+    OMatrix::from_vec(Dyn(n), Dyn(n), data)
+}
+
+const DONE: u64 = 0;
+const MOST: usize = 1024;
+
+fn refusal(code: u64, place: usize) -> u64 {
+    code * 4096 + place as u64
+}
+
+/// Document 01: the checks before a call, in the order of the table.
+mod checks {
+    use super::{MOST, refusal};
+
+    pub fn counts(counts: &[usize]) -> Option<u64> {
+        counts.iter().any(|&c| c > MOST).then(|| refusal(1, 0))
+    }
+
+    pub fn orders(room: usize, earlier: usize, n: usize) -> Option<u64> {
+        (n > room || earlier > n).then(|| refusal(2, 0))
+    }
+
+    pub fn first(len: usize, wanted: usize) -> Option<u64> {
+        (len != wanted).then(|| refusal(3, 0))
+    }
+
+    pub fn another(len: usize, wanted: usize) -> Option<u64> {
+        (len != wanted).then(|| refusal(4, 0))
+    }
+
+    pub fn record(record: &[u32], n: usize) -> Option<u64> {
+        let pair = |k: usize| (record[2 * k] as usize, record[2 * k + 1]);
+        let mut size_one = vec![false; n];
+        let mut k = 0;
+        while k < n {
+            let (index, size) = pair(k);
+            let sound = match size {
+                1 => (k..n).contains(&index),
+                2 => k + 1 < n && (k + 1..n).contains(&index) && pair(k + 1) == pair(k),
+                _ => false,
+            };
+            if !sound {
+                return Some(refusal(5, k));
+            }
+            size_one[k] = size == 1;
+            k += size as usize;
+        }
+        let mark = record[2 * n] as usize;
+        let sound = mark == 0 || size_one.get(mark - 1) == Some(&true);
+        (!sound).then(|| refusal(5, n))
+    }
+
+    pub fn factored(a: &[f64], words: &[u32], n: usize) -> Option<u64> {
+        counts(&[n]).or_else(|| first(a.len(), n * n)).or_else(|| another(words.len(), 2 * n + 1))
+    }
+
+    pub fn in_room(a: &[f64], room: usize, earlier: usize, n: usize) -> Option<u64> {
+        counts(&[room, earlier, n]).or_else(|| orders(room, earlier, n)).or_else(|| first(a.len(), room * room))
+    }
+}
+
+/// The text's factor, from a sound record and the matrix beside it.
+pub fn lblt_of(a: &[f64], record: &[u32], n: usize) -> LBLT<f64, Dyn> {
+    let pairs = (0..n).map(|k| (record[2 * k] as usize, record[2 * k + 1] as usize)).collect();
+    let mark = (record[2 * n] as usize).checked_sub(1);
+    parts::together((square(n, a.to_vec()), OMatrix::from_vec(Dyn(n), crate::U1, pairs), mark))
+}
+
+/// Document 01: the first n rows and columns of a room.
+fn leading(a: &[f64], room: usize, n: usize) -> Square {
+    let mut out = Vec::with_capacity(n * n);
+    for j in 0..n {
+        out.extend_from_slice(&a[j * room..j * room + n]);
+    }
+    square(n, out)
+}
+
+fn put_leading(a: &mut [f64], room: usize, n: usize, block: &[f64]) {
+    for j in 0..n {
+        a[j * room..j * room + n].copy_from_slice(&block[j * n..(j + 1) * n]);
+    }
+}
+
+/// Document 01: entry (i, j) of the room after the columns before `j`, which are finished.
+fn updated(a: &[f64], room: usize, i: usize, j: usize) -> f64 {
+    (0..j).fold(a[i + j * room], |x, k| x + -a[j + k * room] * a[i + k * room])
+}
+
+fn turned_down(diagonal: f64) -> bool {
+    diagonal.is_nan() || diagonal <= 0.0
+}
+
+/// What the text leaves behind when it answers `None`: the columns before the refused one are those of `new_unchecked`, which refuses nothing.
+/// Document 01: the refused column is updated and undivided, later ones untouched.
+fn refused_cholesky(a: &mut [f64], room: usize, n: usize) -> u64 {
+    let given = leading(a, room, n);
+    let finished = Cholesky::new_unchecked(given.clone()).unpack_dirty();
+    for j in 0..n {
+        let diagonal = updated(a, room, j, j);
+        if turned_down(diagonal) {
+            assert!(Cholesky::new(leading_of(&given, n, j)).is_some(), "the text refuses before {j}");
+            assert!(Cholesky::new(leading_of(&given, n, j + 1)).is_none(), "the text goes beyond {j}");
+            for i in j..n {
+                a[i + j * room] = updated(a, room, i, j);
+            }
+            return refusal(7, j);
+        }
+        for i in j..n {
+            a[i + j * room] = finished[(i, j)];
+        }
+    }
+    panic!("the text refuses a matrix that document 01 accepts")
+}
+
+fn leading_of(whole: &Square, n: usize, m: usize) -> Square {
+    leading(whole.as_slice(), n, m)
+}
+
+impl Calls for Text {
+    fn lblt_factor(&self, a: &mut [f64], record: &mut [u32], n: usize) -> u64 {
+        if let Some(refused) = checks::factored(a, record, n) {
+            return refused;
+        }
+        let (matrix, pivots, zero_pivot) = parts::apart(LBLT::new(square(n, a.to_vec())));
+        a.copy_from_slice(matrix.as_slice());
+        for (k, &(index, size)) in pivots.as_slice().iter().enumerate() {
+            record[2 * k] = index as u32;
+            record[2 * k + 1] = size as u32;
+        }
+        record[2 * n] = zero_pivot.map_or(0, |k| k as u32 + 1);
+        DONE
+    }
+
+    fn lblt_solve(&self, a: &[f64], record: &[u32], b: &mut [f64], n: usize, columns: usize) -> u64 {
+        let refused = checks::counts(&[n, columns])
+            .or_else(|| checks::factored(a, record, n))
+            .or_else(|| checks::another(b.len(), n * columns))
+            .or_else(|| checks::record(record, n));
+        if let Some(refused) = refused {
+            return refused;
+        }
+        let mut sides = OMatrix::from_vec(Dyn(n), Dyn(columns), b.to_vec());
+        let solved = lblt_of(a, record, n).solve_mut(&mut sides);
+        b.copy_from_slice(sides.as_slice());
+        if solved { DONE } else { refusal(6, record[2 * n] as usize - 1) }
+    }
+
+    fn lblt_determinant(&self, a: &[f64], record: &[u32], n: usize) -> (u64, f64) {
+        match checks::factored(a, record, n).or_else(|| checks::record(record, n)) {
+            Some(refused) => (refused, 0.0),
+            None => (DONE, lblt_of(a, record, n).determinant()),
+        }
+    }
+
+    fn lblt_d(&self, a: &[f64], record: &[u32], d: &mut [f64], n: usize) -> u64 {
+        let refused = checks::factored(a, record, n).or_else(|| checks::another(d.len(), n * n)).or_else(|| checks::record(record, n));
+        if refused.is_none() {
+            d.copy_from_slice(lblt_of(a, record, n).d().as_slice());
+        }
+        refused.unwrap_or(DONE)
+    }
+
+    fn lblt_l_permuted(&self, a: &[f64], record: &[u32], l: &mut [f64], n: usize) -> u64 {
+        let refused = checks::factored(a, record, n).or_else(|| checks::another(l.len(), n * n)).or_else(|| checks::record(record, n));
+        if refused.is_none() {
+            l.copy_from_slice(lblt_of(a, record, n).l_permuted().as_slice());
+        }
+        refused.unwrap_or(DONE)
+    }
+
+    fn cholesky_factor(&self, a: &mut [f64], room: usize, n: usize) -> u64 {
+        if let Some(refused) = checks::in_room(a, room, 0, n) {
+            return refused;
+        }
+        match Cholesky::new(leading(a, room, n)) {
+            Some(factor) => {
+                put_leading(a, room, n, factor.l_dirty().as_slice());
+                DONE
+            }
+            None => refused_cholesky(a, room, n),
+        }
+    }
+
+    /// Document 01: the first `earlier` rows are taken as factored, the work is on the rows from there on, in the text's order for each entry.
+    fn cholesky_extend(&self, a: &mut [f64], room: usize, earlier: usize, n: usize) -> u64 {
+        if let Some(refused) = checks::in_room(a, room, earlier, n) {
+            return refused;
+        }
+        for j in 0..n {
+            for i in j.max(earlier)..n {
+                a[i + j * room] = updated(a, room, i, j);
+            }
+            if j >= earlier {
+                let diagonal = a[j + j * room];
+                if turned_down(diagonal) {
+                    return refusal(7, j);
+                }
+                a[j + j * room] = diagonal.sqrt();
+            }
+            for i in earlier.max(j + 1)..n {
+                a[i + j * room] /= a[j + j * room];
+            }
+        }
+        DONE
+    }
+
+    fn cholesky_l(&self, a: &[f64], l: &mut [f64], room: usize, n: usize) -> u64 {
+        let refused = checks::in_room(a, room, 0, n).or_else(|| checks::another(l.len(), n * n));
+        if refused.is_none() {
+            l.copy_from_slice(Cholesky::pack_dirty(leading(a, room, n)).l().as_slice());
+        }
+        refused.unwrap_or(DONE)
+    }
+
+    fn cholesky_unpack(&self, a: &mut [f64], room: usize, n: usize) -> u64 {
+        let refused = checks::in_room(a, room, 0, n);
+        if refused.is_none() {
+            let block = Cholesky::pack_dirty(leading(a, room, n)).unpack();
+            put_leading(a, room, n, block.as_slice());
+        }
+        refused.unwrap_or(DONE)
+    }
+
+    fn cholesky_determinant(&self, a: &[f64], room: usize, n: usize) -> (u64, f64) {
+        match checks::in_room(a, room, 0, n) {
+            Some(refused) => (refused, 0.0),
+            None => (DONE, Cholesky::pack_dirty(leading(a, room, n)).determinant()),
+        }
+    }
+
+    fn udu_factor(&self, p: &[f64], u: &mut [f64], d: &mut [f64], n: usize) -> u64 {
+        let refused = checks::counts(&[n])
+            .or_else(|| (n == 0).then(|| refusal(1, 0)))
+            .or_else(|| checks::first(p.len(), n * n))
+            .or_else(|| checks::another(u.len(), n * n))
+            .or_else(|| checks::another(d.len(), n));
+        if let Some(refused) = refused {
+            return refused;
+        }
+        match UDU::new(square(n, p.to_vec())) {
+            Some(factor) => {
+                u.copy_from_slice(factor.u.as_slice());
+                d.copy_from_slice(factor.d.as_slice());
+                DONE
+            }
+            None => refused_udu(p, u, d, n),
+        }
+    }
+}
+
+/// What the text leaves behind when it answers `None` at j. Columns after j do not read p(j,j), so they are the text's own for the matrix with
+/// NaN there, which it does not refuse. Document 01: d holds the zero found at j, and zeros stand before it and in the columns of u up to j.
+fn refused_udu(p: &[f64], u: &mut [f64], d: &mut [f64], n: usize) -> u64 {
+    let j = (0..n).rev().find(|&j| UDU::new(trailing(p, n, j)).is_none()).expect("the text refuses the whole");
+    let mut open = p.to_vec();
+    open[j + j * n] = f64::NAN;
+    let factor = UDU::new(square(n, open)).expect("nothing after NaN is zero");
+    u.fill(0.0);
+    d.fill(0.0);
+    if j + 1 == n {
+        d[j] = p[j + j * n];
+        return refusal(8, j);
+    }
+    for k in j + 1..n {
+        d[k] = factor.d[k];
+        for i in 0..n {
+            u[i + k * n] = factor.u[(i, k)];
+        }
+    }
+    let sum = (j + 1..n).fold(0.0, |x, k| x + d[k] * (u[j + k * n] * u[j + k * n]));
+    d[j] = p[j + j * n] - sum;
+    assert_eq!(d[j], 0.0, "the text refuses a diagonal that is not zero");
+    refusal(8, j)
+}
+
+/// Rows and columns from m on.
+fn trailing(p: &[f64], n: usize, m: usize) -> Square {
+    let mut out = Vec::with_capacity((n - m) * (n - m));
+    for j in m..n {
+        out.extend_from_slice(&p[m + j * n..(j + 1) * n]);
+    }
+    square(n - m, out)
+}

@@ -1,0 +1,139 @@
+//! Document 01's cases, answered by the text and by document 01's steps.
+
+use oracle::call::{Calls, word};
+use oracle::cases::fill;
+use oracle::paper::Paper;
+use oracle::text::Text;
+
+const BOTH: [&dyn Calls; 2] = [&Text, &Paper];
+
+/// A matrix by its lower rows.
+fn matrix(n: usize, lower: &[f64]) -> Vec<f64> {
+    let mut a: Vec<f64> = (0..n * n).map(fill).collect();
+    let mut given = lower.iter();
+    for i in 0..n {
+        for j in 0..=i {
+            a[i + j * n] = *given.next().unwrap();
+        }
+    }
+    a
+}
+
+fn lower(a: &[f64], n: usize) -> Vec<f64> {
+    (0..n).flat_map(|i| (0..=i).map(move |j| a[i + j * n])).collect()
+}
+
+fn factored(calls: &dyn Calls, n: usize, rows: &[f64]) -> (Vec<f64>, Vec<u32>) {
+    let (mut a, mut record) = (matrix(n, rows), vec![9; 2 * n + 1]);
+    assert_eq!(calls.lblt_factor(&mut a, &mut record, n), 0);
+    (a, record)
+}
+
+#[test]
+fn lblt() {
+    for calls in BOTH {
+        let (a, record) = factored(calls, 2, &[0.0, 1.0, 0.0]);
+        assert_eq!(record, [1, 2, 1, 2, 0]);
+        assert_eq!(calls.lblt_determinant(&a, &record, 2), (0, -1.0));
+        let mut b = [3.0, 5.0];
+        assert_eq!(calls.lblt_solve(&a, &record, &mut b, 2, 1), 0);
+        assert_eq!(b, [5.0, 3.0]);
+
+        let (a, record) = factored(calls, 2, &[0.0, 1.0, 4.0]);
+        assert_eq!(record, [1, 1, 1, 1, 0]);
+        assert_eq!(lower(&a, 2), [4.0, 0.25, -0.25]);
+
+        let (a, record) = factored(calls, 2, &[0.0, f64::NAN, 5.0]);
+        assert_eq!(record, [0, 1, 1, 1, 1]);
+        assert_eq!(calls.lblt_solve(&a, &record, &mut b, 2, 1), 6 * 4096);
+        assert_eq!(b, [5.0, 3.0]);
+
+        let (_, record) = factored(calls, 1, &[f64::NAN]);
+        assert_eq!(record, [0, 1, 1]);
+
+        let (_, record) = factored(calls, 3, &[0.0, 3.0, 0.0, -3.0, 0.0, 0.0]);
+        assert_eq!(record[0], 1);
+
+        let power = |e: i64| f64::from_bits(((1023 + e) as u64) << 52);
+        let (a, record) = factored(calls, 3, &[0.0, power(-600), 0.0, 0.0, power(600), 0.0]);
+        assert_eq!((record[0], record[1]), (0, 1));
+        assert_eq!(record[6], 3);
+        assert_eq!(calls.lblt_solve(&a, &record, &mut [0.0; 3], 3, 1), 6 * 4096 + 2);
+
+        let (a, record) = factored(calls, 2, &[4.0, 2.0, 3.0]);
+        assert_eq!(record, [0, 1, 1, 1, 0]);
+        assert_eq!(lower(&a, 2), [4.0, 0.5, 2.0]);
+        assert_eq!(calls.lblt_determinant(&a, &record, 2), (0, 8.0));
+    }
+}
+
+#[test]
+fn cholesky() {
+    for calls in BOTH {
+        let mut a = matrix(2, &[4.0, 2.0, 5.0]);
+        assert_eq!(calls.cholesky_factor(&mut a, 2, 2), 0);
+        assert_eq!(lower(&a, 2), [2.0, 1.0, 2.0]);
+        assert_eq!(a[2], fill(2));
+        assert_eq!(calls.cholesky_determinant(&a, 2, 2), (0, 16.0));
+
+        let mut a = matrix(2, &[1.0, 1.0, 1.0]);
+        assert_eq!(calls.cholesky_factor(&mut a, 2, 2), 7 * 4096 + 1);
+        assert_eq!(lower(&a, 2), [1.0, 1.0, 0.0]);
+
+        let mut a = matrix(1, &[-0.0]);
+        assert_eq!(calls.cholesky_factor(&mut a, 1, 1), 7 * 4096);
+
+        for (x, root) in [(2.0, 0x3ff6_a09e_667f_3bcd), (f64::from_bits(1), 0x1e60_0000_0000_0000)] {
+            let mut a = [x];
+            assert_eq!(calls.cholesky_factor(&mut a, 1, 1), 0);
+            assert_eq!(word(a[0]), root);
+        }
+        assert_eq!(calls.cholesky_determinant(&[], 0, 0), (0, 1.0));
+    }
+}
+
+#[test]
+fn udu() {
+    for calls in BOTH {
+        let (mut u, mut d) = ([9.0], [9.0]);
+        assert_eq!(calls.udu_factor(&[49.0], &mut u, &mut d, 1), 0);
+        assert!(u[0] < 1.0 && d[0] == 49.0);
+        assert_eq!(calls.udu_factor(&[0.0], &mut u, &mut d, 1), 8 * 4096);
+        assert_eq!((u, d), ([0.0], [0.0]));
+        assert_eq!(calls.udu_factor(&[], &mut [], &mut [], 0), 4096);
+    }
+}
+
+#[test]
+fn orders() {
+    for calls in BOTH {
+        assert_eq!(calls.lblt_factor(&mut [], &mut [0], 0), 0);
+        assert_eq!(calls.lblt_determinant(&[], &[0], 0), (0, 1.0));
+        for n in [1025, 1 << 32, usize::MAX] {
+            assert_eq!(calls.lblt_factor(&mut [], &mut [], n), 4096);
+            assert_eq!(calls.cholesky_factor(&mut [], n, n), 4096);
+            assert_eq!(calls.udu_factor(&[], &mut [], &mut [], n), 4096);
+        }
+        assert_eq!(calls.cholesky_factor(&mut [], 0, 1), 2 * 4096);
+    }
+}
+
+/// Where document 01 refuses and the text does not say so.
+mod beside_the_document {
+    use oracle::linalg::{cholesky::Cholesky, lblt::LBLT, udu::UDU};
+    use oracle::text::square;
+
+    #[test]
+    #[should_panic]
+    fn udu_of_order_0() {
+        let _ = UDU::new(square(0, vec![]));
+    }
+
+    #[test]
+    fn order_1025() {
+        let n = 1025;
+        let identity: Vec<f64> = (0..n * n).map(|at| if at % (n + 1) == 0 { 1.0 } else { 0.0 }).collect();
+        assert_eq!(LBLT::new(square(n, identity.clone())).determinant(), 1.0);
+        assert!(Cholesky::new(square(n, identity)).is_some());
+    }
+}
