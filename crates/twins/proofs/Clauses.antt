@@ -27,4 +27,5 @@ lower-of-twins n M p q apart within twins = record {
   left = λ k h. sym (at-lower M q k (omega arith)) ∙ twins k (omega arith) ∙ at-lower M p k h;
   between = λ k h h'. sym (at-lower M q k (omega arith)) ∙ twins k (omega arith) ∙ at-upper M p k h;
   diagonal = sym (at-lower M q q (omega arith)) ∙ twins q within ∙ at-upper M p q apart ∙ sym (at-lower M q p (omega arith)) ∙ twins p (omega arith) ∙ at-lower M p p (omega arith);
-  below = λ k h h'. sym (at-upper M q k h) ∙ twins k h' ∙ at-upper M p k (omega arith) }
+  below = λ k h h'. sym (at-upper M q k h) ∙ twins k h' ∙ at-upper M p k (omega arith);
+}

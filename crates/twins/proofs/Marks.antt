@@ -24,7 +24,8 @@ one-mark n M p q twins =
 pub marks-differ : {n : ℕ} {M : Matrix} {marks : List ℕ} {p q : ℕ} → Marked n M marks → (p < n) × (q < n) → (getD marks p 0 ≡ getD marks q 0 → ⊥) → Told n M p q false
 marks-differ {n} {M} {marks} {p} {q} marked within differ = record {
   yes = λ t. absurd (true≢false (sym t));
-  no = λ f twins. differ (marked .each p (within .0) ∙ one-mark n M p q twins ∙ sym (marked .each q (within .1))) }
+  no = λ f twins. differ (marked .each p (within .0) ∙ one-mark n M p q twins ∙ sym (marked .each q (within .1)));
+}
 
 -- the first i rows are marked
 pub record Marking (n : ℕ) (M : Matrix) (marks₀ : List ℕ) (i : ℕ) (marks : List ℕ) : Type 0 where
@@ -40,8 +41,9 @@ marking-more {n} {M} {marks₀} {marks} {i} {mark} room m below e = record {
   upto = omega arith;
   long = length-set marks i mark ∙ m .long;
   each = below-more (λ r. getD (set marks i mark) r 0 ≡ rowMark n M r) i
-    (λ r h. getD-set-other marks i r mark 0 (ne-of-lt h) ∙ m .each r h)
-    (getD-set-same marks i mark 0 (omega arith) ∙ e) }
+      (λ r h. getD-set-other marks i r mark 0 (ne-of-lt h) ∙ m .each r h)
+      (getD-set-same marks i mark 0 (omega arith) ∙ e);
+}
 
 pub marking-all : {n : ℕ} {M : Matrix} {marks₀ marks : List ℕ} {i : ℕ} → Marking n M marks₀ i marks → n ≤ i → Marked n M marks
 marking-all m past = record { each = λ r h. m .each r (omega arith) }

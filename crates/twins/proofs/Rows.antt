@@ -27,8 +27,8 @@ symmetric-held : (g : Grid) (l : List Float) → Held l → (i j : ℕ) → T (f
 unfolding symmetric load
 symmetric-held g l held i j =
     cond-fits binary64 (leb j i) _ _
-      (cond-fits binary64 (g .inside i j) _ _ (held (g .place i j)) (nan-fits binary64))
-      (cond-fits binary64 (g .inside j i) _ _ (held (g .place j i)) (nan-fits binary64))
+    (cond-fits binary64 (g .inside i j) _ _ (held (g .place i j)) (nan-fits binary64))
+    (cond-fits binary64 (g .inside j i) _ _ (held (g .place j i)) (nan-fits binary64))
 
 -- the first k entries of rows p and q are the same
 pub record Same (n : ℕ) (M : Matrix) (p q k : ℕ) : Type 0 where
@@ -51,5 +51,5 @@ same-not {k = k} below differs = record { yes = λ t. absurd (true≢false (sym 
 
 -- equal bits of entries are equal entries
 pub entries : (g : Grid) (l : List Float) (p q k : ℕ) → Held l → toBits binary64 (symmetric (load g l) q k) ≡ toBits binary64 (symmetric (load g l) p k)
-  → symmetric (load g l) q k ≡ symmetric (load g l) p k
+    → symmetric (load g l) q k ≡ symmetric (load g l) p k
 entries g l p q k held = same-bits (symmetric (load g l) q k) (symmetric (load g l) p k) (symmetric-held g l held q k) (symmetric-held g l held p k)

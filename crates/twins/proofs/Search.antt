@@ -41,9 +41,10 @@ pub below-next : {n : ℕ} {M : Matrix} {q p : ℕ} → Below n M q → q < n �
 below-next {n} {M} {q} {p} b within first past = record {
   upto = omega arith;
   least = λ r s apart h. ⊎-elim
-    (λ (same : s ≡ q). subst (λ (k : ℕ). r < k → Twins n M r k → ⊥) (sym same) (λ lt. first .nearest r (omega arith)) apart)
-    (λ (lt : s < q). b .least r s apart lt)
-    (eq-or-lt-of-le (omega arith)) }
+      (λ (same : s ≡ q). subst (λ (k : ℕ). r < k → Twins n M r k → ⊥) (sym same) (λ lt. first .nearest r (omega arith)) apart)
+      (λ (lt : s < q). b .least r s apart lt)
+      (eq-or-lt-of-le (omega arith));
+}
 
 pub below-found : {n : ℕ} {M : Matrix} {q p : ℕ} → Below n M q → q < n → FirstBefore n M q p → p < q → First n M (Pair p q)
 below-found b within first before =

@@ -24,7 +24,8 @@ module _ (l : List Float) (room n : ℕ) where
   refuse : (a : Answer) → sizes room n (length l) ≡ a → (codeOf a ≡ 0 → ⊥) → FirstTwin l room n (Refused a)
   refuse a e code = record {
     refused = λ not-done. ap Refused (sym e);
-    found = λ done. absurd (code (ap codeOf (sym e ∙ done))) }
+    found = λ done. absurd (code (ap codeOf (sym e ∙ done)));
+  }
 
   pub refuse-room : 1024 < room → FirstTwin l room n (Refused OutOfRange)
   refuse-room h = refuse OutOfRange (simp (lt-ltb 1024 room h)) (λ z. omega arith)
@@ -42,7 +43,8 @@ module _ (l : List Float) (room n : ℕ) where
   pub accept : room ≤ 1024 → n ≤ 1024 → n ≤ room → length l ≡ room * room → (r : Twin) → First n (load (lower (layoutOf room n)) l) r → FirstTwin l room n r
   accept h h' below same r first = record {
     refused = λ not-done. absurd (not-done (simp (le-ltb 1024 room h, le-ltb 1024 n h', le-ltb room n below, eq-eqb (length l) (room * room) same)));
-    found = λ done. first }
+    found = λ done. first;
+  }
 
   pub roomy : room ≤ 1024 → n ≤ room → Roomy (layoutOf room n)
   roomy h below = record { ordered = below; small = h }

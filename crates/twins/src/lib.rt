@@ -32,16 +32,6 @@ impl Twin {
     }
 }
 
-// The bits of x, where all NaNs have those of one.
-fn bits(x: f64) -> u64
-    ensures { λ r. ⌜ r ≡ toBits binary64 x ⌝ }
-{
-    if x != x {
-        return 0x7ff8_0000_0000_0000;
-    }
-    f64::to_bits(x)
-}
-
 fn entry_bits(y: Layout, a: &[f64], i: usize, j: usize) -> u64
     requires { ⌜ Roomy y ⌝ }
     requires { ⌜ Sound (lower y) (now a) ⌝ }
@@ -50,9 +40,9 @@ fn entry_bits(y: Layout, a: &[f64], i: usize, j: usize) -> u64
     ensures { λ r. ⌜ r ≡ toBits binary64 (symmetric (load (lower y) (now (a .entry))) i j) ⌝ }
 {
     if j <= i {
-        return bits(matrix::get(y, a, i, j));
+        return leaf::to_bits(matrix::get(y, a, i, j));
     }
-    bits(matrix::get(y, a, j, i))
+    leaf::to_bits(matrix::get(y, a, j, i))
 }
 
 fn mix(mark: u64, bits: u64) -> u64

@@ -22,7 +22,8 @@ add-result c =
     let sum = c .wrapping-add-u64 .result in
     let small : sum < 4294967296 * 4294967296 = rw (c .wrapping-add-u64 .ensures) (mod-lt (c .before .args .mark + c .before .args .bits) (lit< tt)) in
     record {
-      fits = halves (sum % 4294967296) (sum / 4294967296) (mod-lt sum (lit< tt)) (div-lt-iff-lt-mul (lit< tt) .1 small) }
+      fits = halves (sum % 4294967296) (sum / 4294967296) (mod-lt sum (lit< tt)) (div-lt-iff-lt-mul (lit< tt) .1 small);
+    }
 
 returns : tie.Need-returns
 unfolding mixed

@@ -1,0 +1,42 @@
+-- What the check answers, by what is found: a law for each way out.
+use mathlib.Core.List.{List}
+use mathlib.Core.Path.{_≡_, refl, sym, ap}
+use Prim.Native.Nat.{ℕ, _-_, _<_, _≤_}
+use native.Mathlib.Omega.{arith}
+use borrow.Author.Tests.{eq-eqb, ne-eqb, le-leb, lt-leb, lt-ltb, le-ltb}
+use Rattle.answer.specs.declared.Answer.the-variants.{Done, BadRecord}
+use Rattle.pivots.specs.Words.{sizeAt, markAt}
+use Rattle.pivots.specs.Rule.{faultOf, checked}
+
+module _ (n : ℕ) (words : List ℕ) where
+  pub row-broken : {row : ℕ} → row ≡ faultOf n words → row < n → BadRecord row ≡ checked n words
+  unfolding checked
+  row-broken {row} e below = simp (← e, lt-ltb row n below)
+
+  module _ (rows : n ≤ faultOf n words) {mark : ℕ} (reads : mark ≡ markAt n words) where
+    pub unmarked : mark ≡ 0 → Done ≡ checked n words
+    unfolding checked
+    unmarked none = simp (le-ltb (faultOf n words) n rows, ← reads, none)
+
+    pub mark-above : n < mark → BadRecord n ≡ checked n words
+    unfolding checked
+    mark-above above = simp (le-ltb (faultOf n words) n rows, ← reads, ne-eqb mark 0 (λ e. omega arith), lt-leb mark n above)
+
+    module _ (set : 0 < mark) (below : mark ≤ n) {size : ℕ} (size-reads : size ≡ sizeAt words (mark - 1)) where
+      pub mark-broken : (size ≡ 1 → ⊥) → BadRecord n ≡ checked n words
+      unfolding checked
+      mark-broken other =
+          simp (
+            le-ltb (faultOf n words) n rows,
+            ← reads,
+            ne-eqb mark 0 (λ e. omega arith),
+            le-leb mark n below,
+            ← size-reads,
+            ne-eqb size 1 other,
+          )
+
+      pub mark-sound : size ≡ 1 → Done ≡ checked n words
+      unfolding checked
+      mark-sound one =
+          simp
+          (le-ltb (faultOf n words) n rows, ← reads, ne-eqb mark 0 (λ e. omega arith), le-leb mark n below, ← size-reads, one)

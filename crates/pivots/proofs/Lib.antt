@@ -1,0 +1,5 @@
+pub mod Blocks
+pub mod Faults
+pub mod Checked
+pub mod Boundaries
+pub mod Written
