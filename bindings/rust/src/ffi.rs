@@ -1,0 +1,69 @@
+//! The functions of liburgyelpat.a. `tests/declarations` holds these lines to the Rattle source.
+
+#[repr(C)]
+pub struct Determined {
+    pub answer: u64,
+    pub value: f64,
+}
+
+extern "C" {
+    pub fn urgyelpat_lblt_factor(a: *mut f64, a_length: usize, record: *mut u32, record_length: usize, n: usize)
+        -> u64;
+    pub fn urgyelpat_lblt_solve(
+        a: *const f64,
+        a_length: usize,
+        record: *const u32,
+        record_length: usize,
+        b: *mut f64,
+        b_length: usize,
+        n: usize,
+        columns: usize,
+    ) -> u64;
+    pub fn urgyelpat_lblt_determinant(
+        a: *const f64,
+        a_length: usize,
+        record: *const u32,
+        record_length: usize,
+        n: usize,
+    ) -> Determined;
+    pub fn urgyelpat_lblt_d(
+        a: *const f64,
+        a_length: usize,
+        record: *const u32,
+        record_length: usize,
+        d: *mut f64,
+        d_length: usize,
+        n: usize,
+    ) -> u64;
+    pub fn urgyelpat_lblt_l_permuted(
+        a: *const f64,
+        a_length: usize,
+        record: *const u32,
+        record_length: usize,
+        l: *mut f64,
+        l_length: usize,
+        n: usize,
+    ) -> u64;
+    pub fn urgyelpat_cholesky_factor(a: *mut f64, a_length: usize, room: usize, n: usize) -> u64;
+    pub fn urgyelpat_cholesky_extend(a: *mut f64, a_length: usize, room: usize, earlier: usize, n: usize) -> u64;
+    pub fn urgyelpat_cholesky_l(
+        a: *const f64,
+        a_length: usize,
+        l: *mut f64,
+        l_length: usize,
+        room: usize,
+        n: usize,
+    ) -> u64;
+    pub fn urgyelpat_cholesky_unpack(a: *mut f64, a_length: usize, room: usize, n: usize) -> u64;
+    pub fn urgyelpat_cholesky_determinant(a: *const f64, a_length: usize, room: usize, n: usize) -> Determined;
+    pub fn urgyelpat_udu_factor(
+        p: *const f64,
+        p_length: usize,
+        u: *mut f64,
+        u_length: usize,
+        d: *mut f64,
+        d_length: usize,
+        n: usize,
+    ) -> u64;
+    pub fn urgyelpat_first_twin(a: *const f64, a_length: usize, room: usize, n: usize) -> u64;
+}

@@ -1,0 +1,248 @@
+//! LBLT: P·A·Pᵀ = L·D·Lᵀ by Bunch and Kaufman's pivoting, for any symmetric matrix.
+//!
+//! The pivot record of a factor of order n has 2n + 1 words: the index and the size (1 or 2) of each row's pivot, then the
+//! mark, 0 or marked row + 1. [`factor`] writes it; the other calls check it. The record of another matrix of the same order
+//! may be a sound one, so keep a factor and its record together, as [`LBLT`] does.
+
+use crate::refusal::{done, value, Refusal};
+use crate::{ffi, kept};
+
+/// Factors the lower part of `a` (n·n numbers) in place and writes its pivot record (2n + 1 words).
+///
+/// A column that is zero when the factor reaches it is skipped, and the first such row is marked; only a solve refuses that.
+/// Refused by [`OutOfRange`](Refusal::OutOfRange), [`MatrixLength`](Refusal::MatrixLength),
+/// [`SliceLength`](Refusal::SliceLength).
+///
+/// ```
+/// let (mut a, mut record) = ([0.0, 1.0, 0.0, 4.0], [0; 5]);
+/// urgyelpat::lblt::factor(&mut a, &mut record, 2)?;
+/// assert_eq!(a, [4.0, 0.25, 0.0, -0.25]);
+/// assert_eq!(record, [1, 1, 1, 1, 0]);
+/// # Ok::<(), urgyelpat::Refusal>(())
+/// ```
+pub fn factor(a: &mut [f64], record: &mut [u32], n: usize) -> Result<(), Refusal> {
+    // SAFETY: each pointer and length are a slice's, and what is written is borrowed alone.
+    done(unsafe { ffi::urgyelpat_lblt_factor(a.as_mut_ptr(), a.len(), record.as_mut_ptr(), record.len(), n) })
+}
+
+/// Solves A·X = B in `b` (n·columns numbers), by a factor and its record.
+///
+/// Refused by [`OutOfRange`](Refusal::OutOfRange), [`MatrixLength`](Refusal::MatrixLength),
+/// [`SliceLength`](Refusal::SliceLength), [`BadRecord`](Refusal::BadRecord), [`ZeroMark`](Refusal::ZeroMark).
+///
+/// ```
+/// let mut b = [3.0, 5.0];
+/// urgyelpat::lblt::solve_mut(&[0.0, 1.0, 0.0, 0.0], &[1, 2, 1, 2, 0], &mut b, 2, 1)?;
+/// assert_eq!(b, [5.0, 3.0]);
+/// # Ok::<(), urgyelpat::Refusal>(())
+/// ```
+pub fn solve_mut(a: &[f64], record: &[u32], b: &mut [f64], n: usize, columns: usize) -> Result<(), Refusal> {
+    // SAFETY: each pointer and length are a slice's, and what is written is borrowed alone.
+    done(unsafe {
+        ffi::urgyelpat_lblt_solve(
+            a.as_ptr(),
+            a.len(),
+            record.as_ptr(),
+            record.len(),
+            b.as_mut_ptr(),
+            b.len(),
+            n,
+            columns,
+        )
+    })
+}
+
+/// The determinant by a factor and its record; 1 for order 0.
+///
+/// Refused by [`OutOfRange`](Refusal::OutOfRange), [`MatrixLength`](Refusal::MatrixLength),
+/// [`SliceLength`](Refusal::SliceLength), [`BadRecord`](Refusal::BadRecord).
+///
+/// ```
+/// use urgyelpat::{lblt, Refusal};
+///
+/// let a = [0.0, 1.0, 0.0, 0.0];
+/// assert_eq!(lblt::determinant(&a, &[1, 2, 1, 2, 0], 2), Ok(-1.0));
+/// assert_eq!(lblt::determinant(&a, &[1, 2, 9, 2, 0], 2), Err(Refusal::BadRecord { row: 0 }));
+/// ```
+pub fn determinant(a: &[f64], record: &[u32], n: usize) -> Result<f64, Refusal> {
+    // SAFETY: each pointer and length are a slice's.
+    value(unsafe { ffi::urgyelpat_lblt_determinant(a.as_ptr(), a.len(), record.as_ptr(), record.len(), n) })
+}
+
+/// Fills `d` (n·n numbers) with the block diagonal matrix of a factor.
+///
+/// Refused by [`OutOfRange`](Refusal::OutOfRange), [`MatrixLength`](Refusal::MatrixLength),
+/// [`SliceLength`](Refusal::SliceLength), [`BadRecord`](Refusal::BadRecord).
+///
+/// ```
+/// let mut d = [9.0; 4];
+/// urgyelpat::lblt::d(&[4.0, 0.25, 7.0, -0.25], &[1, 1, 1, 1, 0], &mut d, 2)?;
+/// assert_eq!(d, [4.0, 0.0, 0.0, -0.25]);
+/// # Ok::<(), urgyelpat::Refusal>(())
+/// ```
+pub fn d(a: &[f64], record: &[u32], d: &mut [f64], n: usize) -> Result<(), Refusal> {
+    // SAFETY: each pointer and length are a slice's, and what is written is borrowed alone.
+    done(unsafe {
+        ffi::urgyelpat_lblt_d(
+            a.as_ptr(),
+            a.len(),
+            record.as_ptr(),
+            record.len(),
+            d.as_mut_ptr(),
+            d.len(),
+            n,
+        )
+    })
+}
+
+/// Fills `l` (n·n numbers) with Pᵀ·L, so that the factored matrix is l·d·lᵀ up to rounding.
+///
+/// Refused by [`OutOfRange`](Refusal::OutOfRange), [`MatrixLength`](Refusal::MatrixLength),
+/// [`SliceLength`](Refusal::SliceLength), [`BadRecord`](Refusal::BadRecord).
+///
+/// ```
+/// let mut l = [9.0; 4];
+/// urgyelpat::lblt::l_permuted(&[4.0, 0.25, 7.0, -0.25], &[1, 1, 1, 1, 0], &mut l, 2)?;
+/// assert_eq!(l, [0.25, 1.0, 1.0, 0.0]);
+/// # Ok::<(), urgyelpat::Refusal>(())
+/// ```
+pub fn l_permuted(a: &[f64], record: &[u32], l: &mut [f64], n: usize) -> Result<(), Refusal> {
+    // SAFETY: each pointer and length are a slice's, and what is written is borrowed alone.
+    done(unsafe {
+        ffi::urgyelpat_lblt_l_permuted(
+            a.as_ptr(),
+            a.len(),
+            record.as_ptr(),
+            record.len(),
+            l.as_mut_ptr(),
+            l.len(),
+            n,
+        )
+    })
+}
+
+/// A factored symmetric matrix with its pivot record.
+///
+/// ```
+/// use urgyelpat::LBLT;
+///
+/// let factor = LBLT::new(vec![0.0, 1.0, 0.0, 4.0], 2)?;
+/// assert_eq!(factor.solve(&[1.0, 6.0])?, [2.0, 1.0]);
+/// assert_eq!(factor.determinant(), -1.0);
+/// assert_eq!(factor.zero_pivot(), None);
+/// # Ok::<(), urgyelpat::Refusal>(())
+/// ```
+#[derive(Clone, Debug, PartialEq)]
+pub struct LBLT {
+    matrix: Vec<f64>,
+    record: Vec<u32>,
+    order: usize,
+}
+
+/// Why the calls on an own factor are not refused by size or record: both come from the factor call.
+const OWN: &str = "the factor call's own record and sizes are accepted";
+
+impl LBLT {
+    /// Factors a symmetric matrix of order n, n·n numbers, of which the lower part is read.
+    ///
+    /// Refused by [`OutOfRange`](Refusal::OutOfRange) and [`MatrixLength`](Refusal::MatrixLength). A matrix with no unique
+    /// solution is factored too: see [`zero_pivot`](LBLT::zero_pivot).
+    pub fn new(mut matrix: Vec<f64>, n: usize) -> Result<LBLT, Refusal> {
+        let mut record = vec![0; 2 * kept(n) + 1];
+        factor(&mut matrix, &mut record, n)?;
+        Ok(LBLT {
+            matrix,
+            record,
+            order: n,
+        })
+    }
+
+    /// The number of rows.
+    pub fn order(&self) -> usize {
+        self.order
+    }
+
+    /// The factor as it stands, n·n numbers; above the diagonal they are those of the given matrix.
+    pub fn matrix(&self) -> &[f64] {
+        &self.matrix
+    }
+
+    /// The pivot record as it stands, 2n + 1 words.
+    pub fn record(&self) -> &[u32] {
+        &self.record
+    }
+
+    /// The pivot of each row, as (index, block size).
+    pub fn pivots(&self) -> impl Iterator<Item = (usize, usize)> + '_ {
+        self.record
+            .chunks_exact(2)
+            .map(|pivot| (pivot[0] as usize, pivot[1] as usize))
+    }
+
+    /// The first row at which the factor met a zero column, in the factor's own order of rows.
+    pub fn zero_pivot(&self) -> Option<usize> {
+        (self.record[2 * self.order] as usize).checked_sub(1)
+    }
+
+    /// The solution of A·X = B. `b` has n numbers for each right-hand side, one after the other.
+    ///
+    /// Refused by [`OutOfRange`](Refusal::OutOfRange) and [`SliceLength`](Refusal::SliceLength) for `b`, and by
+    /// [`ZeroMark`](Refusal::ZeroMark) exactly if there is a [`zero_pivot`](LBLT::zero_pivot).
+    pub fn solve(&self, b: &[f64]) -> Result<Vec<f64>, Refusal> {
+        let mut x = b.to_vec();
+        self.solve_mut(&mut x)?;
+        Ok(x)
+    }
+
+    /// [`solve`](LBLT::solve) in place; a refusal leaves `b` as it was.
+    ///
+    /// ```
+    /// use urgyelpat::{Refusal, LBLT};
+    ///
+    /// let factor = LBLT::new(vec![0.0, 1.0, 0.0, 0.0], 2)?;
+    /// let mut sides = [3.0, 5.0, 1.0, 0.0];
+    /// factor.solve_mut(&mut sides)?;
+    /// assert_eq!(sides, [5.0, 3.0, 0.0, 1.0]);
+    ///
+    /// let singular = LBLT::new(vec![1.0, 1.0, 0.0, 1.0], 2)?;
+    /// assert_eq!(singular.solve_mut(&mut sides), Err(Refusal::ZeroMark { row: 1 }));
+    /// assert_eq!(sides, [5.0, 3.0, 0.0, 1.0]);
+    /// # Ok::<(), Refusal>(())
+    /// ```
+    pub fn solve_mut(&self, b: &mut [f64]) -> Result<(), Refusal> {
+        // a rest is refused by the call, since b is then longer than the whole columns
+        let columns = b.len().checked_div(self.order).unwrap_or(0);
+        solve_mut(&self.matrix, &self.record, b, self.order, columns)
+    }
+
+    /// The determinant; 1 for order 0.
+    pub fn determinant(&self) -> f64 {
+        determinant(&self.matrix, &self.record, self.order).expect(OWN)
+    }
+
+    /// The block diagonal matrix D, n·n numbers.
+    ///
+    /// ```
+    /// let factor = urgyelpat::LBLT::new(vec![0.0, 1.0, 7.0, 0.0], 2)?;
+    /// assert_eq!(factor.d(), [0.0, 1.0, 1.0, 0.0]);
+    /// # Ok::<(), urgyelpat::Refusal>(())
+    /// ```
+    pub fn d(&self) -> Vec<f64> {
+        let mut filled = vec![0.0; self.matrix.len()];
+        d(&self.matrix, &self.record, &mut filled, self.order).expect(OWN);
+        filled
+    }
+
+    /// The factor Pᵀ·L, n·n numbers: the matrix is l·d·lᵀ up to rounding.
+    ///
+    /// ```
+    /// let factor = urgyelpat::LBLT::new(vec![0.0, 1.0, 7.0, 4.0], 2)?;
+    /// assert_eq!(factor.l_permuted(), [0.25, 1.0, 1.0, 0.0]);
+    /// # Ok::<(), urgyelpat::Refusal>(())
+    /// ```
+    pub fn l_permuted(&self) -> Vec<f64> {
+        let mut filled = vec![0.0; self.matrix.len()];
+        l_permuted(&self.matrix, &self.record, &mut filled, self.order).expect(OWN);
+        filled
+    }
+}

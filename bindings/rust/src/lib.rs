@@ -1,0 +1,62 @@
+//! LBLT, Cholesky and UDU factors of symmetric `f64` matrices, proved to follow nalgebra's steps to the bit.
+//!
+//! This crate is a safe face of `liburgyelpat.a`. Each call of that library is proved, on every input, to give the answer and
+//! to leave the slices that its page here says; docs/PROMISES.md of the repository has the exact promises. What this crate adds
+//! is tested and not proved.
+//!
+//! ```
+//! use urgyelpat::LBLT;
+//!
+//! // the symmetric matrix with the lower rows 4 / 2 3, column by column; the entry above the diagonal is not read
+//! let factor = LBLT::new(vec![4.0, 2.0, 0.0, 3.0], 2)?;
+//! assert_eq!(factor.determinant(), 8.0);
+//! assert_eq!(factor.solve(&[8.0, 8.0])?, [1.0, 2.0]);
+//! # Ok::<(), urgyelpat::Refusal>(())
+//! ```
+//!
+//! # Two faces
+//!
+//! - [`LBLT`], [`Cholesky`] and [`UDU`] own their numbers and carry nalgebra's names.
+//! - The modules [`lblt`], [`cholesky`] and [`udu`] have a function for each call of the library, over slices that the caller
+//!   lends. They take no memory. [`first_twin`] is one of them.
+//!
+//! # Matrices
+//!
+//! A matrix stands column by column: entry (i, j) of an n-by-n matrix is at `i + j * n`. In a Cholesky room s it is at
+//! `i + j * s`, and what is outside the first n rows and columns is kept. Of a symmetric matrix LBLT, Cholesky and
+//! [`first_twin`] look at the entries with i ≥ j alone, UDU at those with i ≤ j. Orders, rooms and column counts go up to
+//! [`LARGEST`]. Every `f64` is a content, infinities and NaN too; which NaN a result holds is not promised.
+//!
+//! # Where it runs
+//!
+//! The library is compiled for x86-64 Linux. The build takes it from the folder that `URGYELPAT_LIB_DIR` names, or from
+//! target/staticlib of the repository, where `rt staticlib urgyelpat` writes it.
+
+#![warn(missing_docs)]
+
+mod ffi;
+mod refusal;
+
+pub mod cholesky;
+pub mod lblt;
+pub mod udu;
+
+mod twins;
+
+pub use cholesky::Cholesky;
+pub use lblt::LBLT;
+pub use refusal::Refusal;
+pub use twins::{first_twin, Twins};
+pub use udu::UDU;
+
+/// The largest order, room and column count.
+pub const LARGEST: usize = 1024;
+
+/// The order to take memory for: 0 above [`LARGEST`], where a call is refused before it looks at a length.
+fn kept(order: usize) -> usize {
+    if order <= LARGEST {
+        order
+    } else {
+        0
+    }
+}

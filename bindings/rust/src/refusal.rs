@@ -1,0 +1,131 @@
+use std::error::Error;
+use std::fmt;
+
+use crate::ffi::Determined;
+
+/// Why a call was refused, and where.
+///
+/// The checks run in the order of the codes, and the first that fails is the answer. A refusal by 1 to 6 leaves every slice as
+/// it was; what 7 and 8 leave is said at the calls that give them.
+#[derive(Clone, Copy, Debug, PartialEq, Eq, Hash)]
+#[non_exhaustive]
+pub enum Refusal {
+    /// Code 1: an order, room or column count is above [`LARGEST`](crate::LARGEST), or UDU has order 0.
+    OutOfRange,
+    /// Code 2: Cholesky's order is above its room, or the earlier order above the order.
+    OrderAboveRoom,
+    /// Code 3: the first matrix has the wrong length.
+    MatrixLength,
+    /// Code 4: another slice has the wrong length.
+    SliceLength,
+    /// Code 5: the pivot record breaks its rule.
+    BadRecord {
+        /// The first row that breaks it, or the order if the mark does.
+        row: usize,
+    },
+    /// Code 6: no solution is given, since the factor met a zero column.
+    ZeroMark {
+        /// The row where it did, in the factor's own order of rows.
+        row: usize,
+    },
+    /// Code 7: a diagonal of Cholesky is zero, negative or NaN.
+    NotPositive {
+        /// Its row and column.
+        column: usize,
+    },
+    /// Code 8: a diagonal of UDU is zero.
+    ZeroDiagonal {
+        /// Its row and column.
+        column: usize,
+    },
+}
+
+impl Refusal {
+    /// The code on the stand.
+    pub fn code(self) -> u32 {
+        match self {
+            Refusal::OutOfRange => 1,
+            Refusal::OrderAboveRoom => 2,
+            Refusal::MatrixLength => 3,
+            Refusal::SliceLength => 4,
+            Refusal::BadRecord { .. } => 5,
+            Refusal::ZeroMark { .. } => 6,
+            Refusal::NotPositive { .. } => 7,
+            Refusal::ZeroDiagonal { .. } => 8,
+        }
+    }
+
+    /// The place on the stand; 0 where the refusal names none.
+    pub fn place(self) -> usize {
+        match self {
+            Refusal::OutOfRange | Refusal::OrderAboveRoom | Refusal::MatrixLength | Refusal::SliceLength => 0,
+            Refusal::BadRecord { row } | Refusal::ZeroMark { row } => row,
+            Refusal::NotPositive { column } | Refusal::ZeroDiagonal { column } => column,
+        }
+    }
+}
+
+impl fmt::Display for Refusal {
+    fn fmt(&self, f: &mut fmt::Formatter<'_>) -> fmt::Result {
+        match *self {
+            Refusal::OutOfRange => write!(
+                f,
+                "an order, a room or a column count is above 1,024, or a UDU of order 0 was asked for: check the sizes that were sent"
+            ),
+            Refusal::OrderAboveRoom => write!(
+                f,
+                "the rows do not fit the room, or more rows are said to be factored than there are: lend a larger room, or check the two orders"
+            ),
+            Refusal::MatrixLength => write!(
+                f,
+                "the matrix does not have order times order numbers (for a Cholesky, room times room): check that it arrived whole"
+            ),
+            Refusal::SliceLength => write!(
+                f,
+                "the pivot record, the right-hand sides, the new rows or the matrix to fill do not have the length that the order asks for: check that they belong to this matrix"
+            ),
+            Refusal::BadRecord { row } => write!(
+                f,
+                "the pivot record is damaged at row {row} (at its mark, if the order is {row}): take the record that the factor call wrote, or factor the matrix again"
+            ),
+            Refusal::ZeroMark { row } => write!(
+                f,
+                "the matrix has no unique solution as far as the factor can tell: at its row {row} it had nothing left to divide by. Look for a row of zeros, a broken reading or a batch that came twice"
+            ),
+            Refusal::NotPositive { column } => write!(
+                f,
+                "row {column} adds nothing to the rows before it, or contradicts them: its diagonal became zero, negative or NaN. Leave its batch out, or measure it again"
+            ),
+            Refusal::ZeroDiagonal { column } => write!(
+                f,
+                "row {column} adds nothing to the rows after it: its diagonal became zero. Leave its batch out, or measure it again"
+            ),
+        }
+    }
+}
+
+impl Error for Refusal {}
+
+/// The refusal of an answer's number, code·4,096 + place, or `Ok` for 0.
+pub(crate) fn done(answer: u64) -> Result<(), Refusal> {
+    let place = (answer % 4096) as usize;
+    Err(match answer / 4096 {
+        0 => return Ok(()),
+        1 => Refusal::OutOfRange,
+        2 => Refusal::OrderAboveRoom,
+        3 => Refusal::MatrixLength,
+        4 => Refusal::SliceLength,
+        5 => Refusal::BadRecord { row: place },
+        6 => Refusal::ZeroMark { row: place },
+        7 => Refusal::NotPositive { column: place },
+        8 => Refusal::ZeroDiagonal { column: place },
+        code => {
+            panic!("liburgyelpat.a answers code {code}, which this crate does not know: build both from one version")
+        }
+    })
+}
+
+/// The value of a determinant call, or its refusal.
+pub(crate) fn value(determined: Determined) -> Result<f64, Refusal> {
+    done(determined.answer).map(|()| determined.value)
+}

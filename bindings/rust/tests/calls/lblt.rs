@@ -1,0 +1,69 @@
+use crate::numbers::{apart, bits, product, transposed, Numbers};
+use urgyelpat::{Refusal, LARGEST, LBLT};
+
+#[test]
+fn a_block_of_two_stands_in_the_record() {
+    let factor = LBLT::new(vec![0.0, 1.0, 7.0, 0.0], 2).unwrap();
+    assert_eq!(factor.order(), 2);
+    assert_eq!(factor.matrix(), [0.0, 1.0, 7.0, 0.0]);
+    assert_eq!(factor.record(), [1, 2, 1, 2, 0]);
+    assert_eq!(factor.pivots().collect::<Vec<_>>(), [(1, 2), (1, 2)]);
+    assert_eq!(factor.zero_pivot(), None);
+    assert_eq!(factor.solve(&[3.0, 5.0]).unwrap(), [5.0, 3.0]);
+    assert_eq!(factor.determinant(), -1.0);
+}
+
+#[test]
+fn a_marked_matrix_is_factored_and_not_solved() {
+    let factor = LBLT::new(vec![0.0, f64::NAN, 7.0, 5.0], 2).unwrap();
+    assert_eq!(factor.zero_pivot(), Some(0));
+    assert_eq!(factor.solve(&[3.0, 5.0]), Err(Refusal::ZeroMark { row: 0 }));
+    assert_eq!(factor.determinant(), 0.0);
+    assert_eq!(factor.d(), [0.0, 0.0, 0.0, 5.0]);
+}
+
+#[test]
+fn order_0_has_determinant_1() {
+    let factor = LBLT::new(vec![], 0).unwrap();
+    assert_eq!(factor.determinant(), 1.0);
+    assert_eq!(factor.solve(&[]).unwrap(), []);
+    assert_eq!(factor.d(), []);
+    assert_eq!(factor.l_permuted(), []);
+    assert_eq!(factor.zero_pivot(), None);
+    assert_eq!(factor.solve(&[1.0]), Err(Refusal::SliceLength));
+}
+
+#[test]
+fn the_factors_multiply_back_and_the_solution_solves() {
+    for n in 1..=24 {
+        let mut numbers = Numbers(n as u64);
+        let a = numbers.symmetric(n);
+        let factor = LBLT::new(a.clone(), n).unwrap();
+        let l = factor.l_permuted();
+        let back = product(&product(&l, &factor.d(), n), &transposed(&l, n), n);
+        assert!(apart(&back, &a) < 1e-12 * n as f64, "order {n}");
+
+        let b: Vec<f64> = (0..n * n).map(|_| numbers.next()).collect();
+        let x = factor.solve(&b).unwrap();
+        let size = x.iter().fold(1.0, |most: f64, entry| most.max(entry.abs()));
+        assert!(apart(&product(&a, &x, n), &b) < 1e-12 * n as f64 * size, "order {n}");
+        for (column, solved) in b.chunks(n).zip(x.chunks(n)) {
+            assert_eq!(bits(&factor.solve(column).unwrap()), bits(solved), "order {n}");
+        }
+    }
+}
+
+#[test]
+fn sizes_that_do_not_fit_are_refused() {
+    assert_eq!(LBLT::new(vec![1.0; 4], LARGEST + 1), Err(Refusal::OutOfRange));
+    assert_eq!(LBLT::new(vec![], usize::MAX), Err(Refusal::OutOfRange));
+    assert_eq!(LBLT::new(vec![1.0; 3], 2), Err(Refusal::MatrixLength));
+    assert_eq!(LBLT::new(vec![1.0; 5], 2), Err(Refusal::MatrixLength));
+    let factor = LBLT::new(vec![1.0], 1).unwrap();
+    assert_eq!(factor.solve(&[2.0; LARGEST]).unwrap(), [2.0; LARGEST]);
+    assert_eq!(factor.solve(&[2.0; LARGEST + 1]), Err(Refusal::OutOfRange));
+    let factor = LBLT::new(vec![1.0, 0.0, 0.0, 1.0], 2).unwrap();
+    let mut b = [1.0, 2.0, 3.0];
+    assert_eq!(factor.solve_mut(&mut b), Err(Refusal::SliceLength));
+    assert_eq!(b, [1.0, 2.0, 3.0]);
+}

@@ -1,0 +1,48 @@
+//! Each refusal through the library, with its code, its place and its sentence.
+
+use urgyelpat::{cholesky, lblt, udu, Refusal};
+
+fn all() -> Vec<Refusal> {
+    let a = [1.0, 0.0, 0.0, 1.0];
+    let mut b = [1.0; 2];
+    let mut u = [0.0; 4];
+    vec![
+        cholesky::determinant(&a, 2, 1025).unwrap_err(),
+        cholesky::extend(&mut a.clone(), 2, 2, 1).unwrap_err(),
+        cholesky::unpack(&mut a.clone(), 3, 2).unwrap_err(),
+        cholesky::l(&a, &mut b, 2, 2).unwrap_err(),
+        lblt::determinant(&a, &[0, 1, 2, 1, 0], 2).unwrap_err(),
+        lblt::solve_mut(&a, &[0, 1, 1, 1, 2], &mut b, 2, 1).unwrap_err(),
+        cholesky::factor(&mut [1.0, 1.0, 0.0, 1.0], 2, 2).unwrap_err(),
+        udu::factor(&[1.0, 0.0, 1.0, 0.0], &mut u, &mut b, 2).unwrap_err(),
+    ]
+}
+
+#[test]
+fn each_has_its_code_and_place() {
+    let expected = [
+        Refusal::OutOfRange,
+        Refusal::OrderAboveRoom,
+        Refusal::MatrixLength,
+        Refusal::SliceLength,
+        Refusal::BadRecord { row: 1 },
+        Refusal::ZeroMark { row: 1 },
+        Refusal::NotPositive { column: 1 },
+        Refusal::ZeroDiagonal { column: 1 },
+    ];
+    assert_eq!(all(), expected);
+    for (at, refusal) in expected.into_iter().enumerate() {
+        assert_eq!(refusal.code() as usize, at + 1);
+        assert_eq!(refusal.place(), usize::from(at >= 4));
+    }
+}
+
+#[test]
+fn each_says_what_to_do_and_where() {
+    for refusal in all() {
+        let boxed: Box<dyn std::error::Error> = Box::new(refusal);
+        let sentence = boxed.to_string();
+        assert!(sentence.len() > 40, "{sentence}");
+        assert_eq!(sentence.contains("row 1"), refusal.place() == 1, "{sentence}");
+    }
+}

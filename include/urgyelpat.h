@@ -1,0 +1,164 @@
+/* urgyelpat.h: LBLT, Cholesky and UDU factors of symmetric matrices of doubles, from C and C++.
+ *
+ * The functions stand in liburgyelpat.a (`rt staticlib urgyelpat`), for x86-64 Linux. Each is proved to give the answer and
+ * to leave the buffers that this page says, on every input. docs/PROMISES.md has the exact promises.
+ *
+ * MATRICES are lent and stand column by column: entry (i, j), row i and column j counted from 0, of an n-by-n matrix is at
+ * i + j*n. A Cholesky matrix stands in a room s, at i + j*s; what is outside the first n rows and columns is kept. Of a
+ * symmetric matrix LBLT, Cholesky and `urgyelpat_first_twin` look at the entries with i >= j alone, UDU at those with i <= j.
+ * The others are neither read nor written, except where a call is said to fill a whole matrix.
+ *
+ * SLICES. Every slice is a pointer and then its length, counted in numbers and not in bytes. What is asked of a caller:
+ *   - The memory of the whole length is there, is initialised, and is aligned as its type is.
+ *   - Where a call writes a slice (a pointer without `const`), no other slice of that call overlaps it, and no other thread
+ *     reads or writes it during the call. Slices that are only read may be shared.
+ *   - A slice of length 0 is never read or written: its pointer may be anything, a null pointer too.
+ *   - The processor rounds to nearest and keeps subnormal numbers, as it does unless a program changes it. (A program that
+ *     is linked with -ffast-math changes it.)
+ * Nothing else is asked: sizes, lengths and contents that do not fit are refused by a number, and every double is a content,
+ * infinities and NaN too. A call keeps nothing after it returns, takes no memory of its own but stack, and ends.
+ *
+ * ANSWERS. An answer is code * 4096 + place; 0 is done. The checks run in the order of the codes, and the first that fails
+ * is the answer. After a refusal by 1 to 6 every buffer is as it was.
+ *
+ *   code                         given exactly if                                              place
+ *   0 URGYELPAT_DONE             the result stands in the buffers                              0
+ *   1 URGYELPAT_OUT_OF_RANGE     an order, room or column count is above 1024, or UDU has      0
+ *                                order 0
+ *   2 URGYELPAT_ORDER_ABOVE_ROOM Cholesky: order above room, or earlier order above order      0
+ *   3 URGYELPAT_MATRIX_LENGTH    the first matrix has the wrong length                         0
+ *   4 URGYELPAT_SLICE_LENGTH     another slice has the wrong length                            0
+ *   5 URGYELPAT_BAD_RECORD       the pivot record breaks its rule                              the row, or n for its mark
+ *   6 URGYELPAT_ZERO_MARK        solve: the record marks a zero column                         the marked row
+ *   7 URGYELPAT_NOT_POSITIVE     Cholesky: a diagonal is zero, negative or NaN                 its column j
+ *   8 URGYELPAT_ZERO_DIAGONAL    UDU: a diagonal is zero                                       its column j
+ *
+ * What stands in the buffers after 7 and 8 is said at the functions that give them. A NaN in a result is a NaN; which one
+ * (its sign and payload) is not promised. Everything else is promised to the bit.
+ */
+#ifndef URGYELPAT_H
+#define URGYELPAT_H
+
+#include <stddef.h>
+#include <stdint.h>
+
+#if defined(__cplusplus)
+#define URGYELPAT_MUST_USE [[nodiscard]]
+#elif defined(__GNUC__)
+#define URGYELPAT_MUST_USE __attribute__((warn_unused_result))
+#else
+#define URGYELPAT_MUST_USE
+#endif
+
+#ifdef __cplusplus
+extern "C" {
+#endif
+
+/* The largest order, room and column count. */
+#define URGYELPAT_LARGEST 1024u
+
+/* The codes of the table above. */
+#define URGYELPAT_DONE 0u
+#define URGYELPAT_OUT_OF_RANGE 1u
+#define URGYELPAT_ORDER_ABOVE_ROOM 2u
+#define URGYELPAT_MATRIX_LENGTH 3u
+#define URGYELPAT_SLICE_LENGTH 4u
+#define URGYELPAT_BAD_RECORD 5u
+#define URGYELPAT_ZERO_MARK 6u
+#define URGYELPAT_NOT_POSITIVE 7u
+#define URGYELPAT_ZERO_DIAGONAL 8u
+
+/* The code of an answer, and its place. */
+static inline uint32_t urgyelpat_code(uint64_t answer) { return (uint32_t)(answer / 4096u); }
+static inline uint32_t urgyelpat_place(uint64_t answer) { return (uint32_t)(answer % 4096u); }
+
+/* A determinant with its answer; the value is +0 where the call is refused. */
+typedef struct urgyelpat_determined {
+    uint64_t answer;
+    double value;
+} urgyelpat_determined;
+
+/* ---- LBLT: P A P^T = L D L^T, by Bunch and Kaufman's pivoting ----
+ *
+ * The pivot record has 2n + 1 words: for each row the index and the size (1 or 2) of its pivot, then the mark, 0 or marked
+ * row + 1. A factor call writes it and the calls that read the factor check it, so that a damaged one is refused by 5. (The
+ * record of another matrix of the same order may well be a sound one: keep a factor and its record together.) */
+
+/* Factors the lower part of a (n*n numbers) in place, and writes its record (2n + 1 words).
+ * A column that is zero when the factor reaches it is skipped; the first such row is marked in the record, the call is done
+ * all the same, and only a solve refuses it.
+ * Answers 0, 1, 3 (a), 4 (record). */
+URGYELPAT_MUST_USE uint64_t urgyelpat_lblt_factor(double *a, size_t a_length, uint32_t *record, size_t record_length, size_t n);
+
+/* Solves A X = B in b (n*columns numbers, column by column) by a factor and its record.
+ * Answers 0, 1, 3 (a), 4 (record or b), 5, 6. */
+URGYELPAT_MUST_USE uint64_t urgyelpat_lblt_solve(const double *a, size_t a_length, const uint32_t *record, size_t record_length,
+                                                 double *b, size_t b_length, size_t n, size_t columns);
+
+/* The determinant by a factor and its record; 1 for order 0. A marked record is accepted.
+ * Answers 0, 1, 3 (a), 4 (record), 5. */
+URGYELPAT_MUST_USE urgyelpat_determined urgyelpat_lblt_determinant(const double *a, size_t a_length, const uint32_t *record,
+                                                                   size_t record_length, size_t n);
+
+/* Fills d (n*n numbers) with the block diagonal matrix of a factor, zeros beside the blocks. A marked record is accepted.
+ * Answers 0, 1, 3 (a), 4 (record or d), 5. */
+URGYELPAT_MUST_USE uint64_t urgyelpat_lblt_d(const double *a, size_t a_length, const uint32_t *record, size_t record_length,
+                                             double *d, size_t d_length, size_t n);
+
+/* Fills l (n*n numbers) with P^T L, so that the factored matrix is l d l^T up to rounding. A marked record is accepted.
+ * Answers 0, 1, 3 (a), 4 (record or l), 5. */
+URGYELPAT_MUST_USE uint64_t urgyelpat_lblt_l_permuted(const double *a, size_t a_length, const uint32_t *record,
+                                                      size_t record_length, double *l, size_t l_length, size_t n);
+
+/* ---- Cholesky: A = L L^T, in a room, row batch by row batch ---- */
+
+/* Factors the first n rows and columns of the lower part of a (room*room numbers) in place.
+ * After 7 at column j: the columns before j are finished, column j is updated and not divided, later columns are as given.
+ * Answers 0, 1, 2, 3 (a), 7. */
+URGYELPAT_MUST_USE uint64_t urgyelpat_cholesky_factor(double *a, size_t a_length, size_t room, size_t n);
+
+/* Takes the first `earlier` rows as factored and factors the rows earlier to n - 1 in place, so that the batches of a matrix
+ * give what one call on the whole gives, to the bit, and are refused at the same row.
+ * After 7 at column j (earlier <= j): the rows from `earlier` on are left as by the factor call, the rows before as they were.
+ * Answers 0, 1, 2, 3 (a), 7. */
+URGYELPAT_MUST_USE uint64_t urgyelpat_cholesky_extend(double *a, size_t a_length, size_t room, size_t earlier, size_t n);
+
+/* Fills l (n*n numbers, entry (i, j) at i + j*n) with the factor that stands in a, zero above the diagonal.
+ * Answers 0, 1, 2, 3 (a), 4 (l). */
+URGYELPAT_MUST_USE uint64_t urgyelpat_cholesky_l(const double *a, size_t a_length, double *l, size_t l_length, size_t room,
+                                                 size_t n);
+
+/* Sets the entries (i, j) with i < j < n of a to zero, where they stand.
+ * Answers 0, 1, 2, 3 (a). */
+URGYELPAT_MUST_USE uint64_t urgyelpat_cholesky_unpack(double *a, size_t a_length, size_t room, size_t n);
+
+/* The determinant of the factored matrix, the square of the product of the diagonal; 1 for order 0.
+ * Answers 0, 1, 2, 3 (a). */
+URGYELPAT_MUST_USE urgyelpat_determined urgyelpat_cholesky_determinant(const double *a, size_t a_length, size_t room, size_t n);
+
+/* ---- UDU: P = U D U^T ---- */
+
+/* Fills u (n*n numbers) and d (n numbers) with the factors of p (n*n numbers), of which the upper part is read.
+ * After 8 at column j: d has the zero that was found at j and zeros before it, the columns up to j of u are zero, and what
+ * comes after j in both is finished. (At j = n - 1 all of u is zero.)
+ * Answers 0, 1, 3 (p), 4 (u or d), 8. */
+URGYELPAT_MUST_USE uint64_t urgyelpat_udu_factor(const double *p, size_t p_length, double *u, size_t u_length, double *d,
+                                                 size_t d_length, size_t n);
+
+/* ---- Twins: a row that came twice ---- */
+
+/* Looks for twin rows p < q among the first n rows of the symmetric matrix whose lower part stands in a (room*room numbers):
+ * the same numbers bit for bit, NaN equal to NaN. Finds the pair with the least q, and then the least p. Writes nothing.
+ * Answers 0 for no twins, (4096 + q) * 4096 + p for a pair, and refuses by 1, 2, 3 (a). */
+URGYELPAT_MUST_USE uint64_t urgyelpat_first_twin(const double *a, size_t a_length, size_t room, size_t n);
+
+/* Whether an answer of urgyelpat_first_twin is a pair, and if so its rows p and q. */
+static inline int urgyelpat_is_pair(uint64_t answer) { return urgyelpat_code(answer) >= 4096u; }
+static inline uint32_t urgyelpat_twin_p(uint64_t answer) { return urgyelpat_place(answer); }
+static inline uint32_t urgyelpat_twin_q(uint64_t answer) { return urgyelpat_code(answer) - 4096u; }
+
+#ifdef __cplusplus
+}
+#endif
+
+#endif

@@ -1,0 +1,29 @@
+/* Compiled as C11 and as C++17 with all warnings: every name of include/urgyelpat.h that needs no archive. */
+#include "urgyelpat.h"
+
+const char *meaning(uint64_t answer);
+
+const char *meaning(uint64_t answer)
+{
+    if (urgyelpat_is_pair(answer))
+        return urgyelpat_twin_p(answer) < urgyelpat_twin_q(answer) ? "twins" : "no answer";
+    if (urgyelpat_place(answer) > URGYELPAT_LARGEST)
+        return "no answer";
+    switch (urgyelpat_code(answer)) {
+    case URGYELPAT_DONE:
+        return "done";
+    case URGYELPAT_OUT_OF_RANGE:
+    case URGYELPAT_ORDER_ABOVE_ROOM:
+    case URGYELPAT_MATRIX_LENGTH:
+    case URGYELPAT_SLICE_LENGTH:
+        return "sizes";
+    case URGYELPAT_BAD_RECORD:
+    case URGYELPAT_ZERO_MARK:
+        return "record";
+    case URGYELPAT_NOT_POSITIVE:
+    case URGYELPAT_ZERO_DIAGONAL:
+        return "diagonal";
+    default:
+        return "no answer";
+    }
+}

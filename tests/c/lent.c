@@ -1,0 +1,179 @@
+#include "lent.h"
+#include <stdio.h>
+
+/* what is called of the C library besides printf */
+void *mmap(void *at, size_t bytes, int protection, int flags, int file, long offset);
+int mprotect(void *at, size_t bytes, int protection);
+int munmap(void *at, size_t bytes);
+void *malloc(size_t bytes);
+void free(void *memory);
+void abort(void);
+void _exit(int status);
+int fflush(void *file);
+void (*signal(int number, void (*handler)(int number)))(int number);
+void *memcpy(void *to, const void *from, size_t bytes);
+int memcmp(const void *one, const void *other, size_t bytes);
+
+enum { PAGE = 4096, FORBIDDEN = 0, READ_AND_WRITE = 3, PRIVATE_AND_ANONYMOUS = 0x22, SEGMENTATION_FAULT = 11 };
+
+static const unsigned char canary[8] = {0xca, 0x4a, 0x12, 0x9e, 0xd0, 0x0d, 0xf4, 0x7f};
+
+unsigned long calls_made, calls_wrong;
+
+static struct {
+    const char *function, *about;
+    placement where;
+    int wrong;
+} current;
+
+double from_bits(uint64_t bits)
+{
+    double number;
+    memcpy(&number, &bits, sizeof number);
+    return number;
+}
+
+static uint64_t to_bits(double number)
+{
+    uint64_t bits;
+    memcpy(&bits, &number, sizeof bits);
+    return bits;
+}
+
+static lent lend(const void *given, size_t length, size_t width, placement where)
+{
+    size_t bytes = length * width;
+    size_t margin = where == BETWEEN_CANARIES ? 2 * PAGE : 0;
+    lent slice = {.length = length, .width = width, .null = given == NULL};
+    slice.open_bytes = (bytes / PAGE + 1) * PAGE + margin;
+    slice.mapped_bytes = slice.open_bytes + 2 * PAGE;
+    slice.mapped = mmap(NULL, slice.mapped_bytes, READ_AND_WRITE, PRIVATE_AND_ANONYMOUS, -1, 0);
+    slice.should = malloc(slice.open_bytes);
+    if (slice.mapped == (void *)-1 || slice.should == NULL)
+        abort();
+    slice.open = slice.mapped + PAGE;
+    slice.start = where == AT_THE_START ? 0 : where == AT_THE_END ? slice.open_bytes - bytes : PAGE;
+    for (size_t i = 0; i < slice.open_bytes; i++)
+        slice.open[i] = canary[i % sizeof canary];
+    if (bytes > 0)
+        memcpy(slice.open + slice.start, given, bytes);
+    memcpy(slice.should, slice.open, slice.open_bytes);
+    if (mprotect(slice.mapped, PAGE, FORBIDDEN) != 0 ||
+        mprotect(slice.open + slice.open_bytes, PAGE, FORBIDDEN) != 0)
+        abort();
+    return slice;
+}
+
+lent lend_numbers(numbers given, placement where)
+{
+    return lend(given.at, given.length, sizeof(double), where);
+}
+
+lent lend_words(words given, placement where)
+{
+    return lend(given.at, given.length, sizeof(uint32_t), where);
+}
+
+double *numbers_at(const lent *slice)
+{
+    return slice->null ? NULL : (double *)(void *)(slice->open + slice->start);
+}
+
+uint32_t *words_at(const lent *slice)
+{
+    return slice->null ? NULL : (uint32_t *)(void *)(slice->open + slice->start);
+}
+
+void called(const char *function, const char *about, placement where)
+{
+    current.function = function;
+    current.about = about;
+    current.where = where;
+    current.wrong = 0;
+    calls_made++;
+}
+
+static void wrong(void)
+{
+    static const char *const places[PLACEMENTS] = {"between canaries", "at the end", "at the start"};
+    if (!current.wrong)
+        calls_wrong++;
+    current.wrong = 1;
+    printf("WRONG %s, %s (slices %s): ", current.function, current.about, places[current.where]);
+}
+
+static void touched(int number)
+{
+    (void)number;
+    wrong();
+    printf("a page beside a slice was touched\n");
+    fflush(NULL);
+    _exit(1);
+}
+
+void watch_the_pages(void)
+{
+    signal(SEGMENTATION_FAULT, touched);
+}
+
+void answered(uint64_t got, uint64_t wanted)
+{
+    if (got == wanted)
+        return;
+    wrong();
+    printf("answer %lu place %lu, should be %lu place %lu\n", (unsigned long)(got / 4096u), (unsigned long)(got % 4096u),
+           (unsigned long)(wanted / 4096u), (unsigned long)(wanted % 4096u));
+}
+
+/* the same bits, or both a NaN where any NaN is wanted */
+static int meets(uint64_t got, uint64_t wanted)
+{
+    return got == wanted || (wanted == to_bits(NAN) && (got & 0x7fffffffffffffffu) > 0x7ff0000000000000u);
+}
+
+void valued(double got, double wanted)
+{
+    if (meets(to_bits(got), to_bits(wanted)))
+        return;
+    wrong();
+    printf("value %016lx, should be %016lx\n", (unsigned long)to_bits(got), (unsigned long)to_bits(wanted));
+}
+
+static void give_back(lent slice, const char *name)
+{
+    if (memcmp(slice.open, slice.should, slice.open_bytes) != 0) {
+        wrong();
+        printf("something beside %s was written\n", name);
+    }
+    munmap(slice.mapped, slice.mapped_bytes);
+    free(slice.should);
+}
+
+void left_numbers(lent slice, const char *name, numbers wanted)
+{
+    const double *got = (const double *)(const void *)(slice.open + slice.start);
+    if (wanted.length != slice.length)
+        abort();
+    for (size_t i = 0; i < slice.length; i++)
+        if (!meets(to_bits(got[i]), to_bits(wanted.at[i]))) {
+            wrong();
+            printf("%s[%lu] is %016lx, should be %016lx\n", name, (unsigned long)i, (unsigned long)to_bits(got[i]),
+                   (unsigned long)to_bits(wanted.at[i]));
+        }
+    memcpy(slice.should + slice.start, got, slice.length * slice.width);
+    give_back(slice, name);
+}
+
+void left_words(lent slice, const char *name, words wanted)
+{
+    const uint32_t *got = (const uint32_t *)(const void *)(slice.open + slice.start);
+    if (wanted.length != slice.length)
+        abort();
+    for (size_t i = 0; i < slice.length; i++)
+        if (got[i] != wanted.at[i]) {
+            wrong();
+            printf("%s[%lu] is %u, should be %u\n", name, (unsigned long)i, got[i], wanted.at[i]);
+        }
+    memcpy(slice.should + slice.start, got, slice.length * slice.width);
+    give_back(slice, name);
+}

@@ -1,0 +1,75 @@
+/* Memory that is lent to a call, and the comparison of what the call leaves there, word for word.
+ *
+ * Every call is made three times, its slices placed three ways: between canaries, at the end of the memory (the page behind
+ * the slice cannot be touched), and at its start (the page before cannot). What lies around a slice is compared too. */
+#ifndef LENT_H
+#define LENT_H
+
+#include <stddef.h>
+#include <stdint.h>
+
+typedef struct {
+    const double *at;
+    size_t length;
+} numbers;
+
+typedef struct {
+    const uint32_t *at;
+    size_t length;
+} words;
+
+#define NUMBERS(...) ((numbers){(const double[]){__VA_ARGS__}, sizeof((const double[]){__VA_ARGS__}) / sizeof(double)})
+#define WORDS(...) ((words){(const uint32_t[]){__VA_ARGS__}, sizeof((const uint32_t[]){__VA_ARGS__}) / sizeof(uint32_t)})
+/* A slice of length 0, lent as a null pointer. */
+#define NO_NUMBERS ((numbers){NULL, 0})
+#define NO_WORDS ((words){NULL, 0})
+
+/* The double with these bits. */
+double from_bits(uint64_t bits);
+
+#define INF __builtin_inf()
+/* A NaN that a call works out: any NaN meets it. */
+#define NAN from_bits(0x7ff8000000000000u)
+/* A NaN of its own pattern, for what no call may touch: only itself meets it. */
+#define KEPT from_bits(0x7ff4b1ade5eed001u)
+
+typedef enum { BETWEEN_CANARIES, AT_THE_END, AT_THE_START, PLACEMENTS } placement;
+
+typedef struct {
+    unsigned char *mapped; /* all that was mapped, with the two pages that cannot be touched */
+    size_t mapped_bytes;
+    unsigned char *open; /* what can be touched */
+    size_t open_bytes;
+    unsigned char *should; /* what should stand there after the call */
+    size_t start;          /* of the slice, in bytes from `open` */
+    size_t length;
+    size_t width; /* of one element, in bytes */
+    int null;
+} lent;
+
+lent lend_numbers(numbers given, placement where);
+lent lend_words(words given, placement where);
+
+/* The pointer to pass. */
+double *numbers_at(const lent *slice);
+uint32_t *words_at(const lent *slice);
+
+/* From here on a touch of a page beside a slice is reported, with the call that did it. */
+void watch_the_pages(void);
+
+/* One call: its function, what it is about, and its answer. */
+void called(const char *function, const char *about, placement where);
+void answered(uint64_t got, uint64_t wanted);
+void valued(double got, double wanted);
+
+/* After the call the slice should hold this, and all around it be as it was. Gives the memory back. */
+void left_numbers(lent slice, const char *name, numbers wanted);
+void left_words(lent slice, const char *name, words wanted);
+
+/* How many calls were made, and how many of them did something wrong. */
+extern unsigned long calls_made, calls_wrong;
+
+/* The number of an answer. */
+#define ANSWER(code, place) ((uint64_t)(code) * 4096u + (uint64_t)(place))
+
+#endif
