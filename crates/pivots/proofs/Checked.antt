@@ -1,9 +1,9 @@
 -- What the check answers, by what is found: a law for each way out.
 use mathlib.Core.List.{List}
-use mathlib.Core.Path.{_≡_, refl, sym, ap}
+use mathlib.Core.Path.{_≡_}
 use Prim.Native.Nat.{ℕ, _-_, _<_, _≤_}
 use native.Mathlib.Omega.{arith}
-use borrow.Author.Tests.{eq-eqb, ne-eqb, le-leb, lt-leb, lt-ltb, le-ltb}
+use borrow.Author.Tests.{ne-eqb, le-leb, lt-leb, lt-ltb, le-ltb}
 use Rattle.answer.specs.declared.Answer.the-variants.{Done, BadRecord}
 use Rattle.pivots.specs.Words.{sizeAt, markAt}
 use Rattle.pivots.specs.Rule.{faultOf, checked}

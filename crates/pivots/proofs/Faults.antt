@@ -7,9 +7,9 @@ use mathlib.Core.Path.{_≡_, refl, sym, ap, _∙_}
 use mathlib.Core.Logic.{⊎-elim}
 use Prim.Native.Nat.{ℕ, zero, suc, _+_, _<_, _≤_}
 use native.Mathlib.Omega.{arith}
-use borrow.Author.Tests.{eq-eqb, ne-eqb, le-ltb, lt-ltb}
+use borrow.Author.Tests.{ne-eqb, le-ltb, lt-ltb}
 use Rattle.pivots.specs.Rule.{blockOf, faultFrom, faultOf}
-use Rattle.pivots.proofs.Blocks.{One, Two, one-rows, two-rows, block-found}
+use Rattle.pivots.proofs.Blocks.{one-rows, two-rows, block-found}
 
 pub record Going (n : ℕ) (words : List ℕ) (k : ℕ) : Type 0 where
   pub fuel : ℕ

@@ -13,7 +13,7 @@ use lib.Seq.{getD-set-same, getD-set-other}
 use Rattle.answer.specs.declared.Answer.the-variants.{Done}
 use Rattle.pivots.specs.Words.{indexWord, sizeWord, markWord, indexAt, sizeAt, markAt, Sized, paired, marked}
 use Rattle.pivots.specs.Rule.{faultOf, checked, Accepted}
-use Rattle.pivots.proofs.Blocks.{One, Two, one-rows, two-rows}
+use Rattle.pivots.proofs.Blocks.{one-rows, two-rows}
 use Rattle.pivots.proofs.Faults.{Going, going-none, going-more, going-all}
 use Rattle.pivots.proofs.Checked.{unmarked, mark-sound}
 use Rattle.pivots.proofs.Boundaries.{Upto, start, one, two}

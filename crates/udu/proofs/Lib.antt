@@ -1,0 +1,12 @@
+pub mod Written
+pub mod Totals
+pub mod Offsets
+pub mod Joined
+pub mod Crossing
+pub mod Rows
+pub mod Filled
+pub mod Reached
+pub mod Bridge
+pub mod Over
+pub mod Sizes
+pub mod Unique

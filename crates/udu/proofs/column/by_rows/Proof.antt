@@ -1,0 +1,100 @@
+-- `by_rows` meets its contract. Assumes nothing.
+use mathlib.Core.Path.{_∙_}
+use Prim.Native.Nat.{_+_, _-_, _*_}
+use native.Mathlib.Omega.{arith}
+use denote.Ref.{now}
+use lib.ListN.{length-set}
+use Rattle.matrix.proofs.Places.{digits-within}
+use Rattle.udu.specs.Columns.{earlierEntry}
+use Rattle.udu.specs.Leaves.{squareOf, foundIn}
+use Rattle.udu.proofs.Written.{Writing, writing-none, writing-more, writing-all}
+use Rattle.udu.proofs.Joined.{with-diagonal}
+use Rattle.udu.proofs.Rows.{row-entry}
+use borrow.Author.Needs.{needs}
+use Rattle.udu.proofs.column.by_rows.Statement.{statement}
+use Rattle.udu.proofs.column.by_rows.Tie as tie
+
+abbrev Inv-loop : tie.InvT-loop
+Inv-loop p u₀ d j n x at i₀ u i = Writing u₀ u (j * n) j (earlierEntry (squareOf n p) (foundIn n u₀ d) x j (n - (j + 1))) i
+
+abbrev μ-loop : tie.MeasureT-loop
+μ-loop p u₀ d j n x at i₀ u i = j - i
+
+mul-at : tie.Need-mul-at Inv-loop μ-loop
+mul-at c = omega (arith, c .before .before .before .pre .0 .matrix, digits-within (c .before .before .before .args .n) (c .before .before .before .args .n) (c .before .before .before .args .j) (c .before .before .before .args .j) (c .before .before .before .pre .1) (c .before .before .before .pre .1))
+
+loop-holds : tie.Need-loop-holds Inv-loop μ-loop
+loop-holds c = writing-none
+
+add-u : tie.Need-add-u Inv-loop μ-loop
+add-u c = omega (arith, c .before .before .before .before .before .pre .0 .matrix, c .loop-test .taken, digits-within (c .before .before .before .before .before .args .n) (c .before .before .before .before .before .args .n) (c .before .before .before .before .before .args .j) (c .before .before .before .before .before .args .j) (c .before .before .before .before .before .pre .1) (c .before .before .before .before .before .pre .1))
+
+mul-u : tie.Need-mul-u Inv-loop μ-loop
+mul-u c = omega (arith, c .before .before .before .before .before .pre .0 .matrix, c .loop-test .taken, digits-within (c .before .before .before .before .before .args .n) (c .before .before .before .before .before .args .n) (c .before .before .before .before .before .args .j) (c .before .before .before .before .before .args .j) (c .before .before .before .before .before .pre .1) (c .before .before .before .before .before .pre .1))
+
+shared-slice-read-u : tie.Need-shared-slice-read-u Inv-loop μ-loop
+shared-slice-read-u c = omega (arith, c .before .before .before .before .before .before .pre .0 .matrix, c .before .loop-test .taken, digits-within (c .before .before .before .before .before .before .args .n) (c .before .before .before .before .before .before .args .n) (c .before .before .before .before .before .before .args .j) (c .before .before .before .before .before .before .args .j) (c .before .before .before .before .before .before .pre .1) (c .before .before .before .before .before .before .pre .1))
+
+row-requires : tie.Need-row-requires Inv-loop μ-loop
+row-requires c κs = (c .before .before .loop-test .taken, (c .before .before .before .before .before .before .before .pre .1, (c .before .before .before .before .before .before .before .pre .0 .high, (c .before .before .before .loop .inv .part .long ∙ c .before .before .before .before .before .before .before .pre .0 .upper, c .before .before .before .before .before .before .before .pre .0 .diagonal))))
+
+add-u-2 : tie.Need-add-u-2 Inv-loop μ-loop
+add-u-2 c = omega (arith, c .before .before .before .before .before .before .before .before .pre .0 .matrix, c .before .before .before .before .before .before .before .before .good, c .before .before .before .loop-test .taken, digits-within (c .before .before .before .before .before .before .before .before .args .n) (c .before .before .before .before .before .before .before .before .args .n) (c .before .before .before .before .before .before .before .before .args .j) (c .before .before .before .before .before .before .before .before .args .j) (c .before .before .before .before .before .before .before .before .pre .1) (c .before .before .before .before .before .before .before .before .pre .1))
+
+mul-u-2 : tie.Need-mul-u-2 Inv-loop μ-loop
+mul-u-2 c = omega (arith, c .before .before .before .before .before .before .before .before .pre .0 .matrix, c .before .before .before .before .before .before .before .before .good, c .before .before .before .loop-test .taken, digits-within (c .before .before .before .before .before .before .before .before .args .n) (c .before .before .before .before .before .before .before .before .args .n) (c .before .before .before .before .before .before .before .before .args .j) (c .before .before .before .before .before .before .before .before .args .j) (c .before .before .before .before .before .before .before .before .pre .1) (c .before .before .before .before .before .before .before .before .pre .1))
+
+slice-write-u : tie.Need-slice-write-u Inv-loop μ-loop
+slice-write-u c = omega (arith, c .before .before .before .before .loop .inv .part .long, c .before .before .before .before .before .before .before .before .pre .0 .upper, c .before .before .before .loop-test .taken, digits-within (c .before .before .before .before .before .before .before .before .args .n) (c .before .before .before .before .before .before .before .before .args .n) (c .before .before .before .before .before .before .before .before .args .j) (c .before .before .before .before .before .before .before .before .args .j) (c .before .before .before .before .before .before .before .before .pre .1) (c .before .before .before .before .before .before .before .before .pre .1))
+
+add-i : tie.Need-add-i Inv-loop μ-loop
+add-i c = search needs
+
+loop-less : tie.Need-loop-less Inv-loop μ-loop
+loop-less c = search needs
+
+loop-again : tie.Need-loop-again Inv-loop μ-loop
+loop-again c =
+    writing-more (c .before .before .before .before .loop .inv) (c .before .before .before .loop-test .taken) (omega (arith, c .before .before .before .before .before .before .before .before .pre .0 .upper, digits-within (c .before .before .before .before .before .before .before .before .args .n) (c .before .before .before .before .before .before .before .before .args .n) (c .before .before .before .before .before .before .before .before .args .j) (c .before .before .before .before .before .before .before .before .args .j) (c .before .before .before .before .before .before .before .before .pre .1) (c .before .before .before .before .before .before .before .before .pre .1)))
+    (row-entry (now (c .before .before .before .before .before .before .before .before .args .d)) (c .before .before .before .before .before .before .before .before .args .n) (c .before .before .before .before .before .before .before .before .args .j) (c .before .before .before .before .loop .i) (c .before .before .before .before .loop .inv) (c .before .before .before .before .before .before .before .before .pre .1) (now (c .before .before .before .before .before .before .before .before .args .p)) (c .before .before .before .before .before .before .before .before .args .x) (c .row .result) (c .before .before .before .loop-test .taken) (c .row .ensures))
+
+add-u-3 : tie.Need-add-u-3 Inv-loop μ-loop
+add-u-3 c = omega (arith, c .before .before .before .before .before .pre .0 .matrix, c .before .before .before .before .before .good, digits-within (c .before .before .before .before .before .args .n) (c .before .before .before .before .before .args .n) (c .before .before .before .before .before .args .j) (c .before .before .before .before .before .args .j) (c .before .before .before .before .before .pre .1) (c .before .before .before .before .before .pre .1))
+
+mul-u-3 : tie.Need-mul-u-3 Inv-loop μ-loop
+mul-u-3 c = omega (arith, c .before .before .before .before .before .pre .0 .matrix, c .before .before .before .before .before .good, digits-within (c .before .before .before .before .before .args .n) (c .before .before .before .before .before .args .n) (c .before .before .before .before .before .args .j) (c .before .before .before .before .before .args .j) (c .before .before .before .before .before .pre .1) (c .before .before .before .before .before .pre .1))
+
+slice-write-u-2 : tie.Need-slice-write-u-2 Inv-loop μ-loop
+slice-write-u-2 c = omega (arith, c .before .loop .inv .part .long, c .before .before .before .before .before .pre .0 .upper, digits-within (c .before .before .before .before .before .args .n) (c .before .before .before .before .before .args .n) (c .before .before .before .before .before .args .j) (c .before .before .before .before .before .args .j) (c .before .before .before .before .before .pre .1) (c .before .before .before .before .before .pre .1))
+
+same-length : tie.Need-same-length Inv-loop μ-loop
+same-length c = simp length-set (c .before .loop .inv .part .long)
+
+returns : tie.Need-returns Inv-loop μ-loop
+returns c =
+    with-diagonal (c .before .before .before .before .before .args .n) (c .before .before .before .before .before .args .j) (c .before .before .before .before .before .args .n - (c .before .before .before .before .before .args .j + 1)) (foundIn (c .before .before .before .before .before .args .n) (now (c .before .before .before .before .before .args .u)) (now (c .before .before .before .before .before .args .d))) (now (c .before .before .before .before .before .args .p)) (c .before .before .before .before .before .args .x)
+    (omega (arith, c .before .before .before .before .before .pre .0 .upper, digits-within (c .before .before .before .before .before .args .n) (c .before .before .before .before .before .args .n) (c .before .before .before .before .before .args .j) (c .before .before .before .before .before .args .j) (c .before .before .before .before .before .pre .1) (c .before .before .before .before .before .pre .1))) (writing-all (c .before .loop .inv) (c .loop-test .left))
+
+pub by-rows-spec : {M : Type 1} → statement M
+by-rows-spec =
+    tie.close
+    (tie.spec
+    Inv-loop
+    μ-loop
+    mul-at
+    loop-holds
+    add-u
+    mul-u
+    shared-slice-read-u
+    row-requires
+    add-u-2
+    mul-u-2
+    slice-write-u
+    add-i
+    loop-less
+    loop-again
+    add-u-3
+    mul-u-3
+    slice-write-u-2
+    same-length
+    returns)

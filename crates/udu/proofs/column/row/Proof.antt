@@ -1,0 +1,85 @@
+-- `row` meets its contract. Assumes nothing.
+use mathlib.Core.Path.{refl}
+use Prim.Native.Nat.{_+_, _-_}
+use native.Mathlib.Omega.{arith}
+use Rattle.matrix.proofs.Places.{digits-within}
+use Rattle.udu.specs.Columns.{crossed}
+use Rattle.udu.specs.Leaves.{foundIn, squareOf}
+use Rattle.udu.proofs.Totals.{Summing, summing-none, summing-more, summing-all}
+use borrow.Author.Needs.{needs}
+use Rattle.udu.proofs.column.row.Statement.{statement}
+use Rattle.udu.proofs.column.row.Tie as tie
+
+abbrev Inv-loop : tie.InvT-loop
+Inv-loop u d i j n sum₀ k₀ sum k = Summing (crossed (foundIn n u d) j i) (j + 1) n k sum
+
+abbrev μ-loop : tie.MeasureT-loop
+μ-loop u d i j n sum₀ k₀ sum k = n - k
+
+add-k : tie.Need-add-k Inv-loop μ-loop
+add-k c = search needs
+
+loop-holds : tie.Need-loop-holds Inv-loop μ-loop
+loop-holds c = summing-none (omega arith)
+
+mul-from : tie.Need-mul-from Inv-loop μ-loop
+mul-from c = omega (arith, digits-within (c .before .before .args .n) (c .before .before .args .n) (c .before .before .args .j) (c .before .loop .k) (c .before .before .pre .1 .0) (c .loop-test .taken))
+
+mul-sum : tie.Need-mul-sum Inv-loop μ-loop
+mul-sum c = search needs
+
+shared-slice-read-sum : tie.Need-shared-slice-read-sum Inv-loop μ-loop
+shared-slice-read-sum c = search needs
+
+add-sum : tie.Need-add-sum Inv-loop μ-loop
+add-sum c = omega (arith, digits-within (c .before .before .before .args .n) (c .before .before .before .args .n) (c .before .before .before .args .j) (c .before .before .loop .k) (c .before .before .before .pre .1 .0) (c .before .loop-test .taken))
+
+mul-sum-2 : tie.Need-mul-sum-2 Inv-loop μ-loop
+mul-sum-2 c = omega (arith, digits-within (c .before .before .before .args .n) (c .before .before .before .args .n) (c .before .before .before .args .j) (c .before .before .loop .k) (c .before .before .before .pre .1 .0) (c .before .loop-test .taken))
+
+shared-slice-read-sum-2 : tie.Need-shared-slice-read-sum-2 Inv-loop μ-loop
+shared-slice-read-sum-2 c = omega (arith, digits-within (c .before .before .before .before .args .n) (c .before .before .before .before .args .n) (c .before .before .before .before .args .j) (c .before .before .before .loop .k) (c .before .before .before .before .pre .1 .0) (c .before .before .loop-test .taken))
+
+add-sum-2 : tie.Need-add-sum-2 Inv-loop μ-loop
+add-sum-2 c = omega (arith, digits-within (c .before .before .before .before .args .n) (c .before .before .before .before .args .n) (c .before .before .before .before .args .i) (c .before .before .before .loop .k) (omega (arith, c .before .before .before .before .pre .0, c .before .before .before .before .pre .1 .0)) (c .before .before .loop-test .taken))
+
+mul-sum-3 : tie.Need-mul-sum-3 Inv-loop μ-loop
+mul-sum-3 c = omega (arith, digits-within (c .before .before .before .before .args .n) (c .before .before .before .before .args .n) (c .before .before .before .before .args .i) (c .before .before .before .loop .k) (omega (arith, c .before .before .before .before .pre .0, c .before .before .before .before .pre .1 .0)) (c .before .before .loop-test .taken))
+
+shared-slice-read-sum-3 : tie.Need-shared-slice-read-sum-3 Inv-loop μ-loop
+shared-slice-read-sum-3 c = omega (arith, digits-within (c .before .before .before .before .before .args .n) (c .before .before .before .before .before .args .n) (c .before .before .before .before .before .args .i) (c .before .before .before .before .loop .k) (omega (arith, c .before .before .before .before .before .pre .0, c .before .before .before .before .before .pre .1 .0)) (c .before .before .before .loop-test .taken))
+
+add-k-2 : tie.Need-add-k-2 Inv-loop μ-loop
+add-k-2 c = search needs
+
+loop-less : tie.Need-loop-less Inv-loop μ-loop
+loop-less c = search needs
+
+loop-again : tie.Need-loop-again Inv-loop μ-loop
+unfolding crossed foundIn squareOf
+loop-again c = summing-more (c .before .before .before .before .loop .inv) (c .before .before .before .loop-test .taken) refl
+
+returns : tie.Need-returns Inv-loop μ-loop
+returns c = summing-all (c .before .loop .inv) (c .loop-test .left)
+
+pub row-spec : {M : Type 1} → statement M
+row-spec =
+    tie.close
+    (tie.spec
+    Inv-loop
+    μ-loop
+    add-k
+    loop-holds
+    mul-from
+    mul-sum
+    shared-slice-read-sum
+    add-sum
+    mul-sum-2
+    shared-slice-read-sum-2
+    add-sum-2
+    mul-sum-3
+    shared-slice-read-sum-3
+    add-k-2
+    loop-less
+    loop-again
+    returns)

@@ -1,0 +1,3 @@
+pub mod Columns
+pub mod Promise
+pub mod Leaves
