@@ -1,0 +1,3 @@
+pub mod Read
+pub mod Table
+pub mod Twins

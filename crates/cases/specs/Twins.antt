@@ -1,0 +1,34 @@
+-- Twin rows, worked: [x / x x] for x = 1, 2, 3, 7, 49, by each factor.
+use mathlib.Core.List.{List, [], _∷_}
+use Prim.Native.Nat.{ℕ}
+use Rattle.cases.specs.Read.{Rows, lbltOf, choleskyOf, uduGives}
+use Rattle.cases.specs.Table.{Case, _⇒_}
+
+-- [x / x x]
+abbrev pub twins : ℕ → Rows
+twins x = (x ∷ []) ∷ (x ∷ x ∷ []) ∷ []
+
+-- LBLT: the record, then the factor. Cholesky: the answer, then the factor. UDU: the answer, u(0,1), u(1,1), then d.
+abbrev pub twinTable : List Case
+twinTable =
+    -- x = 1
+    (lbltOf (twins 0x3ff0_0000_0000_0000) ⇒ 0 ∷ 1 ∷ 1 ∷ 1 ∷ 2 ∷ 0x3ff0_0000_0000_0000 ∷ 0x3ff0_0000_0000_0000 ∷ 0 ∷ [])
+    ∷ (choleskyOf (twins 0x3ff0_0000_0000_0000) ⇒ 7 ∷ 1 ∷ 0x3ff0_0000_0000_0000 ∷ 0x3ff0_0000_0000_0000 ∷ 0 ∷ [])
+    ∷ (uduGives (twins 0x3ff0_0000_0000_0000) ⇒ 8 ∷ 0 ∷ 0x3ff0_0000_0000_0000 ∷ 0x3ff0_0000_0000_0000 ∷ 0 ∷ 0x3ff0_0000_0000_0000 ∷ [])
+    -- x = 2
+    ∷ (lbltOf (twins 0x4000_0000_0000_0000) ⇒ 0 ∷ 1 ∷ 1 ∷ 1 ∷ 2 ∷ 0x4000_0000_0000_0000 ∷ 0x3ff0_0000_0000_0000 ∷ 0 ∷ [])
+    ∷ (choleskyOf (twins 0x4000_0000_0000_0000) ⇒ 0 ∷ 0 ∷ 0x3ff6_a09e_667f_3bcd ∷ 0x3ff6_a09e_667f_3bcc ∷ 0x3e56_a09e_667f_3bcd ∷ [])
+    ∷ (uduGives (twins 0x4000_0000_0000_0000) ⇒ 8 ∷ 0 ∷ 0x3ff0_0000_0000_0000 ∷ 0x3ff0_0000_0000_0000 ∷ 0 ∷ 0x4000_0000_0000_0000 ∷ [])
+    -- x = 3
+    ∷ (lbltOf (twins 0x4008_0000_0000_0000) ⇒ 0 ∷ 1 ∷ 1 ∷ 1 ∷ 2 ∷ 0x4008_0000_0000_0000 ∷ 0x3ff0_0000_0000_0000 ∷ 0 ∷ [])
+    ∷ (choleskyOf (twins 0x4008_0000_0000_0000) ⇒ 7 ∷ 1 ∷ 0x3ffb_b67a_e858_4caa ∷ 0x3ffb_b67a_e858_4cab ∷ 0xbcc0_0000_0000_0000 ∷ [])
+    ∷ (uduGives (twins 0x4008_0000_0000_0000) ⇒ 8 ∷ 0 ∷ 0x3ff0_0000_0000_0000 ∷ 0x3ff0_0000_0000_0000 ∷ 0 ∷ 0x4008_0000_0000_0000 ∷ [])
+    -- x = 7
+    ∷ (lbltOf (twins 0x401c_0000_0000_0000) ⇒ 0 ∷ 1 ∷ 1 ∷ 1 ∷ 2 ∷ 0x401c_0000_0000_0000 ∷ 0x3ff0_0000_0000_0000 ∷ 0 ∷ [])
+    ∷ (choleskyOf (twins 0x401c_0000_0000_0000) ⇒ 0 ∷ 0 ∷ 0x4005_2a7f_a9d2_f8ea ∷ 0x4005_2a7f_a9d2_f8e9 ∷ 0x3e66_a09e_667f_3bcd ∷ [])
+    ∷ (uduGives (twins 0x401c_0000_0000_0000) ⇒ 8 ∷ 0 ∷ 0x3ff0_0000_0000_0000 ∷ 0x3ff0_0000_0000_0000 ∷ 0 ∷ 0x401c_0000_0000_0000 ∷ [])
+    -- x = 49
+    ∷ (lbltOf (twins 0x4048_8000_0000_0000) ⇒ 0 ∷ 1 ∷ 1 ∷ 1 ∷ 0 ∷ 0x4048_8000_0000_0000 ∷ 0x3fef_ffff_ffff_ffff ∷ 0x3d00_0000_0000_0000 ∷ [])
+    ∷ (choleskyOf (twins 0x4048_8000_0000_0000) ⇒ 7 ∷ 1 ∷ 0x401c_0000_0000_0000 ∷ 0x401c_0000_0000_0000 ∷ 0 ∷ [])
+    ∷ (uduGives (twins 0x4048_8000_0000_0000) ⇒ 0 ∷ 0 ∷ 0x3fef_ffff_ffff_ffff ∷ 0x3fef_ffff_ffff_ffff ∷ 0x3d10_0000_0000_0000 ∷ 0x4048_8000_0000_0000 ∷ [])
+    ∷ []

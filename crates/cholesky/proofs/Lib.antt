@@ -1,0 +1,14 @@
+pub mod Turns
+pub mod Strips
+pub mod Parts
+pub mod Outcomes
+pub mod Judging
+pub mod Columns
+pub mod Running
+pub mod Checks
+pub mod Rows
+pub mod Promises
+pub mod Batch
+pub mod Demand3
+pub mod ReaderLoops
+pub mod ReaderPromises

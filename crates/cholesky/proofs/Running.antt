@@ -1,0 +1,133 @@
+-- The laws of the engine's loop over columns. Assumes nothing.
+use mathlib.Core.Path.{_≡_, refl, sym, _∙_, ap, subst}
+use mathlib.Core.Bool.{true}
+use mathlib.Core.List.{List}
+use Prim.Native.Nat.{ℕ, _+_, _-_, _≤_, _<_}
+use native.Mathlib.Omega.{arith}
+use lib.Ieee.{Float}
+use borrow.Author.Tests.{lt-ltb, le-ltb, eq-eqb, ne-eqb}
+use Rattle.answer.specs.declared.Answer.{Answer}
+use Rattle.answer.specs.declared.Answer.the-variants.{Done}
+use Rattle.answer.specs.Number.{codeOf}
+use Rattle.matrix.specs.declared.Layout.{Layout}
+use Rattle.matrix.specs.Matrix.{Matrix, entry}
+use Rattle.matrix.specs.Loop.{for}
+use Rattle.matrix.specs.Grid.{Sound, Holds, load, mask}
+use Rattle.matrix.specs.Layouts.{lower}
+use Rattle.matrix.proofs.Loops.{for-none}
+use Rattle.cholesky.specs.declared.engine.Verdict.{Verdict}
+use Rattle.cholesky.specs.declared.engine.Step.{Step}
+use Rattle.cholesky.specs.Run.{Rule, Outcome, isDone, updates, below, earlier, judged, worked, column, started, run}
+use Rattle.cholesky.specs.Crate.{crateRule}
+use Rattle.cholesky.specs.Leaves.{Leaves, Ends}
+use Rattle.cholesky.specs.Engine.{Judgement, Advanced}
+use Rattle.cholesky.proofs.Turns.{for-one, for-join}
+use Rattle.cholesky.proofs.Parts.{leaves-agree, leaves-none, leaves-as, leaves-then}
+use Rattle.cholesky.proofs.Outcomes.{done-is, Like, stays, judged-like, below-agree, columns-like}
+
+-- ---- one column
+
+module _ (y : Layout) (l₀ : List Float) (j : ℕ) (d : Float) (v : Verdict) (is : d ≡ load (lower y) l₀ j j) (by : Judgement d j v) where
+  verdict-is : v .answer ≡ crateRule .verdict (load (lower y) l₀ j j) j
+  verdict-is = by .answer ∙ ap (λ (d : Float). crateRule .verdict d j) is
+
+  pub finish-done : {l l' : List Float} → codeOf (v .answer) ≡ 0
+      → Holds (lower y) l₀ l (entry (load (lower y) l₀) j j (v .root)) → Leaves y l l' (below (j + 1) j (load (lower y) l)) → Ends y l₀ l' Done (judged crateRule j (load (lower y) l₀))
+  unfolding judged
+  finish-done {l} {l'} code put step =
+      let passes : isDone (v .answer) ≡ true = eq-eqb (codeOf (v .answer)) 0 code in
+      let rooted : load (lower y) l ≡ entry (load (lower y) l₀) j j (crateRule .root (load (lower y) l₀ j j)) =
+      put .cells ∙ ap (entry (load (lower y) l₀) j j) (by .root passes ∙ ap (crateRule .root) is) in
+      rw (ap isDone (sym verdict-is) ∙ passes)
+      (record {
+        answer = refl;
+        leaves = record {
+          holds = record {
+            sound = step .holds .sound;
+            cells = step .holds .cells ∙ ap (λ (N : Matrix). mask (lower y) (below (j + 1) j N)) rooted;
+            kept = λ p free. step .holds .kept p free ∙ put .kept p free;
+          };
+        };
+      })
+
+  pub finish-refused : Sound (lower y) l₀ → (codeOf (v .answer) ≡ 0 → ⊥) → Ends y l₀ l₀ (v .answer) (judged crateRule j (load (lower y) l₀))
+  unfolding judged
+  finish-refused good code =
+      rw (ap isDone (sym verdict-is) ∙ ne-eqb (codeOf (v .answer)) 0 code)
+      (record { answer = verdict-is; leaves = leaves-none good })
+
+module _ (ρ : Rule) (m j : ℕ) (M : Matrix) where
+  column-is : for j (j + 1) (column ρ m) (started M) ≡ worked ρ m j M
+  unfolding column
+  column-is = for-one j (column ρ m) (started M)
+
+  pub earlier-is : j < m → for j (j + 1) (column ρ m) (started M) ≡ earlier m j (updates m j M)
+  unfolding worked
+  earlier-is lt = column-is ∙ rw (lt-ltb j m lt)
+
+  pub judged-is : m ≤ j → for j (j + 1) (column ρ m) (started M) ≡ judged ρ j (updates j j M)
+  unfolding worked
+  judged-is le = column-is ∙ rw (le-ltb j m le)
+
+pub ends-as : {y : Layout} {l₀ l : List Float} {r : Answer} {o p : Outcome} → Ends y l₀ l r o → Like (y .order) o p → Ends y l₀ l r p
+ends-as e same = record { answer = e .answer ∙ same .answer; leaves = leaves-as (e .leaves) (same .cells) }
+
+pub advance-earlier : {y : Layout} {l₀ l l' : List Float} (ρ : Rule) (m j : ℕ) → j < m
+    → Leaves y l₀ l (updates m j (load (lower y) l₀)) → Leaves y l l' (below m j (load (lower y) l))
+    → Ends y l₀ l' Done (for j (j + 1) (column ρ m) (started (load (lower y) l₀)))
+unfolding earlier
+advance-earlier {y} {l₀} {l} {l'} ρ m j lt updated divided =
+    subst (Ends y l₀ l' Done) (sym (earlier-is ρ m j (load (lower y) l₀) lt))
+    (record { answer = refl; leaves = leaves-then updated divided (below-agree m j (omega arith) (leaves-agree updated)) })
+
+pub advance-later : {y : Layout} {l₀ l l' : List Float} {r : Answer} (ρ : Rule) (m j : ℕ) → m ≤ j → j < y .order
+    → Leaves y l₀ l (updates j j (load (lower y) l₀)) → Ends y l l' r (judged ρ j (load (lower y) l))
+    → Ends y l₀ l' r (for j (j + 1) (column ρ m) (started (load (lower y) l₀)))
+advance-later {y} {l₀} {l} {l'} {r} ρ m j le lt updated finished =
+    let same : Like (y .order) (judged ρ j (load (lower y) l)) (judged ρ j (updates j j (load (lower y) l₀))) = judged-like ρ j lt (leaves-agree updated) in
+    subst (Ends y l₀ l' r) (sym (judged-is ρ m j (load (lower y) l₀) le))
+    (record { answer = finished .answer ∙ same .answer; leaves = leaves-then updated (finished .leaves) (same .cells) })
+
+-- ---- the columns
+
+-- the columns before j are done, none was refused
+pub record Running (y : Layout) (m : ℕ) (l₀ : List Float) (j : ℕ) (l : List Float) : Type 0 where
+  pub upto : j ≤ y .order
+  pub ends : Ends y l₀ l Done (for 0 j (column crateRule m) (started (load (lower y) l₀)))
+
+pub running-none : {y : Layout} {m : ℕ} {l : List Float} → Sound (lower y) l → Running y m l 0 l
+running-none {y} {m} {l} good = record {
+  upto = omega arith;
+  ends = subst (Ends y l l Done) (sym (for-none 0 (column crateRule m) (started (load (lower y) l)))) (record { answer = refl; leaves = leaves-none good });
+}
+
+-- some more columns, refused or not
+running-on : {y : Layout} {m : ℕ} {l₀ : List Float} {j : ℕ} {l l' : List Float} {s : Step} → Running y m l₀ j l → Advanced y m j l l' s
+    → Ends y l₀ l' (s .answer) (for 0 (s .next) (column crateRule m) (started (load (lower y) l₀)))
+running-on {y} {m} {l₀} {j} {l} {l'} {s} u a =
+    let o : Outcome = for 0 j (column crateRule m) (started (load (lower y) l₀)) in
+    let same : Like (y .order) (for j (s .next) (column crateRule m) (started (load (lower y) l))) (for j (s .next) (column crateRule m) o) =
+    columns-like crateRule m j (s .next) (a .within) (record { answer = u .ends .answer; cells = leaves-agree (u .ends .leaves) }) in
+    subst (Ends y l₀ l' (s .answer)) (for-join 0 j (s .next) (column crateRule m) (started (load (lower y) l₀)) (omega arith) (let h = a .onward in omega arith))
+    (record { answer = a .ends .answer ∙ same .answer; leaves = leaves-then (u .ends .leaves) (a .ends .leaves) (same .cells) })
+
+pub running-more : {y : Layout} {m : ℕ} {l₀ : List Float} {j : ℕ} {l l' : List Float} {s : Step} → Running y m l₀ j l → Advanced y m j l l' s → codeOf (s .answer) ≡ 0
+    → Running y m l₀ (s .next) l'
+running-more {y} {m} {l₀} {l' = l'} {s = s} u a code = record {
+  upto = a .within;
+  ends = subst (λ (r : Answer). Ends y l₀ l' r (for 0 (s .next) (column crateRule m) (started (load (lower y) l₀)))) (done-is (s .answer) (eq-eqb (codeOf (s .answer)) 0 code)) (running-on u a);
+}
+
+pub running-refused : {y : Layout} {m : ℕ} {l₀ : List Float} {j : ℕ} {l l' : List Float} {s : Step} → Running y m l₀ j l → Advanced y m j l l' s → (codeOf (s .answer) ≡ 0 → ⊥)
+    → Ends y l₀ l' (s .answer) (run crateRule m (y .order) (load (lower y) l₀))
+unfolding run
+running-refused {y} {m} {l₀} {l' = l'} {s = s} u a code =
+    let e : Ends y l₀ l' (s .answer) (for 0 (s .next) (column crateRule m) (started (load (lower y) l₀))) = running-on u a in
+    let o : Outcome = for 0 (s .next) (column crateRule m) (started (load (lower y) l₀)) in
+    subst (Ends y l₀ l' (s .answer))
+    (sym (stays crateRule m (s .next) (y .order) o (ap isDone (sym (e .answer)) ∙ ne-eqb (codeOf (s .answer)) 0 code)) ∙ for-join 0 (s .next) (y .order) (column crateRule m) (started (load (lower y) l₀)) (omega arith) (a .within))
+    e
+
+pub running-all : {y : Layout} {m : ℕ} {l₀ : List Float} {j : ℕ} {l : List Float} → Running y m l₀ j l → y .order ≤ j → Ends y l₀ l Done (run crateRule m (y .order) (load (lower y) l₀))
+unfolding run
+running-all {y} {m} {l₀} {j} {l} u past = subst (λ (k : ℕ). Ends y l₀ l Done (for 0 k (column crateRule m) (started (load (lower y) l₀)))) (omega (arith, u .upto)) (u .ends)

@@ -1,0 +1,73 @@
+-- `engine::finish` meets its contract. Assumes nothing.
+use denote.Ref.{now}
+use mathlib.Core.Path.{sym, _∙_}
+use native.Mathlib.Omega.{arith}
+use Rattle.cholesky.proofs.Running.{finish-done, finish-refused}
+use borrow.Author.Needs.{needs}
+use Rattle.cholesky.proofs.engine.finish.Statement.{statement}
+use Rattle.cholesky.proofs.engine.finish.Tie as tie
+
+get-requires : tie.Need-get-requires
+get-requires c κs = search needs
+
+judge-requires : tie.Need-judge-requires
+judge-requires c κs = search needs
+
+code-requires : tie.Need-code-requires
+code-requires c κs = search needs
+
+put-requires : tie.Need-put-requires
+put-requires c κs = search needs
+
+add-divide : tie.Need-add-divide
+add-divide c = search needs
+
+divide-requires : tie.Need-divide-requires
+divide-requires c κs = (
+  c .before .before .before .before .before .before .before .before .before .before .before .pre .0,
+  (
+    c .before .before .before .put .ensures .sound,
+    (
+      omega arith,
+      omega arith,
+    ),
+  ),
+)
+
+same-length : tie.Need-same-length
+same-length c = search needs
+
+returns : tie.Need-returns
+returns c =
+    let start = c .before .before .before .before .before .before .before .before .before .before .before .before .before .before in
+    finish-done (start .args .y) (now (start .args .a)) (start .args .j)
+    (c .before .before .before .before .before .before .before .before .before .before .before .get .result)
+    (c .before .before .before .before .before .before .before .before .before .before .judge .result)
+    (c .before .before .before .before .before .before .before .before .before .before .before .get .ensures)
+    (c .before .before .before .before .before .before .before .before .before .before .judge .ensures)
+    (sym (c .before .before .before .before .before .before .before .before .before .code .ensures) ∙ c .before .before .before .before .before .before .before .before .if1 .taken)
+    (c .before .before .before .before .before .before .put .ensures) (c .before .before .divide .ensures)
+
+same-length-2 : tie.Need-same-length-2
+same-length-2 c = search needs
+
+returns-2 : tie.Need-returns-2
+returns-2 c =
+    let start = c .before .before .before .before .before .before in
+    finish-refused (start .args .y) (now (start .args .a)) (start .args .j) (c .before .before .before .get .result) (c .before .before .judge .result)
+    (c .before .before .before .get .ensures) (c .before .before .judge .ensures) (start .pre .1 .0) (λ e. c .if1 .left (c .before .code .ensures ∙ e))
+
+pub finish-spec : {M : Type 1} → statement M
+finish-spec =
+    tie.close
+    (tie.spec
+    get-requires
+    judge-requires
+    code-requires
+    put-requires
+    add-divide
+    divide-requires
+    same-length
+    returns
+    same-length-2
+    returns-2)

@@ -1,0 +1,40 @@
+-- `readers::copy_column` meets its contract. Assumes nothing.
+use native.Mathlib.Omega.{arith}
+use Rattle.cholesky.proofs.Columns.{column-within}
+use Rattle.cholesky.proofs.ReaderLoops.{square-small, square-column, column-copied}
+use denote.Ref.{now}
+use borrow.Author.Needs.{needs}
+use Rattle.cholesky.proofs.readers.copy_column.Statement.{statement}
+use Rattle.cholesky.proofs.readers.copy_column.Tie as tie
+
+mul-to : tie.Need-mul-to
+mul-to c = omega (arith, square-small (c .before .before .before .args .j) (c .before .before .before .args .y .order) (omega arith) (omega arith))
+
+clear-requires : tie.Need-clear-requires
+clear-requires c κs = (omega arith, omega (arith, square-column (c .before .before .before .before .args .y .order) (c .before .before .before .before .args .j) (omega arith)))
+
+start-requires : tie.Need-start-requires
+start-requires c κs = (c .before .before .before .before .before .before .before .before .pre .0, omega arith)
+
+copy-requires : tie.Need-copy-requires
+copy-requires c κs =
+    let start = c .before .before .before .before .before .before .before .before .before in (
+      omega arith,
+      (
+        column-within (start .args .y) (now (start .args .a)) (start .args .j) (c .start .result) (start .pre .0) (start .pre .1 .0) (omega arith) (c .start .ensures),
+        omega (arith, c .before .before .before .before .clear .ensures .long, square-column (start .args .y .order) (start .args .j) (omega arith)),
+      ),
+    )
+
+same-length : tie.Need-same-length
+same-length c = search needs
+
+returns : tie.Need-returns
+returns c =
+    let start = c .before .before .before .before .before .before .before .before .before .before .before .before in
+    column-copied (start .args .y) (start .args .j) (now (start .args .a)) (now (start .args .l)) _ _ _ _ (omega arith) (c .before .before .before .start .ensures)
+    (c .before .before .before .before .before .before .before .clear .ensures) (c .before .before .copy .ensures)
+
+pub copy-column-spec : {M : Type 1} → statement M
+copy-column-spec =
+    tie.close (tie.spec mul-to clear-requires start-requires copy-requires same-length returns)

@@ -1,0 +1,45 @@
+-- What the engine's parts promise to each other.
+use mathlib.Core.Path.{_≡_}
+use mathlib.Core.Bool.{true}
+use mathlib.Core.List.{List}
+use Prim.Native.Nat.{ℕ, _≤_, _<_}
+use lib.Ieee.{Float, neg}
+use Rattle.matrix.specs.declared.Layout.{Layout}
+use Rattle.matrix.specs.Loop.{for}
+use Rattle.matrix.specs.Grid.{load}
+use Rattle.matrix.specs.Layouts.{startOf, lower}
+use Rattle.cholesky.specs.declared.strip.Source.{Source}
+use Rattle.cholesky.specs.declared.engine.Verdict.{Verdict}
+use Rattle.cholesky.specs.declared.engine.Step.{Step}
+use Rattle.cholesky.specs.Column.{taken, part}
+use Rattle.cholesky.specs.Run.{isDone, column, started}
+use Rattle.cholesky.specs.Crate.{crateRule}
+use Rattle.cholesky.specs.Leaves.{Leaves, Ends}
+
+-- rows from r on of column j, from the diagonal down
+pub record Reach (y : Layout) (r j : ℕ) : Type 0 where
+  pub from : j ≤ r
+  pub upto : r ≤ y .order
+  pub column : j < y .order
+
+-- column k, times −l(j,k)
+pub record Sourced (y : Layout) (l : List Float) (j k : ℕ) (s : Source) : Type 0 where
+  pub start : s .start ≡ startOf y k
+  pub scale : s .scale ≡ neg (load (lower y) l j k)
+
+-- the columns from k on, up to the next one, are taken off, one of them at least
+pub record Taken (y : Layout) (r j k : ℕ) (l₀ l : List Float) (next : ℕ) : Type 0 where
+  pub onward : k < next
+  pub within : next ≤ j
+  pub leaves : Leaves y l₀ l (part r j (taken (load (lower y) l₀) j k next) (load (lower y) l₀))
+
+-- the diagonal d of column j is judged by the rule
+pub record Judgement (d : Float) (j : ℕ) (v : Verdict) : Type 0 where
+  pub answer : v .answer ≡ crateRule .verdict d j
+  pub root : isDone (v .answer) ≡ true → v .root ≡ crateRule .root d
+
+-- the columns from j on, up to the next one, are worked on, one of them at least
+pub record Advanced (y : Layout) (m j : ℕ) (l₀ l : List Float) (s : Step) : Type 0 where
+  pub onward : j < s .next
+  pub within : s .next ≤ y .order
+  pub ends : Ends y l₀ l (s .answer) (for j (s .next) (column crateRule m) (started (load (lower y) l₀)))

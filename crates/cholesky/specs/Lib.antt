@@ -1,0 +1,9 @@
+pub mod Column
+pub mod Run
+pub mod Crate
+pub mod Strip
+pub mod Leaves
+pub mod Engine
+pub mod Promise
+pub mod Batches
+pub mod Readers

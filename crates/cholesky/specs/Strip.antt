@@ -1,0 +1,35 @@
+-- A strip of a slice: the rows lo to hi of a column that starts at s.
+use mathlib.Core.Path.{_≡_}
+use mathlib.Core.List.{List}
+use Prim.Native.Nat.{ℕ, _+_, _≤_, _<_}
+use lib.ListN.{length, getD}
+use lib.Ieee.{Float, nan, binary64, ofBits, add, mul, div}
+use Rattle.cholesky.specs.declared.strip.Source.{Source}
+
+-- row i of the column that starts at s
+abbrev pub rowAt : List Float → ℕ → ℕ → Float
+rowAt l s i = getD l (i + s) nan
+
+-- l has v in the strip, and all else as in l₀
+pub record Strip (s lo hi : ℕ) (v : ℕ → Float) (l₀ l : List Float) : Type 0 where
+  pub long : length l ≡ length l₀
+  pub inside : (i : ℕ) → lo ≤ i → i < hi → rowAt l s i ≡ v i
+  pub outside : (p : ℕ) → ((i : ℕ) → lo ≤ i → i < hi → p ≡ i + s → ⊥) → getD l p nan ≡ getD l₀ p nan
+
+-- x, plus row i of a column times its multiplier
+unfoldable pub plus : List Float → Source → ℕ → Float → Float
+plus l s i x = add binary64 x (mul binary64 (s .scale) (rowAt l (s .start) i))
+
+unfoldable pub axpyOf : List Float → ℕ → Source → ℕ → Float
+unfolding plus
+axpyOf l to s i = plus l s i (rowAt l to i)
+
+unfoldable pub axpy4Of : List Float → ℕ → Source → Source → Source → Source → ℕ → Float
+unfolding plus
+axpy4Of l to s t u v i = plus l v i (plus l u i (plus l t i (plus l s i (rowAt l to i))))
+
+unfoldable pub ratioOf : List Float → ℕ → Float → ℕ → Float
+ratioOf l s d i = div binary64 (rowAt l s i) d
+
+abbrev pub zeroAt : ℕ → Float
+zeroAt i = ofBits binary64 0

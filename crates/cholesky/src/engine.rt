@@ -1,0 +1,185 @@
+// The columns of a batch, one after the other.
+ghost use mathlib.Core.Path.{_≡_};
+ghost use Prim.Native.Nat.{_+_, _≤_, _<_};
+ghost use Rattle.matrix.specs.Grid.{Sound, load};
+ghost use Rattle.matrix.specs.Layouts.{Roomy, lower};
+ghost use Rattle.cholesky.specs.Column.{part, taken};
+ghost use Rattle.cholesky.specs.Run.{updates, below, judged, run as ran};
+ghost use Rattle.cholesky.specs.Crate.{crateRule};
+ghost use Rattle.cholesky.specs.Leaves.{Leaves, Ends};
+ghost use Rattle.cholesky.specs.Engine.{Reach, Sourced, Taken, Judgement, Advanced};
+use crate::strip::Source;
+use answer::Answer;
+use matrix::Layout;
+
+// What is answered to a diagonal, `Done` if it passes, and then its root.
+pub struct Verdict {
+    pub answer: Answer,
+    pub root: f64,
+}
+
+// What came of some columns, and the column after them.
+pub struct Step {
+    pub answer: Answer,
+    pub next: usize,
+}
+
+// The diagonal of column j.
+fn judge(d: f64, j: usize) -> Verdict
+    requires { ⌜ j ≤ 1024 ⌝ }
+    ensures { λ r. ⌜ Judgement d j r ⌝ }
+{
+    if 0.0 < d {
+        return Verdict {
+            answer: Answer::Done,
+            root: leaf::root(d),
+        };
+    }
+    Verdict {
+        answer: Answer::NotPositive(j as u32),
+        root: d,
+    }
+}
+
+// Column k, and what it is multiplied by on its way to column j.
+fn source(y: Layout, a: &[f64], j: usize, k: usize) -> Source
+    requires { ⌜ Roomy y ⌝ }
+    requires { ⌜ Sound (lower y) (now a) ⌝ }
+    requires { ⌜ k < j ⌝ }
+    requires { ⌜ j < y .order ⌝ }
+    ensures { λ s. ⌜ Sourced y (now (a .entry)) j k s ⌝ }
+{
+    Source {
+        start: y.start(k),
+        scale: -matrix::get(y, a, j, k),
+    }
+}
+
+// The rows from r on of column j, less what column k takes.
+fn subtract(y: Layout, a: &mut [f64], r: usize, j: usize, k: usize)
+    requires { ⌜ Roomy y ⌝ }
+    requires { ⌜ Sound (lower y) (now a) ⌝ }
+    requires { ⌜ Reach y r j ⌝ }
+    requires { ⌜ k < j ⌝ }
+    ensures { λ _. ⌜ Leaves y (now (a .entry)) (now (a .exit)) (part r j (taken (load (lower y) (now (a .entry))) j k (k + 1)) (load (lower y) (now (a .entry)))) ⌝ }
+{
+    let s = source(y, a, j, k);
+    crate::strip::axpy(a, y.start(j), r, y.order, s);
+}
+
+// The same for the four columns from k on.
+fn subtract4(y: Layout, a: &mut [f64], r: usize, j: usize, k: usize)
+    requires { ⌜ Roomy y ⌝ }
+    requires { ⌜ Sound (lower y) (now a) ⌝ }
+    requires { ⌜ Reach y r j ⌝ }
+    requires { ⌜ k + 3 < j ⌝ }
+    ensures { λ _. ⌜ Leaves y (now (a .entry)) (now (a .exit)) (part r j (taken (load (lower y) (now (a .entry))) j k (k + 4)) (load (lower y) (now (a .entry)))) ⌝ }
+{
+    let s = source(y, a, j, k);
+    let t = source(y, a, j, k + 1);
+    let u = source(y, a, j, k + 2);
+    let v = source(y, a, j, k + 3);
+    crate::strip::axpy4(a, y.start(j), r, y.order, s, t, u, v);
+}
+
+// Takes off one column or four from k on, and answers the next.
+fn take(y: Layout, a: &mut [f64], r: usize, j: usize, k: usize) -> usize
+    requires { ⌜ Roomy y ⌝ }
+    requires { ⌜ Sound (lower y) (now a) ⌝ }
+    requires { ⌜ Reach y r j ⌝ }
+    requires { ⌜ k < j ⌝ }
+    ensures { λ next. ⌜ Taken y r j k (now (a .entry)) (now (a .exit)) next ⌝ }
+{
+    if k + 3 < j {
+        subtract4(y, a, r, j, k);
+        return k + 4;
+    }
+    subtract(y, a, r, j, k);
+    k + 1
+}
+
+// The rows from r on of column j, less what the columns before it take.
+fn update(y: Layout, a: &mut [f64], r: usize, j: usize)
+    requires { ⌜ Roomy y ⌝ }
+    requires { ⌜ Sound (lower y) (now a) ⌝ }
+    requires { ⌜ Reach y r j ⌝ }
+    ensures { λ _. ⌜ Leaves y (now (a .entry)) (now (a .exit)) (updates r j (load (lower y) (now (a .entry)))) ⌝ }
+{
+    let mut k: usize = 0;
+    while k < j {
+        k = take(y, a, r, j, k);
+    }
+}
+
+// The rows from r on of column j, divided by its diagonal.
+fn divide(y: Layout, a: &mut [f64], r: usize, j: usize)
+    requires { ⌜ Roomy y ⌝ }
+    requires { ⌜ Sound (lower y) (now a) ⌝ }
+    requires { ⌜ j < r ⌝ }
+    requires { ⌜ r ≤ y .order ⌝ }
+    ensures { λ _. ⌜ Leaves y (now (a .entry)) (now (a .exit)) (below r j (load (lower y) (now (a .entry)))) ⌝ }
+{
+    let d = matrix::get(y, a, j, j);
+    crate::strip::unscale(a, y.start(j), r, y.order, d);
+}
+
+// The updated column j gets its root, and the rows below are divided by it.
+fn finish(y: Layout, a: &mut [f64], j: usize) -> Answer
+    requires { ⌜ Roomy y ⌝ }
+    requires { ⌜ Sound (lower y) (now a) ⌝ }
+    requires { ⌜ j < y .order ⌝ }
+    ensures { λ r. ⌜ Ends y (now (a .entry)) (now (a .exit)) r (judged crateRule j (load (lower y) (now (a .entry)))) ⌝ }
+{
+    let verdict = judge(matrix::get(y, a, j, j), j);
+    let answer = verdict.answer;
+    if answer.code() == 0 {
+        matrix::put(y, a, j, j, verdict.root);
+        divide(y, a, j + 1, j);
+        return Answer::Done;
+    }
+    answer
+}
+
+// Column j of a batch whose rows start at m, and the next column.
+fn advance(y: Layout, a: &mut [f64], m: usize, j: usize) -> Step
+    requires { ⌜ Roomy y ⌝ }
+    requires { ⌜ Sound (lower y) (now a) ⌝ }
+    requires { ⌜ m ≤ y .order ⌝ }
+    requires { ⌜ j < y .order ⌝ }
+    ensures { λ s. ⌜ Advanced y m j (now (a .entry)) (now (a .exit)) s ⌝ }
+{
+    if j < m {
+        update(y, a, m, j);
+        divide(y, a, m, j);
+        return Step {
+            answer: Answer::Done,
+            next: j + 1,
+        };
+    }
+    update(y, a, j, j);
+    let answer = finish(y, a, j);
+    Step {
+        answer: answer,
+        next: j + 1,
+    }
+}
+
+// The rows from m on, in all columns.
+pub fn run(y: Layout, a: &mut [f64], m: usize) -> Answer
+    requires { ⌜ Roomy y ⌝ }
+    requires { ⌜ Sound (lower y) (now a) ⌝ }
+    requires { ⌜ m ≤ y .order ⌝ }
+    ensures { λ r. ⌜ Ends y (now (a .entry)) (now (a .exit)) r (ran crateRule m (y .order) (load (lower y) (now (a .entry)))) ⌝ }
+{
+    let n = y.order;
+    let mut j: usize = 0;
+    while j < n {
+        let step = advance(y, a, m, j);
+        let answer = step.answer;
+        if answer.code() != 0 {
+            return answer;
+        }
+        j = step.next;
+    }
+    Answer::Done
+}

@@ -1,0 +1,95 @@
+-- The record that `factor` writes is accepted by the check, and its mark names a row of size 1 whose index is its own row.
+-- Assumes nothing.
+use mathlib.Core.Path.{_≡_, refl, sym, _∙_, subst}
+use mathlib.Core.Bool.{Bool, true, false, cond}
+use mathlib.Core.List.{List}
+use mathlib.Core.Logic.{_⊎_, inl, inr}
+use Prim.Native.Nat.{ℕ, zero, suc, _+_, _-_, _≤_, _<_}
+use native.Mathlib.Omega.{arith}
+use lib.Dec.{ltb, eqb}
+use lib.ListN.{set}
+use lib.Seq.{getD-set-same, getD-set-other}
+use lib.Ieee.{Float}
+use borrow.Author.Tests.{ltb-true, ltb-false, eqb-true}
+use Rattle.answer.specs.declared.Answer.{Answer}
+use Rattle.answer.specs.declared.Answer.the-variants.{Done}
+use Rattle.matrix.specs.Matrix.{Matrix}
+use Rattle.matrix.specs.Grid.{load}
+use Rattle.matrix.specs.Layouts.{lower}
+use Rattle.pivots.specs.Words.{indexWord, sizeWord, markWord, markAt, Sized, paired, marked}
+use Rattle.pivots.specs.Rule.{Accepted}
+use Rattle.pivots.proofs.Written.{Written, Marks, written-none, written-one, written-two, written-zero, written-all}
+use Rattle.lblt.specs.Choice.{choose}
+use Rattle.lblt.specs.Step.{State, firstMark, take, step, run}
+use Rattle.lblt.specs.Factor.{begun, factored, recorded, full, Factored}
+use Rattle.lblt.specs.declared.choice.Choice.{Choice}
+use Rattle.lblt.specs.declared.choice.Choice.the-variants.{Null, One, Two}
+use Rattle.lblt.proofs.Range.{either, Within, choose-range}
+use Rattle.lblt.proofs.Stands.{step-rises}
+use Rattle.lblt.proofs.Done.{done-sized}
+
+-- the mark is put at the end: it is read back, and what it names stays
+marks-kept : (n : ℕ) (words : List ℕ) (m : ℕ) → Written n words n m → (markAt n (marked n words m) ≡ 0) ⊎ Marks (marked n words m) n (markAt n (marked n words m))
+unfolding marked
+marks-kept n words m w = subst (λ (x : ℕ). (x ≡ 0) ⊎ Marks (marked n words m) n x) (sym reads) (by (w .mark))
+  where
+    reads : markAt n (marked n words m) ≡ m
+    reads = getD-set-same words (markWord n) m 0 (omega (arith, w .sized .total))
+
+    by : (m ≡ 0) ⊎ Marks words n m → (m ≡ 0) ⊎ Marks (marked n words m) n m
+    by (inl none) = inl none
+    by (inr mk) = inr (record {
+      set = mk .set;
+      passed = mk .passed;
+      size = getD-set-other words (markWord n) (sizeWord (m - 1)) m 0 (λ e. omega (arith, e, mk .set, mk .passed)) ∙ mk .size;
+      index = getD-set-other words (markWord n) (indexWord (m - 1)) m 0 (λ e. omega (arith, e, mk .set, mk .passed)) ∙ mk .index;
+    })
+
+module _ (n : ℕ) where
+  written-null : {words : List ℕ} {k m : ℕ} (b : Bool) → eqb m 0 ≡ b → Written n words k m → k < n → Written n (paired words k k 1) (k + 1) (cond (eqb m 0) (k + 1) m)
+  written-null {words} {k} {m} true e w h = rw e (written-zero (subst (λ (m : ℕ). Written n words k m) (eqb-true m 0 e) w) h)
+  written-null {words} {k} {m} false e w h = rw e (written-one k w (omega arith) h)
+
+  written-take : (S : State) (c : Choice) → Written n (S .words) (S .row) (S .mark) → S .row < n → Within n (S .row) c → Written n (take n S c .words) (take n S c .row) (take n S c .mark)
+  unfolding take Within firstMark
+  written-take S Null w h range = written-null (eqb (S .mark) 0) refl w h
+  written-take S (One p) w h range = written-one p w (range .0) (range .1)
+  written-take S (Two p) w h range = written-two p w (omega (arith, range .0)) (range .1)
+
+  written-step : (S : State) → Written n (S .words) (S .row) (S .mark) → S .row < n → Written n (step n S .words) (step n S .row) (step n S .mark)
+  unfolding step
+  written-step S w h = written-take S (choose n (S .matrix) (S .row)) w h (choose-range n (S .matrix) (S .row) h)
+
+  at-the-end : (S : State) → Written n (S .words) (S .row) (S .mark) → n ≤ S .row → Written n (S .words) n (S .mark)
+  at-the-end S w past = subst (λ (k : ℕ). Written n (S .words) k (S .mark)) (omega (arith, w .within)) w
+
+  written-run : (fuel : ℕ) (S : State) → Written n (S .words) (S .row) (S .mark) → n ≤ S .row + fuel → Written n (run fuel n S .words) n (run fuel n S .mark)
+  unfolding run
+  written-run zero S w enough = at-the-end S w (omega arith)
+  written-run (suc fuel) S w enough =
+      either (λ (X : State). Written n (X .words) n (X .mark)) (ltb (S .row) n)
+      (λ more. written-run fuel (step n S) (written-step S w (ltb-true (S .row) n more)) (omega (arith, step-rises n S)))
+      (λ past. at-the-end S w (ltb-false (S .row) n past))
+
+  module _ (M : Matrix) (words : List ℕ) (sized : Sized n words) where
+    written : Written n (factored n M words .words) n (factored n M words .mark)
+    unfolding factored begun
+    written = written-run n (begun M words) (written-none sized) (omega arith)
+
+    pub accepted : Accepted n (recorded n M words)
+    unfolding recorded
+    accepted = written-all written
+
+    pub own-mark : (markAt n (recorded n M words) ≡ 0) ⊎ Marks (recorded n M words) n (markAt n (recorded n M words))
+    unfolding recorded
+    own-mark = marks-kept n (factored n M words .words) (factored n M words .mark) written
+
+-- of `factor`'s promise
+module _ {n : ℕ} {a : List Float} {words : List ℕ} {r : Answer} {a' : List Float} {words' : List ℕ} (f : Factored n a words r a' words') (done : r ≡ Done) where
+  pub factor-accepted : Accepted n words'
+  factor-accepted = subst (Accepted n) (sym (f .done done .pivots)) (accepted n (load (lower (full n)) a) words (done-sized n a words (sym (f .answer) ∙ done)))
+
+  pub factor-marks : (markAt n words' ≡ 0) ⊎ Marks words' n (markAt n words')
+  factor-marks =
+      subst (λ (w : List ℕ). (markAt n w ≡ 0) ⊎ Marks w n (markAt n w)) (sym (f .done done .pivots))
+      (own-mark n (load (lower (full n)) a) words (done-sized n a words (sym (f .answer) ∙ done)))

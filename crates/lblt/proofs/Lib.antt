@@ -1,0 +1,14 @@
+pub mod Loops
+pub mod Stores
+pub mod Choices
+pub mod Range
+pub mod Interchanges
+pub mod Updates
+pub mod Entries
+pub mod Pairs
+pub mod Earlier
+pub mod Stands
+pub mod Runs
+pub mod Done
+pub mod Accepted
+pub mod Overwritten

@@ -1,0 +1,129 @@
+-- What stood in the record before does not matter: all its words are written. Assumes nothing.
+use mathlib.Core.Path.{_≡_, refl, sym, _∙_, ap, subst}
+use mathlib.Core.Bool.{Bool, true, false, cond}
+use mathlib.Core.List.{List}
+use Prim.Native.Nat.{ℕ, zero, suc, _+_, _*_, _≤_, _<_}
+use native.Mathlib.Omega.{arith}
+use lib.Dec.{ltb, eqb}
+use lib.ListN.{length, getD, set, length-set}
+use lib.Seq.{getD-set-same, getD-set-other, ext-getD}
+use borrow.Author.Tests.{ltb-true, ltb-false, eqb-true, eqb-false}
+use Rattle.matrix.specs.Matrix.{Matrix}
+use Rattle.pivots.specs.Words.{wordsOf, Sized, paired, marked}
+use Rattle.lblt.specs.Choice.{choose}
+use Rattle.lblt.specs.Step.{State, take, step, run}
+use Rattle.lblt.specs.Factor.{begun, factored, recorded}
+use Rattle.lblt.specs.declared.choice.Choice.{Choice}
+use Rattle.lblt.specs.declared.choice.Choice.the-variants.{Null, One, Two}
+use Rattle.lblt.proofs.Range.{Within, choose-range}
+use Rattle.lblt.proofs.Stands.{step-rises}
+
+-- two records of one length with the same first m words
+record Alike (m : ℕ) (words words' : List ℕ) : Type 0 where
+  pub long : length words ≡ length words'
+  pub first : (p : ℕ) → p < m → getD words p 0 ≡ getD words' p 0
+
+alike-less : {m m' : ℕ} {words words' : List ℕ} → m' ≤ m → Alike m words words' → Alike m' words words'
+alike-less less a = record { long = a .long; first = λ p h. a .first p (omega arith) }
+
+alike-set : {m : ℕ} {words words' : List ℕ} (v : ℕ) → m < length words → Alike m words words' → Alike (m + 1) (set words m v) (set words' m v)
+alike-set {m} {words} {words'} v room a = record { long = length-set words m v ∙ a .long ∙ sym (length-set words' m v); first = λ p h. at p h (eqb p m) refl }
+  where
+    at : (p : ℕ) → p < m + 1 → (b : Bool) → eqb p m ≡ b → getD (set words m v) p 0 ≡ getD (set words' m v) p 0
+    at p h true e =
+        subst (λ (q : ℕ). getD (set words m v) q 0 ≡ getD (set words' m v) q 0) (sym (eqb-true p m e))
+        (getD-set-same words m v 0 room ∙ sym (getD-set-same words' m v 0 (omega (arith, a .long))))
+    at p h false e =
+        let other = eqb-false p m e in
+        let less : p < m = omega (arith, other) in
+        getD-set-other words m p v 0 other ∙ a .first p less ∙ sym (getD-set-other words' m p v 0 other)
+
+alike-paired : {words words' : List ℕ} (k index size : ℕ) → 2 * k + 1 < length words → Alike (2 * k) words words' → Alike (2 * (k + 1)) (paired words k index size) (paired words' k index size)
+unfolding paired
+alike-paired {words} {words'} k index size room a =
+    alike-less (omega arith) (alike-set size (omega (arith, length-set words (2 * k) index)) (alike-set index (omega arith) a))
+
+-- ---- steps
+
+-- a state over other words
+abbrev over : State → List ℕ → State
+over S words = record { matrix = S .matrix; words = words; row = S .row; mark = S .mark }
+
+-- the words that a choice notes
+noted : State → Choice → List ℕ → List ℕ
+noted S Null words = paired words (S .row) (S .row) 1
+noted S (One p) words = paired words (S .row) p 1
+noted S (Two p) words = paired (paired words (S .row) p 2) (S .row + 1) p 2
+
+take-over : (n : ℕ) (S : State) (words : List ℕ) (c : Choice) → take n (over S words) c ≡ over (take n S c) (noted S c words)
+unfolding take noted
+take-over n S words Null = refl
+take-over n S words (One p) = refl
+take-over n S words (Two p) = refl
+
+paired-long : (words : List ℕ) (row index size : ℕ) → length (paired words row index size) ≡ length words
+unfolding paired
+paired-long words row index size = simp length-set
+
+noted-long : (S : State) (c : Choice) (words : List ℕ) → length (noted S c words) ≡ length words
+unfolding noted
+noted-long S Null words = paired-long words (S .row) (S .row) 1
+noted-long S (One p) words = paired-long words (S .row) p 1
+noted-long S (Two p) words = paired-long (paired words (S .row) p 2) (S .row + 1) p 2 ∙ paired-long words (S .row) p 2
+
+module _ (n : ℕ) (S : State) (words words' : List ℕ) (long : length words ≡ wordsOf n) (more : S .row < n) (a : Alike (2 * S .row) words words') where
+  alike-noted : (c : Choice) → Within n (S .row) c → Alike (2 * take n S c .row) (noted S c words) (noted S c words')
+  unfolding take noted Within
+  alike-noted Null range = alike-paired (S .row) (S .row) 1 (omega arith) a
+  alike-noted (One p) range = alike-paired (S .row) p 1 (omega arith) a
+  alike-noted (Two p) range =
+      alike-less (omega arith)
+      (alike-paired (S .row + 1) p 2 (omega (arith, paired-long words (S .row) p 2, range .0, range .1)) (alike-paired (S .row) p 2 (omega arith) a))
+
+  alike-step : Alike (2 * step n S .row) (noted S (choose n (S .matrix) (S .row)) words) (noted S (choose n (S .matrix) (S .row)) words')
+  unfolding step
+  alike-step = alike-noted (choose n (S .matrix) (S .row)) (choose-range n (S .matrix) (S .row) more)
+
+step-over : (n : ℕ) (S : State) (words : List ℕ) → step n (over S words) ≡ over (step n S) (noted S (choose n (S .matrix) (S .row)) words)
+unfolding step
+step-over n S words = take-over n S words (choose n (S .matrix) (S .row))
+
+-- what two runs over two records end with
+record Ends (n : ℕ) (S S' : State) : Type 0 where
+  pub mark : S .mark ≡ S' .mark
+  pub words : Alike (2 * n) (S .words) (S' .words)
+  pub long : length (S .words) ≡ wordsOf n
+
+by-test : (n : ℕ) (b : Bool) {x y x' y' : State} → (b ≡ true → Ends n x x') → (b ≡ false → Ends n y y') → Ends n (cond b x y) (cond b x' y')
+by-test n true f g = f refl
+by-test n false f g = g refl
+
+run-over : (fuel n : ℕ) (S : State) (words words' : List ℕ) → length words ≡ wordsOf n → n ≤ S .row + fuel → Alike (2 * S .row) words words' → Ends n (run fuel n (over S words)) (run fuel n (over S words'))
+unfolding run
+run-over zero n S words words' long enough a = record { mark = refl; words = alike-less (omega arith) a; long = long }
+run-over (suc fuel) n S words words' long enough a =
+    by-test n (ltb (S .row) n)
+    (λ test.
+    let more : S .row < n = ltb-true (S .row) n test in
+    let c = choose n (S .matrix) (S .row) in
+    rw (step-over n S words, step-over n S words')
+    (run-over fuel n (step n S) (noted S c words) (noted S c words') (noted-long S c words ∙ long) (omega (arith, step-rises n S)) (alike-step n S words words' long more a)))
+    (λ test.
+    let past : n ≤ S .row = ltb-false (S .row) n test in
+    record { mark = refl; words = alike-less (omega arith) a; long = long })
+
+-- ---- the record
+
+alike-all : (n : ℕ) {words words' : List ℕ} (m : ℕ) → length words ≡ wordsOf n → Alike (2 * n) words words' → marked n words m ≡ marked n words' m
+unfolding marked
+alike-all n {words} {words'} m long a =
+    let b = alike-set m (omega arith) a in
+    ext-getD 0 (set words (2 * n) m) (set words' (2 * n) m) (b .long) (λ p h. b .first p (omega (arith, length-set words (2 * n) m)))
+
+pub overwritten : (n : ℕ) (M : Matrix) (words words' : List ℕ) → Sized n words → Sized n words' → recorded n M words ≡ recorded n M words'
+unfolding recorded factored begun
+overwritten n M words words' sized sized' =
+    let e = run-over n n (record { matrix = M; words = words; row = 0; mark = 0 }) words words' (sized .total) (omega arith)
+    (record { long = sized .total ∙ sym (sized' .total); first = λ p h. absurd (omega arith) }) in
+    alike-all n (run n n (record { matrix = M; words = words; row = 0; mark = 0 }) .mark) (e .long) (e .words)
+    ∙ ap (marked n (run n n (record { matrix = M; words = words'; row = 0; mark = 0 }) .words)) (e .mark)

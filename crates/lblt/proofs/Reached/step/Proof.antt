@@ -1,0 +1,76 @@
+-- `step` meets its contract: the three choices. Assumes nothing.
+use borrow.Author.Needs.{needs}
+use native.Mathlib.Omega.{arith}
+use Rattle.lblt.proofs.Range.{one-range, two-range}
+use Rattle.lblt.proofs.Stands.{stands-null, stands-one, stands-two}
+use Rattle.lblt.proofs.Reached.step.Statement.{statement}
+use Rattle.lblt.proofs.Reached.step.Tie as tie
+
+choose-requires : tie.Need-choose-requires
+choose-requires c κs = (c .before .before .before .pre .0, (c .before .before .before .pre .1 .0, c .before .before .before .pre .1 .1 .1))
+
+enum-told : tie.Need-enum-told
+enum-told c = search needs
+
+one-requires : tie.Need-one-requires
+one-requires c κs = omega arith
+
+add-t16 : tie.Need-add-t16
+add-t16 c = omega arith
+
+first-mark-requires : tie.Need-first-mark-requires
+first-mark-requires c κs = omega arith
+
+enum-known-p : tie.Need-enum-known-p
+enum-known-p c = search needs
+
+pivot1-requires : tie.Need-pivot1-requires
+pivot1-requires c κs = let range = one-range _ (c .before .before .before .before .before .before .before .before .pre .1 .1 .1) (c .before .before .before .before .choose .ensures) (c .before .before .p .given .1) in (c .before .before .before .before .before .before .before .before .pre .0, (c .before .before .before .before .before .before .before .before .pre .1 .0, range))
+
+one-requires-2 : tie.Need-one-requires-2
+one-requires-2 c κs = let range = one-range _ (c .before .before .before .before .before .before .before .before .before .before .before .before .pre .1 .1 .1) (c .before .before .before .before .before .before .before .before .choose .ensures) (c .before .before .before .before .before .before .p .given .1) in omega arith
+
+add-t23 : tie.Need-add-t23
+add-t23 c = omega arith
+
+enum-known-p-2 : tie.Need-enum-known-p-2
+enum-known-p-2 c = search needs
+
+pivot2-requires : tie.Need-pivot2-requires
+pivot2-requires c κs = let range = two-range _ (c .before .before .before .before .before .before .before .before .pre .1 .1 .1) (c .before .before .before .before .choose .ensures) (c .before .before .p2 .given .1) in (c .before .before .before .before .before .before .before .before .pre .0, (c .before .before .before .before .before .before .before .before .pre .1 .0, range))
+
+two-requires : tie.Need-two-requires
+two-requires c κs = let range = two-range _ (c .before .before .before .before .before .before .before .before .before .before .before .before .pre .1 .1 .1) (c .before .before .before .before .before .before .before .before .choose .ensures) (c .before .before .before .before .before .before .p2 .given .1) in omega arith
+
+add-t29 : tie.Need-add-t29
+add-t29 c = omega arith
+
+same-length : tie.Need-same-length
+same-length c = search needs
+
+same-length-2 : tie.Need-same-length-2
+same-length-2 c = search needs
+
+returns : tie.Need-returns
+returns c = stands-null _ _ (c .before .before .before .before .before .before .before .choose .ensures) (c .before .before .before .before .before .enum-told .given .1) (c .before .before .before .before .before .before .before .before .before .before .before .pre .1 .0) (c .before .before .before .one .ensures) (c .first-mark .ensures)
+
+same-length-3 : tie.Need-same-length-3
+same-length-3 c = search needs
+
+same-length-4 : tie.Need-same-length-4
+same-length-4 c = search needs
+
+returns-2 : tie.Need-returns-2
+returns-2 c = stands-one _ _ (c .before .before .before .before .before .before .before .before .before .before .before .choose .ensures) (c .before .before .before .before .before .before .before .before .before .p .given .1) (c .before .before .before .before .before .before .pivot1 .ensures) (c .before .before .one2 .ensures)
+
+same-length-5 : tie.Need-same-length-5
+same-length-5 c = search needs
+
+same-length-6 : tie.Need-same-length-6
+same-length-6 c = search needs
+
+returns-3 : tie.Need-returns-3
+returns-3 c = stands-two _ _ (c .before .before .before .before .before .before .before .before .before .before .before .choose .ensures) (c .before .before .before .before .before .before .before .before .before .p2 .given .1) (c .before .before .before .before .before .before .pivot2 .ensures) (c .before .before .two .ensures)
+
+pub step-spec : {M : Type 1} → statement M
+step-spec = tie.close (tie.spec choose-requires enum-told one-requires add-t16 first-mark-requires enum-known-p pivot1-requires one-requires-2 add-t23 enum-known-p-2 pivot2-requires two-requires add-t29 same-length same-length-2 returns same-length-3 same-length-4 returns-2 same-length-5 same-length-6 returns-3)

@@ -1,0 +1,62 @@
+-- One step, way by way. Assumes nothing.
+use mathlib.Core.Path.{_≡_, refl, sym, _∙_, ap, subst}
+use mathlib.Core.List.{List}
+use Prim.Native.Nat.{ℕ, _+_, _<_}
+use native.Mathlib.Omega.{arith}
+use lib.Ieee.{Float}
+use Rattle.matrix.specs.Grid.{Grid, Sound, Holds, load}
+use Rattle.matrix.specs.Layouts.{lower}
+use Rattle.matrix.specs.declared.Layout.{Layout}
+use Rattle.matrix.proofs.Grids.{holds-none, holds-then}
+use Rattle.pivots.specs.Words.{paired}
+use Rattle.lblt.specs.Choice.{choose}
+use Rattle.lblt.specs.Interchange.{brought1, brought2}
+use Rattle.lblt.specs.Update.{update1, update2}
+use Rattle.lblt.specs.Step.{State, firstMark, pivot1, pivot2, take, step}
+use Rattle.lblt.specs.Engine.{stateAt, Stands}
+use Rattle.lblt.specs.declared.Reached.{Reached}
+use Rattle.lblt.specs.declared.choice.Choice.{Choice}
+use Rattle.lblt.specs.declared.choice.Choice.the-variants.{Null, One, Two}
+
+module _ {g : Grid} {l l₁ l₂ : List Float} (n k p : ℕ) where
+  pub pivots1 : Holds g l l₁ (brought1 n k p (load g l)) → Holds g l₁ l₂ (update1 n k (load g l₁)) → Holds g l l₂ (pivot1 n k p (load g l))
+  unfolding pivot1
+  pivots1 brought updated = holds-then (update1 n k) brought updated
+
+  pub pivots2 : Holds g l l₁ (brought2 n k p (load g l)) → Holds g l₁ l₂ (update2 n k (load g l₁)) → Holds g l l₂ (pivot2 n k p (load g l))
+  unfolding pivot2
+  pivots2 brought updated = holds-then (update2 n k) brought updated
+
+module _ {y : Layout} {a : List Float} (words : List ℕ) (s : Reached) {r : Choice} (made : r ≡ choose (y .order) (load (lower y) a) (s .row)) where
+  stands-by : {a' : List Float} {words' : List ℕ} {s' : Reached} {choice : Choice} → r ≡ choice → Stands y a a' words' s' (take (y .order) (stateAt (load (lower y) a) words s) choice) → Stands y a a' words' s' (step (y .order) (stateAt (load (lower y) a) words s))
+  unfolding step stateAt
+  stands-by {a'} {words'} {s'} is stands = subst (λ (S : State). Stands y a a' words' s' S) (ap (take (y .order) (stateAt (load (lower y) a) words s)) (sym is ∙ made)) stands
+
+  pub stands-null : {words' : List ℕ} {mark : ℕ}
+      → r ≡ Null → Sound (lower y) a → words' ≡ paired words (s .row) (s .row) 1 → mark ≡ firstMark (s .mark) (s .row)
+      → Stands y a a words' (record { row = s .row + 1; mark = mark }) (step (y .order) (stateAt (load (lower y) a) words s))
+  unfolding stateAt take
+  stands-null is sound noted marks = stands-by is (record { matrix = holds-none sound; pairs = noted; row = refl; mark = marks })
+
+  pub stands-one : {a' : List Float} {words' : List ℕ} {p : ℕ}
+      → r ≡ One p → Holds (lower y) a a' (pivot1 (y .order) (s .row) p (load (lower y) a)) → words' ≡ paired words (s .row) p 1
+      → Stands y a a' words' (record { row = s .row + 1; mark = s .mark }) (step (y .order) (stateAt (load (lower y) a) words s))
+  unfolding stateAt take
+  stands-one is holds noted = stands-by is (record { matrix = holds; pairs = noted; row = refl; mark = refl })
+
+  pub stands-two : {a' : List Float} {words' : List ℕ} {p : ℕ}
+      → r ≡ Two p → Holds (lower y) a a' (pivot2 (y .order) (s .row) p (load (lower y) a)) → words' ≡ paired (paired words (s .row) p 2) (s .row + 1) p 2
+      → Stands y a a' words' (record { row = s .row + 2; mark = s .mark }) (step (y .order) (stateAt (load (lower y) a) words s))
+  unfolding stateAt take
+  stands-two is holds noted = stands-by is (record { matrix = holds; pairs = noted; row = refl; mark = refl })
+
+-- a step goes on by a row at least
+take-rises : (n : ℕ) (S : State) (c : Choice) → S .row < take n S c .row
+unfolding take
+take-rises n S Null = omega arith
+take-rises n S (One p) = omega arith
+take-rises n S (Two p) = omega arith
+
+pub step-rises : (n : ℕ) (S : State) → S .row < step n S .row
+unfolding step
+step-rises n S = take-rises n S (choose n (S .matrix) (S .row))

@@ -1,0 +1,24 @@
+-- `interchange` meets its contract. Assumes nothing.
+use borrow.Author.Needs.{needs}
+use native.Mathlib.Omega.{arith}
+use Rattle.lblt.proofs.Interchanges.{interchanges}
+use Rattle.lblt.proofs.interchange.interchange.Statement.{statement}
+use Rattle.lblt.proofs.interchange.interchange.Tie as tie
+
+swap-below-requires : tie.Need-swap-below-requires
+swap-below-requires c κs = (c .before .before .pre .0, (c .before .before .pre .1 .0, (omega arith, omega arith)))
+
+swap-between-requires : tie.Need-swap-between-requires
+swap-between-requires c κs = (c .before .before .before .before .before .before .pre .0, (c .before .before .before .swap-below .ensures .sound, (omega arith, omega arith)))
+
+swap-requires : tie.Need-swap-requires
+swap-requires c κs = (c .before .before .before .before .before .before .before .before .before .before .pre .0, (c .before .before .before .swap-between .ensures .sound, (omega arith, (omega arith, (omega arith, omega arith)))))
+
+same-length : tie.Need-same-length
+same-length c = search needs
+
+returns : tie.Need-returns
+returns c = interchanges _ _ _ (c .before .before .before .before .before .before .before .before .before .before .swap-below .ensures) (c .before .before .before .before .before .before .swap-between .ensures) (c .before .before .swap .ensures)
+
+pub interchange-spec : {M : Type 1} → statement M
+interchange-spec = tie.close (tie.spec swap-below-requires swap-between-requires swap-requires same-length returns)

@@ -1,0 +1,24 @@
+-- `update1` meets its contract. Assumes nothing.
+use borrow.Author.Needs.{needs}
+use native.Mathlib.Omega.{arith}
+use Rattle.lblt.proofs.Updates.{updates1}
+use Rattle.lblt.proofs.rank1.update1.Statement.{statement}
+use Rattle.lblt.proofs.rank1.update1.Tie as tie
+
+get-requires : tie.Need-get-requires
+get-requires c κs = (c .before .before .pre .0, (c .before .before .pre .1 .0, (omega arith, omega arith)))
+
+rank1-all-requires : tie.Need-rank1-all-requires
+rank1-all-requires c κs = (c .before .before .before .before .pre .0, (c .before .before .before .before .pre .1 .0, omega arith))
+
+scale-all-requires : tie.Need-scale-all-requires
+scale-all-requires c κs = (c .before .before .before .before .before .before .before .before .pre .0, (c .before .before .before .rank1-all .ensures .sound, omega arith))
+
+same-length : tie.Need-same-length
+same-length c = search needs
+
+returns : tie.Need-returns
+returns c = updates1 _ _ (c .before .before .before .before .before .before .before .before .get .ensures) (c .before .before .before .before .before .before .rank1-all .ensures) (c .before .before .scale-all .ensures)
+
+pub update1-spec : {M : Type 1} → statement M
+update1-spec = tie.close (tie.spec get-requires rank1-all-requires scale-all-requires same-length returns)

@@ -1,0 +1,7 @@
+pub mod Rounded
+pub mod Choice
+pub mod Interchange
+pub mod Update
+pub mod Step
+pub mod Factor
+pub mod Engine

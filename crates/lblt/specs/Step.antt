@@ -1,0 +1,51 @@
+-- Step k, and all steps.
+use mathlib.Core.Bool.{cond}
+use mathlib.Core.List.{List}
+use Prim.Native.Nat.{ℕ, zero, suc, _+_}
+use lib.Dec.{ltb, eqb}
+use Rattle.matrix.specs.Matrix.{Matrix}
+use Rattle.pivots.specs.Words.{paired}
+use Rattle.lblt.specs.Choice.{choose}
+use Rattle.lblt.specs.Interchange.{brought1, brought2}
+use Rattle.lblt.specs.Update.{update1, update2}
+use Rattle.lblt.specs.declared.choice.Choice.{Choice}
+use Rattle.lblt.specs.declared.choice.Choice.the-variants.{Null, One, Two}
+
+-- `mark` is 0, or the first marked row + 1
+pub record State : Type 0 where
+  pub matrix : Matrix
+  pub words : List ℕ
+  pub row : ℕ
+  pub mark : ℕ
+
+-- the mark is set if unset
+unfoldable pub firstMark : ℕ → ℕ → ℕ
+firstMark mark k = cond (eqb mark 0) (k + 1) mark
+
+unfoldable pub pivot1 : ℕ → ℕ → ℕ → Matrix → Matrix
+pivot1 n k p M = update1 n k (brought1 n k p M)
+
+unfoldable pub pivot2 : ℕ → ℕ → ℕ → Matrix → Matrix
+pivot2 n k p M = update2 n k (brought2 n k p M)
+
+-- the state after a choice
+unfoldable pub take : ℕ → State → Choice → State
+take n s Null =
+    record { matrix = s .matrix; words = paired (s .words) (s .row) (s .row) 1; row = s .row + 1; mark = firstMark (s .mark) (s .row) }
+take n s (One p) =
+    record { matrix = pivot1 n (s .row) p (s .matrix); words = paired (s .words) (s .row) p 1; row = s .row + 1; mark = s .mark }
+take n s (Two p) =
+    record {
+      matrix = pivot2 n (s .row) p (s .matrix);
+      words = paired (paired (s .words) (s .row) p 2) (s .row + 1) p 2;
+      row = s .row + 2;
+      mark = s .mark;
+    }
+
+unfoldable pub step : ℕ → State → State
+step n s = take n s (choose n (s .matrix) (s .row))
+
+-- steps while rows are left, at most `fuel`
+unfoldable pub run : ℕ → ℕ → State → State
+run zero n s = s
+run (suc fuel) n s = cond (ltb (s .row) n) (run fuel n (step n s)) s

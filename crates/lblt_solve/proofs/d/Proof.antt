@@ -1,0 +1,53 @@
+-- `d` fills its matrix where its checks admit it, and leaves it as it was where they do not.
+use Rattle.lblt_solve.proofs.Admitted.{reader-admitted, factored}
+use Rattle.lblt_solve.specs.Calls.{lowerOf}
+use mathlib.Core.Path.{refl, sym, _∙_}
+use borrow.Author.Needs.{needs}
+use Rattle.lblt_solve.proofs.d.Statement.{statement}
+use Rattle.lblt_solve.proofs.d.Tie as tie
+
+reader-requires : tie.Need-reader-requires
+reader-requires c κs = search needs
+
+code-requires : tie.Need-code-requires
+code-requires c κs = search needs
+
+same-length : tie.Need-same-length
+same-length c = search needs
+
+returns : tie.Need-returns
+returns c =
+    let reader = c .before .before .reader in
+    record { answer = reader .ensures; filled = λ z. absurd (c .if1 .taken (c .before .code .ensures ∙ z)); kept = λ h. refl }
+
+fill-requires : tie.Need-fill-requires
+fill-requires c κs =
+    let code = c .before .before .code in
+    let if1 = c .before .if1 in
+    let reader = c .before .before .before .reader in
+    let admitted = reader-admitted _ _ _ _ _ (sym (code .ensures) ∙ if1 .left) (reader .ensures) in
+    (factored admitted, record { small = admitted .order; long = admitted .long })
+
+same-length-2 : tie.Need-same-length-2
+same-length-2 c = search needs
+
+returns-2 : tie.Need-returns-2
+unfolding lowerOf
+returns-2 c =
+    let reader = c .before .before .before .before .before .before .reader in
+    let fill = c .before .before .fill in
+    let code = c .before .before .before .before .before .code in
+    let if1 = c .before .before .before .before .if1 in
+    record { answer = reader .ensures; filled = λ z. fill .ensures; kept = λ h. absurd (h (sym (code .ensures) ∙ if1 .left)) }
+
+pub d-spec : {M : Type 1} → statement M
+d-spec =
+    tie.close
+    (tie.spec
+    reader-requires
+    code-requires
+    same-length
+    returns
+    fill-requires
+    same-length-2
+    returns-2)

@@ -1,0 +1,65 @@
+-- What the public calls answer and leave behind, refused ones too.
+use mathlib.Core.Bool.{cond, _&&_, _||_}
+use mathlib.Core.List.{List}
+use mathlib.Core.Path.{_≡_}
+use Prim.Native.Nat.{ℕ, _-_, _*_}
+use lib.Dec.{eqb, ltb}
+use lib.Ieee.{Float}
+use lib.ListN.{length}
+use Rattle.answer.specs.declared.Answer.{Answer}
+use Rattle.answer.specs.declared.Answer.the-variants.{Done, OutOfRange, MatrixLength, SliceLength, ZeroMark}
+use Rattle.answer.specs.declared.Valued.{Valued}
+use Rattle.answer.specs.Number.{codeOf}
+use Rattle.matrix.specs.declared.Layout.{Layout}
+use Rattle.matrix.specs.Matrix.{Matrix}
+use Rattle.matrix.specs.Grid.{load}
+use Rattle.matrix.specs.Layouts.{lower, Fills}
+use Rattle.pivots.specs.Words.{markAt, wordsOf}
+use Rattle.pivots.specs.Rule.{checked}
+use Rattle.lblt_solve.specs.Column.{solveColumn}
+use Rattle.lblt_solve.specs.Columns.{eachColumn}
+use Rattle.lblt_solve.specs.Diagonal.{zeroFloat, determinantOf}
+
+-- the lower triangle of an n·n matrix: nothing else of it is read
+abbrev pub whole : ℕ → Layout
+whole n = record { order = n; room = n }
+
+unfoldable pub lowerOf : ℕ → List Float → Matrix
+lowerOf n a = load (lower (whole n)) a
+
+-- the checks of every reader in the table's order; `other` is its other slice, of n·columns numbers
+unfoldable pub readerAnswer : ℕ → ℕ → List Float → List ℕ → List Float → Answer
+readerAnswer n columns a words other =
+    cond (ltb 1024 n || ltb 1024 columns) OutOfRange
+    (cond (eqb (length a) (n * n))
+    (cond (eqb (length words) (wordsOf n) && eqb (length other) (n * columns)) (checked n words) SliceLength)
+    MatrixLength)
+
+-- x where done, y where refused
+unfoldable pub whenDone : {S : Type 0} → Answer → S → S → S
+whenDone r x y = cond (eqb (codeOf r) 0) x y
+
+-- a zero mark refuses `solve_mut` alone, after all else
+unfoldable pub solveAnswer : ℕ → ℕ → List Float → List ℕ → List Float → Answer
+unfolding readerAnswer whenDone
+solveAnswer n columns a words b =
+    whenDone (readerAnswer n columns a words b)
+    (cond (eqb (markAt n words) 0) Done (ZeroMark (markAt n words - 1)))
+    (readerAnswer n columns a words b)
+
+unfoldable pub solveEach : ℕ → Matrix → List ℕ → ℕ → List Float → List Float
+solveEach n A words j b = solveColumn n A words b
+
+pub record Solved (n columns : ℕ) (a : List Float) (words : List ℕ) (b : List Float) (r : Answer) (b' : List Float) : Type 0 where
+  pub answer : r ≡ solveAnswer n columns a words b
+  pub sides : b' ≡ whenDone r (eachColumn n columns (solveEach n (lowerOf n a) words) b) b
+
+pub record Determined (n : ℕ) (a : List Float) (words : List ℕ) (r : Valued) : Type 0 where
+  pub answer : r .answer ≡ readerAnswer n n a words a
+  pub value : r .value ≡ whenDone (r .answer) (determinantOf n (lowerOf n a) words) zeroFloat
+
+-- a matrix M of n·n numbers is filled in where done, and as it was where refused
+pub record Filled (n : ℕ) (a : List Float) (words : List ℕ) (M : Matrix) (l : List Float) (r : Answer) (l' : List Float) : Type 0 where
+  pub answer : r ≡ readerAnswer n n a words l
+  pub filled : codeOf r ≡ 0 → Fills n l' M
+  pub kept : (codeOf r ≡ 0 → ⊥) → l' ≡ l

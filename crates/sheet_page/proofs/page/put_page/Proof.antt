@@ -1,0 +1,65 @@
+-- The lines one after the other.
+use borrow.Author.Needs.{needs}
+use mathlib.Core.Path.{refl, ap}
+use native.Mathlib.Omega.{arith}
+use Prim.Native.Nat.{ℕ, _+_, zero-le}
+use denote.Ref.{now}
+use Rattle.sheet_text.proofs.PlaceLaws.{length-places}
+use Rattle.sheet_page.specs.Page.{zeroLine, matrixIn}
+use Rattle.sheet_page.proofs.PutLaws.{put-then, put-ends, put-same}
+use Rattle.sheet_page.proofs.PageText.{page-text}
+use Rattle.sheet_page.proofs.page.put_page.Statement.{statement}
+use Rattle.sheet_page.proofs.page.put_page.Tie as tie
+
+slice-aggregate-put-number-line : tie.Need-slice-aggregate-put-number-line
+slice-aggregate-put-number-line c = refl
+
+put-number-line-requires : tie.Need-put-number-line-requires
+put-number-line-requires c κs = zero-le
+
+put-pivots-requires : tie.Need-put-pivots-requires
+put-pivots-requires c κs = record { room = put-ends (c .before .before .before .put-number-line .ensures); whole = c .before .before .before .before .before .before .before .before .before .pre .words-whole }
+
+mark-requires : tie.Need-mark-requires
+mark-requires c κs = omega (arith, c .before .before .before .before .before .before .before .before .before .before .before .before .before .pre .words-whole)
+
+put-zero-requires : tie.Need-put-zero-requires
+put-zero-requires c κs = put-ends (c .before .before .before .before .put-pivots .ensures)
+
+put-entries-requires : tie.Need-put-entries-requires
+put-entries-requires c κs = record { room = put-ends (c .before .before .before .put-zero .ensures); small = c .before .before .before .before .before .before .before .before .before .before .before .before .before .before .before .before .before .before .pre .small; whole = c .before .before .before .before .before .before .before .before .before .before .before .before .before .before .before .before .before .before .pre .cells-whole }
+
+put-det-requires : tie.Need-put-det-requires
+put-det-requires c κs = put-ends (c .before .before .before .put-entries .ensures .put)
+
+slice-aggregate-put-number-line-2 : tie.Need-slice-aggregate-put-number-line-2
+slice-aggregate-put-number-line-2 c = refl
+
+add-put-number-line : tie.Need-add-put-number-line
+add-put-number-line c = omega (arith, c .before .before .before .before .before .before .before .before .before .before .before .before .before .before .before .before .before .before .before .before .before .before .before .before .before .before .before .before .pre .small, c .before .before .before .before .before .before .before .before .before .put-entries .ensures .count, length-places (c .before .before .before .before .before .before .before .before .before .before .before .before .before .before .before .before .before .before .before .before .before .before .before .before .before .before .before .before .args .n) (c .before .before .before .before .before .before .before .before .before .before .before .before .before .before .before .before .before .before .before .before .before .before .before .before .before .before .before .before .pre .small))
+
+put-number-line-requires-2 : tie.Need-put-number-line-requires-2
+put-number-line-requires-2 c κs = put-ends (c .before .before .before .before .before .put-det .ensures)
+
+same-length : tie.Need-same-length
+same-length c = (put-then (c .before .before .before .before .before .before .before .before .before .before .before .before .before .before .before .before .before .before .before .before .before .before .before .before .before .put-number-line .ensures) (put-then (c .before .before .before .before .before .before .before .before .before .before .before .before .before .before .before .before .before .before .before .before .before .put-pivots .ensures) (put-then (put-same (ap zeroLine (c .before .before .before .before .before .before .before .before .before .before .before .before .before .before .before .before .before .mark .ensures)) (c .before .before .before .before .before .before .before .before .before .before .before .before .before .before .before .before .put-zero .ensures)) (put-then (c .before .before .before .before .before .before .before .before .before .before .before .before .put-entries .ensures .put) (put-then (c .before .before .before .before .before .before .before .before .put-det .ensures) (c .before .before .put-number-line2 .ensures)))))) .long
+
+returns : tie.Need-returns
+returns c = put-same (page-text (c .before .before .before .before .before .before .before .before .before .before .before .before .before .before .before .before .before .before .before .before .before .before .before .before .before .before .before .before .before .before .before .args .n) (now (c .before .before .before .before .before .before .before .before .before .before .before .before .before .before .before .before .before .before .before .before .before .before .before .before .before .before .before .before .before .before .before .args .words)) (matrixIn (c .before .before .before .before .before .before .before .before .before .before .before .before .before .before .before .before .before .before .before .before .before .before .before .before .before .before .before .before .before .before .before .args .n) (now (c .before .before .before .before .before .before .before .before .before .before .before .before .before .before .before .before .before .before .before .before .before .before .before .before .before .before .before .before .before .before .before .args .a))) (c .before .before .before .before .before .before .before .before .before .before .before .before .before .before .before .before .before .before .before .before .before .before .before .before .before .before .before .before .before .before .before .args .det) _ (ap (λ (k : ℕ). c .before .before .before .before .before .before .before .before .before .before .before .before .before .before .before .before .before .before .before .before .before .before .before .before .before .before .before .before .before .before .before .args .n + k) (c .before .before .before .before .before .before .before .before .before .before .before .before .put-entries .ensures .count))) (put-then (c .before .before .before .before .before .before .before .before .before .before .before .before .before .before .before .before .before .before .before .before .before .before .before .before .before .put-number-line .ensures) (put-then (c .before .before .before .before .before .before .before .before .before .before .before .before .before .before .before .before .before .before .before .before .before .put-pivots .ensures) (put-then (put-same (ap zeroLine (c .before .before .before .before .before .before .before .before .before .before .before .before .before .before .before .before .before .mark .ensures)) (c .before .before .before .before .before .before .before .before .before .before .before .before .before .before .before .before .put-zero .ensures)) (put-then (c .before .before .before .before .before .before .before .before .before .before .before .before .put-entries .ensures .put) (put-then (c .before .before .before .before .before .before .before .before .put-det .ensures) (c .before .before .put-number-line2 .ensures))))))
+
+pub put-page-spec : {M : Type 1} → statement M
+put-page-spec =
+    tie.close
+    (tie.spec
+    slice-aggregate-put-number-line
+    put-number-line-requires
+    put-pivots-requires
+    mark-requires
+    put-zero-requires
+    put-entries-requires
+    put-det-requires
+    slice-aggregate-put-number-line-2
+    add-put-number-line
+    put-number-line-requires-2
+    same-length
+    returns)

@@ -1,0 +1,6 @@
+// The page that the program writes, into a lent slice of bytes.
+mod page;
+mod put;
+
+pub use page::put_page;
+pub use page::put_refusal;

@@ -1,0 +1,36 @@
+use borrow.Author.Needs.{needs}
+use mathlib.Core.Path.{sym, ap, _∙_}
+use denote.Ref.{now}
+use Rattle.sheet_text.specs.Line.{numberFound}
+use Rattle.sheet_text.proofs.EntrySteps.{row-column, row-no-column}
+use Rattle.sheet_text.proofs.line.after_row.Statement.{statement}
+use Rattle.sheet_text.proofs.line.after_row.Tie as tie
+
+read-number-requires : tie.Need-read-number-requires
+read-number-requires c κs = search needs
+
+enum-known-value : tie.Need-enum-known-value
+enum-known-value c = search needs
+
+after-column-requires : tie.Need-after-column-requires
+after-column-requires c κs = search needs
+
+enum-told : tie.Need-enum-told
+enum-told c = search needs
+
+returns : tie.Need-returns
+returns c = c .after-column .ensures ∙ sym (row-column _ _ _ _ (sym (c .before .before .before .before .read-number .ensures) ∙ ap (numberFound (now (c .before .before .before .before .before .before .args .s))) (c .before .before .value .given .1)))
+
+returns-2 : tie.Need-returns-2
+returns-2 c = sym (row-no-column _ _ (sym (c .before .before .read-number .ensures) ∙ ap (numberFound (now (c .before .before .before .before .args .s))) (c .enum-told .given .1)))
+
+pub after-row-spec : {M : Type 1} → statement M
+after-row-spec =
+    tie.close
+    (tie.spec
+    read-number-requires
+    enum-known-value
+    after-column-requires
+    enum-told
+    returns
+    returns-2)

@@ -1,0 +1,27 @@
+use borrow.Author.Needs.{needs}
+use mathlib.Core.Path.{_≡_, refl, sym, ap, _∙_}
+use native.Mathlib.Omega.{arith}
+use denote.Ref.{now}
+use Rattle.sheet_text.proofs.Steps.{word-fits, number-after, number-no-word}
+use Rattle.sheet_text.proofs.line.number_line.Statement.{statement}
+use Rattle.sheet_text.proofs.line.number_line.Tie as tie
+
+word-stands-requires : tie.Need-word-stands-requires
+word-stands-requires c κs = search needs
+
+add-read-number : tie.Need-add-read-number
+add-read-number c = omega (arith, word-fits (now (c .before .before .before .before .args .word)) (now (c .before .before .before .before .args .s)) (c .before .before .before .before .args .at) (sym (c .before .word-stands .ensures) ∙ c .if1 .taken))
+
+read-number-requires : tie.Need-read-number-requires
+read-number-requires c κs = search needs
+
+returns : tie.Need-returns
+returns c = c .read-number .ensures ∙ sym (number-after (now (c .before .before .before .before .before .args .word)) (now (c .before .before .before .before .before .args .s)) (c .before .before .before .before .before .args .at) (sym (c .before .before .word-stands .ensures) ∙ c .before .if1 .taken))
+
+returns-2 : tie.Need-returns-2
+returns-2 c = sym (number-no-word (now (c .before .before .before .before .args .word)) (now (c .before .before .before .before .args .s)) (c .before .before .before .before .args .at) (sym (c .before .word-stands .ensures) ∙ c .if1 .left))
+
+pub number-line-spec : {M : Type 1} → statement M
+number-line-spec =
+    tie.close
+    (tie.spec word-stands-requires add-read-number read-number-requires returns returns-2)

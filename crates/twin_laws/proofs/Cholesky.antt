@@ -1,0 +1,207 @@
+-- Cholesky and twin rows p < q, for any rule of the diagonal. Assumes nothing.
+use mathlib.Core.Path.{_≡_, refl, sym, _∙_, ap, subst}
+use mathlib.Core.Bool.{Bool, true, false, cond}
+use mathlib.Core.Logic.{_⊎_, inl, inr, ⊎-elim}
+use Prim.Native.Nat.{ℕ, zero, suc, _+_, _≤_, _<_}
+use native.Mathlib.Nat.{eq-or-lt-of-le}
+use native.Mathlib.Numerals.{add-one}
+use native.Mathlib.Omega.{arith}
+use borrow.Author.Tests.{le-ltb}
+use lib.Ieee.{Float, binary64, add, mul, div, neg}
+use Rattle.answer.specs.declared.Answer.{Answer}
+use Rattle.answer.specs.declared.Answer.the-variants.{Done}
+use Rattle.matrix.specs.Matrix.{Matrix, entry}
+use Rattle.matrix.specs.Loop.{for}
+use Rattle.matrix.proofs.Loops.{for-none, for-more, for-same}
+use Rattle.cholesky.specs.Column.{less, updated}
+use Rattle.cholesky.specs.Run.{Rule, Outcome, isDone, updates, below, judged, worked, column, started, run}
+use Rattle.cholesky.proofs.Rows.{updates-in, updates-above, below-in, below-above, entry-same, entry-off, columns-off, judged-passed}
+use Rattle.twin_laws.proofs.Products.{neg-exchanges}
+
+-- ---- updates of two rows
+
+-- two chains of updates with equal starts and equal terms
+pub chain : (M N : Matrix) (i j r c k : ℕ) → M i j ≡ N r c → ((t : ℕ) → t < k → mul binary64 (neg (M j t)) (M i t) ≡ mul binary64 (neg (N c t)) (N r t)) → updated M j k i ≡ updated N c k r
+unfolding updated less
+chain M N i j r c k start terms =
+    for-same 0 k (less M i j) (less N r c) (M i j) (λ t x from below. ap (add binary64 x) (terms t below)) ∙ ap (for 0 k (less N r c)) start
+
+-- what is left of a twin's diagonal: v + (−(v / root v))·(v / root v)
+unfoldable pub remainder : Rule → Float → Float
+remainder ρ v = add binary64 v (mul binary64 (neg (div binary64 v (ρ .root v))) (div binary64 v (ρ .root v)))
+
+-- the answer to a diagonal x at column j
+abbrev pub ruled : Rule → Float → ℕ → Answer
+ruled ρ x j = cond (isDone (ρ .verdict x j)) Done (ρ .verdict x j)
+
+judged-answer : (ρ : Rule) (j : ℕ) (U : Matrix) → judged ρ j U .answer ≡ ruled ρ (U j j) j
+unfolding judged
+judged-answer ρ j U = pick (isDone (ρ .verdict (U j j) j))
+  where
+    pick : (b : Bool) → cond {A = Outcome} b (record { answer = Done; cells = below (j + 1) j (entry U j j (ρ .root (U j j))) }) (record { answer = ρ .verdict (U j j) j; cells = U }) .answer ≡ cond b Done (ρ .verdict (U j j) j)
+    pick true = refl
+    pick false = refl
+
+module _ (ρ : Rule) (A : Matrix) where
+  -- the matrix after j columns
+  abbrev pub After : ℕ → Matrix
+  After j = run ρ 0 j A .cells
+
+  abbrev pub Accepted : ℕ → Type 0
+  Accepted j = isDone (run ρ 0 j A .answer) ≡ true
+
+  step : (j : ℕ) → run ρ 0 (j + 1) A ≡ column ρ 0 j (run ρ 0 j A)
+  unfolding run
+  step j = for-more 0 j (column ρ 0) (started A) (omega arith)
+
+  -- the columns before an accepted one are accepted
+  pub accepted-before : (j : ℕ) → Accepted (j + 1) → Accepted j
+  unfolding column
+  accepted-before j done = by (isDone (run ρ 0 j A .answer)) refl (subst (λ (o : Outcome). isDone (o .answer) ≡ true) (step j) done)
+    where
+      by : (b : Bool) → isDone (run ρ 0 j A .answer) ≡ b → isDone (cond {A = Outcome} b (worked ρ 0 j (run ρ 0 j A .cells)) (run ρ 0 j A) .answer) ≡ true → Accepted j
+      by true e h = e
+      by false e h = h
+
+  -- the updated column j
+  abbrev pub Updated : ℕ → ℕ → Float
+  Updated j i = updated (After j) j j i
+
+  -- after accepted columns, column j is judged
+  pub judges : (j : ℕ) → Accepted j → run ρ 0 (j + 1) A ≡ judged ρ j (updates j j (After j))
+  unfolding column worked
+  judges j done = step j ∙ simp (done, le-ltb j 0 (omega arith))
+
+  -- an accepted column
+  passed : (j : ℕ) → Accepted (j + 1) → After (j + 1) ≡ below (j + 1) j (entry (updates j j (After j)) j j (ρ .root (updates j j (After j) j j)))
+  passed j done =
+      let is = judges j (accepted-before j done) in
+      ap (λ (o : Outcome). o .cells) is ∙ judged-passed ρ j (updates j j (After j)) (subst (λ (o : Outcome). isDone (o .answer) ≡ true) is done)
+
+  pub diagonal-of : (j : ℕ) → Accepted (j + 1) → After (j + 1) j j ≡ ρ .root (Updated j j)
+  diagonal-of j done =
+      ap (λ (M : Matrix). M j j) (passed j done)
+      ∙ below-above (j + 1) j (entry (updates j j (After j)) j j (ρ .root (updates j j (After j) j j))) j j (omega arith)
+      ∙ entry-same (updates j j (After j)) j (ρ .root (updates j j (After j) j j))
+      ∙ ap (ρ .root) (updates-in j j (After j) j (omega arith))
+
+  pub below-of : (j i : ℕ) → Accepted (j + 1) → j < i → After (j + 1) i j ≡ div binary64 (Updated j i) (ρ .root (Updated j j))
+  below-of j i done under =
+      let U = updates j j (After j) in
+      let E = entry U j j (ρ .root (U j j)) in
+      ap (λ (M : Matrix). M i j) (passed j done)
+      ∙ below-in (j + 1) j E i (omega arith)
+      ∙ ap (λ (x : Float). div binary64 x (E j j)) (entry-off U j (ρ .root (U j j)) i j (inl (λ e. omega arith)) ∙ updates-in j j (After j) i (omega arith))
+      ∙ ap (div binary64 (Updated j i)) (entry-same U j (ρ .root (U j j)) ∙ ap (ρ .root) (updates-in j j (After j) j (omega arith)))
+
+  -- column j leaves what stands left of it, and the columns before c leave column c
+  pub left-of : (j i c : ℕ) → c < j → After (j + 1) i c ≡ After j i c
+  unfolding run
+  left-of j i c h = ap (λ (o : Outcome). o .cells i c) (step j) ∙ one
+    where
+      one : column ρ 0 j (run ρ 0 j A) .cells i c ≡ After j i c
+      one = ap (λ (o : Outcome). o .cells i c) (sym (for-more j j (column ρ 0) (run ρ 0 j A) (omega arith) ∙ ap (column ρ 0 j) (for-none j (column ρ 0) (run ρ 0 j A)))) ∙ columns-off ρ i c 0 j (j + 1) (run ρ 0 j A) (λ k from to. inr (λ e. omega arith))
+
+  pub right-of : (j i c : ℕ) → j ≤ c → After j i c ≡ A i c
+  unfolding run
+  right-of j i c h = columns-off ρ i c 0 0 j (started A) (λ k from to. inr (λ e. omega arith))
+
+  -- ---- twins
+
+  module _ (p q : ℕ) (apart : p < q) (left : (k : ℕ) → k ≤ p → A q k ≡ A p k) (diagonal : A q q ≡ A p p) where
+    Alike : ℕ → Type 0
+    Alike j = (k : ℕ) → k < j → After j q k ≡ After j p k
+
+    -- one more column
+    alike-more : (j : ℕ) → j < p → Accepted (j + 1) → Alike j → Alike (j + 1)
+    unfolding Alike
+    alike-more j before done alike k lt =
+        ⊎-elim
+        (λ (here : k ≡ j). subst (λ (k : ℕ). After (j + 1) q k ≡ After (j + 1) p k) (sym here) at-j)
+        (λ (earlier : k < j). left-of j q k earlier ∙ alike k earlier ∙ sym (left-of j p k earlier))
+        (eq-or-lt-of-le (omega arith))
+      where
+        at-j : After (j + 1) q j ≡ After (j + 1) p j
+        at-j =
+            below-of j q done (omega arith)
+            ∙ ap (λ (x : Float). div binary64 x (ρ .root (Updated j j)))
+            (chain (After j) (After j) q j p j j
+            (right-of j q j (omega arith) ∙ left j (omega arith) ∙ sym (right-of j p j (omega arith)))
+            (λ t below. ap (mul binary64 (neg (After j j t))) (alike t below)))
+            ∙ sym (below-of j p done (omega arith))
+
+    alike-upto : (j : ℕ) → j ≤ p → Accepted j → Alike j
+    unfolding Alike
+    alike-upto zero h done = λ k lt. absurd (omega arith)
+    alike-upto (suc j) h done =
+        let next : j + 1 ≡ suc j = add-one j in
+        let done' : Accepted (j + 1) = subst Accepted (sym next) done in
+        subst Alike next (alike-more j (omega arith) done' (alike-upto j (omega arith) (accepted-before j done')))
+
+    module _ (done : Accepted (p + 1)) where
+      -- the updated diagonal at p
+      abbrev pub v : Float
+      v = Updated p p
+
+      alike : Alike p
+      alike = alike-upto p (omega arith) (accepted-before p done)
+
+      -- l(q,k) = l(p,k) for k < p
+      pub twin-left : (k : ℕ) → k < p → After (p + 1) q k ≡ After (p + 1) p k
+      unfolding Alike
+      twin-left k lt = left-of p q k lt ∙ alike k lt ∙ sym (left-of p p k lt)
+
+      -- row q of column p is updated to v too
+      twin-updated : Updated p q ≡ v
+      unfolding Alike
+      twin-updated =
+          chain (After p) (After p) q p p p p
+          (right-of p q p (omega arith) ∙ left p (omega arith) ∙ sym (right-of p p p (omega arith)))
+          (λ t below. ap (mul binary64 (neg (After p p t))) (alike t below))
+
+      -- l(p,p) = root v, l(q,p) = v / root v
+      pub twin-diagonal : After (p + 1) p p ≡ ρ .root v
+      twin-diagonal = diagonal-of p done
+
+      pub twin-beside : After (p + 1) q p ≡ div binary64 v (ρ .root v)
+      twin-beside = below-of p q done apart ∙ ap (λ (x : Float). div binary64 x (ρ .root v)) twin-updated
+
+      -- one column more of a chain
+      chain-more : (M : Matrix) (j k i : ℕ) → updated M j (k + 1) i ≡ add binary64 (updated M j k i) (mul binary64 (neg (M j k)) (M i k))
+      unfolding updated less
+      chain-more M j k i = for-more 0 k (less M i j) (M i j) (omega arith)
+
+      -- the diagonal at q after the columns up to p
+      pub twin-rest : updated (After (p + 1)) q (p + 1) q ≡ remainder ρ v
+      unfolding Alike remainder
+      twin-rest =
+          chain-more (After (p + 1)) q p q
+          ∙ ap (λ (x : Float). add binary64 x (mul binary64 (neg (After (p + 1) q p)) (After (p + 1) q p)))
+          (chain (After (p + 1)) (After p) q q p p p
+          (right-of (p + 1) q q (omega arith) ∙ diagonal ∙ sym (right-of p p p (omega arith)))
+          (λ t below. ap (λ (x : Float). mul binary64 (neg x) x) (left-of p q t below ∙ alike t below)))
+          ∙ ap (λ (x : Float). add binary64 v (mul binary64 (neg x) x)) twin-beside
+
+      -- adjacent twins: whether row q is refused, and by which test, depends on v alone
+      pub twin-refused : q ≡ p + 1 → run ρ 0 (q + 1) A .answer ≡ ruled ρ (remainder ρ v) q
+      twin-refused next =
+          let before : Accepted q = subst Accepted (sym next) done in
+          ap (λ (o : Outcome). o .answer) (judges q before)
+          ∙ judged-answer ρ q (updates q q (After q))
+          ∙ ap (λ (x : Float). ruled ρ x q) (updates-in q q (After q) q (omega arith) ∙ subst (λ (k : ℕ). updated (After k) q k q ≡ remainder ρ v) (sym next) twin-rest)
+
+      -- what row q of column k, p < k < q, holds after the columns up to p: x + (−(x / root v))·(v / root v), x row k of column p
+      pub twin-between : (k : ℕ) → p < k → k < q → A q k ≡ A k p
+          → updated (After (p + 1)) k (p + 1) q ≡ add binary64 (Updated p k) (mul binary64 (neg (div binary64 (Updated p k) (ρ .root v))) (div binary64 v (ρ .root v)))
+      unfolding Alike
+      twin-between k after before mirrored =
+          chain-more (After (p + 1)) k p q
+          ∙ ap (λ (x : Float). add binary64 x (mul binary64 (neg (After (p + 1) k p)) (After (p + 1) q p)))
+          (chain (After (p + 1)) (After p) q k k p p
+          (right-of (p + 1) q k (omega arith) ∙ mirrored ∙ sym (right-of p k p (omega arith)))
+          (λ t below.
+          ap (λ (x : Float). mul binary64 (neg x) (After (p + 1) q t)) (left-of p k t below)
+          ∙ ap (mul binary64 (neg (After p k t))) (left-of p q t below ∙ alike t below)
+          ∙ neg-exchanges binary64 (After p k t) (After p p t)))
+          ∙ ap (λ (x : Float). add binary64 (Updated p k) (mul binary64 (neg x) (After (p + 1) q p))) (below-of p k done after)
+          ∙ ap (λ (x : Float). add binary64 (Updated p k) (mul binary64 (neg (div binary64 (Updated p k) (ρ .root v))) x)) twin-beside

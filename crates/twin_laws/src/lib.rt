@@ -1,0 +1,1 @@
+// What the factors do with twin rows: theorems alone, over the definitions that the public promises cite.
