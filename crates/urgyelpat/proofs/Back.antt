@@ -1,0 +1,86 @@
+-- The code and the place of an answer come back from the number that goes across: every place is at most 1,024.
+-- Assumes nothing.
+use mathlib.Core.List.{List}
+use mathlib.Core.Path.{_≡_, sym, ap, subst}
+use Prim.Native.Nat.{ℕ, _+_, _/_, _%_, _<_}
+use native.Mathlib.Omega.{arith}
+use lib.Ieee.{Float}
+use Rattle.answer.specs.declared.Answer.{Answer}
+use Rattle.answer.specs.Number.{codeOf, placeOf, numberOf}
+use Rattle.answer.proofs.Back.{code-back, place-back}
+use Rattle.twins.specs.declared.Twin.{Twin}
+use Rattle.twins.specs.declared.Twin.the-variants.{Nothing, Pair, Refused}
+use Rattle.twins.specs.Number.{twinNumber}
+use Rattle.urgyelpat.specs.declared.Determined.{Determined}
+use Rattle.urgyelpat.specs.Calls.{LbltFactor, LbltSolve, LbltDeterminant, LbltD, LbltLPermuted}
+use Rattle.urgyelpat.specs.Calls.{CholeskyExtend, CholeskyL, CholeskyUnpack, CholeskyDeterminant}
+use Rattle.urgyelpat.specs.Calls.{UduFactor, FirstTwinPair}
+use Rattle.urgyelpat.proofs.Within.{Within}
+use Rattle.urgyelpat.proofs.FactorPlaces as lblt
+use Rattle.urgyelpat.proofs.ReaderPlaces as readers
+use Rattle.urgyelpat.proofs.CholeskyPlaces as cholesky
+use Rattle.urgyelpat.proofs.UduPlaces as udu
+use Rattle.urgyelpat.proofs.TwinPlaces.{Small, twin-small}
+
+pub record Back (answer : Answer) (r : ℕ) : Type 0 where
+  pub code : r / 4096 ≡ codeOf answer
+  pub place : r % 4096 ≡ placeOf answer
+
+number-back : {answer : Answer} {r : ℕ} → r ≡ numberOf answer → Within 1024 answer → Back answer r
+number-back {answer} e within =
+    let small : placeOf answer < 4096 = omega (arith, within) in
+    subst (Back answer) (sym e) (record { code = code-back answer small; place = place-back answer small })
+
+-- ---- LBLT
+
+module _ {n : ℕ} {a : List Float} {words : List ℕ} where
+  pub lblt-factor-back : {r : ℕ} {a' : List Float} {words' : List ℕ} (c : LbltFactor n a words r a' words') → Back (c .below) r
+  lblt-factor-back c = number-back (c .result) (lblt.factored-within (c .given))
+
+  pub lblt-solve-back : {columns : ℕ} {b b' : List Float} {r : ℕ} (c : LbltSolve n columns a words b r b') → Back (c .below) r
+  lblt-solve-back c = number-back (c .result) (readers.solved-within (c .given))
+
+  pub lblt-determinant-back : {r : Determined} (c : LbltDeterminant n a words r) → Back (c .below .answer) (r .answer)
+  lblt-determinant-back c = number-back (ap (λ (d : Determined). d .answer) (c .result)) (readers.determined-within (c .given))
+
+  pub lblt-d-back : {d d' : List Float} {r : ℕ} (c : LbltD n a words d r d') → Back (c .below) r
+  lblt-d-back c = number-back (c .result) (readers.filled-within (c .given))
+
+  pub lblt-l-permuted-back : {l l' : List Float} {r : ℕ} (c : LbltLPermuted n a words l r l') → Back (c .below) r
+  lblt-l-permuted-back c = number-back (c .result) (readers.filled-within (c .given))
+
+-- ---- Cholesky
+
+module _ {room n : ℕ} {a : List Float} where
+  pub cholesky-extend-back : {m r : ℕ} {a' : List Float} (c : CholeskyExtend room m n a r a') → Back (c .below) r
+  cholesky-extend-back c = number-back (c .result) (cholesky.extended-within (c .given))
+
+  pub cholesky-l-back : {l l' : List Float} {r : ℕ} (c : CholeskyL room n a l r l') → Back (c .below) r
+  cholesky-l-back c = number-back (c .result) (cholesky.copied-within (c .given))
+
+  pub cholesky-unpack-back : {r : ℕ} {a' : List Float} (c : CholeskyUnpack room n a r a') → Back (c .below) r
+  cholesky-unpack-back c = number-back (c .result) (cholesky.unpacked-within (c .given))
+
+  pub cholesky-determinant-back : {r : Determined} (c : CholeskyDeterminant room n a r) → Back (c .below .answer) (r .answer)
+  cholesky-determinant-back c = number-back (ap (λ (d : Determined). d .answer) (c .result)) (cholesky.determined-within (c .given))
+
+-- ---- UDU
+
+pub udu-factor-back : {n : ℕ} {p u u' d d' : List Float} {r : ℕ} (c : UduFactor n p u d r u' d') → Back (c .below) r
+udu-factor-back c = number-back (c .result) (udu.factored-within (c .given))
+
+-- ---- twins
+
+-- none, a pair of rows or a refusal, each from its own numbers
+abbrev pub TwinBack : Twin → ℕ → Type 0
+TwinBack Nothing r = r ≡ 0
+TwinBack (Pair p q) r = (r / 4096 ≡ 4096 + q) × (r % 4096 ≡ p)
+TwinBack (Refused answer) r = Back answer r
+
+twin-back : {r : ℕ} (t : Twin) → r ≡ twinNumber t → Small t → TwinBack t r
+twin-back Nothing e small = e
+twin-back (Pair p q) e small = (omega (arith, e, small), omega (arith, e, small))
+twin-back (Refused answer) e small = number-back e small
+
+pub first-twin-back : {room n : ℕ} {a : List Float} {r : ℕ} (c : FirstTwinPair room n a r) → TwinBack (c .below) r
+first-twin-back {room} {n} {a} c = twin-back (c .below) (c .result) (twin-small a room n (c .given))

@@ -1,0 +1,8 @@
+pub mod Unique
+pub mod Within
+pub mod FactorPlaces
+pub mod ReaderPlaces
+pub mod CholeskyPlaces
+pub mod UduPlaces
+pub mod TwinPlaces
+pub mod Back

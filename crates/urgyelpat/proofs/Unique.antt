@@ -1,0 +1,85 @@
+-- Two results that meet the promise of an exported call on one input are equal, and so are the slices. Assumes nothing.
+use mathlib.Core.List.{List}
+use mathlib.Core.Path.{_≡_, sym, _∙_, ap}
+use Prim.Native.Nat.{ℕ}
+use lib.Ieee.{Float}
+use Rattle.answer.specs.declared.Answer.{Answer}
+use Rattle.answer.specs.declared.Valued.{Valued}
+use Rattle.lblt.proofs.Done as lblt
+use Rattle.lblt_solve.proofs.Once.{solved-once, determined-once, filled-once}
+use Rattle.cholesky.proofs.Promises.{extended-unique}
+use Rattle.cholesky.proofs.ReaderPromises.{determined-unique, copied-unique, unpacked-unique}
+use Rattle.udu.proofs.Unique as udu
+use Rattle.twins.proofs.Unique.{first-twin-unique}
+use Rattle.urgyelpat.specs.declared.Determined.{Determined}
+use Rattle.urgyelpat.specs.Passed.{Passed}
+use Rattle.urgyelpat.specs.Calls.{LbltFactor, LbltSolve, LbltDeterminant, LbltD, LbltLPermuted}
+use Rattle.urgyelpat.specs.Calls.{CholeskyExtend, CholeskyL, CholeskyUnpack, CholeskyDeterminant}
+use Rattle.urgyelpat.specs.Calls.{UduFactor, FirstTwinPair}
+
+-- what is given below is one, so its numbers are
+passed-same : {A B : Type 0} {numbers : A → B} {G H : A → Type 0} {r s : B} (p : Passed numbers G r) (q : Passed numbers H s) → p .below ≡ q .below → r ≡ s
+passed-same {numbers = numbers} p q e = p .result ∙ ap numbers e ∙ sym (q .result)
+
+abbrev valued-by : Answer → Float → Valued
+valued-by answer value = record { answer = answer; value = value }
+
+valued-same : {v w : Valued} → (v .answer ≡ w .answer) × (v .value ≡ w .value) → v ≡ w
+valued-same {v} {w} (answer, value) = ap (λ (x : Answer). valued-by x (v .value)) answer ∙ ap (valued-by (w .answer)) value
+
+-- ---- LBLT
+
+module _ {n : ℕ} {a : List Float} {words : List ℕ} where
+  pub lblt-factor-unique : {r s : ℕ} {a₁ a₂ : List Float} {words₁ words₂ : List ℕ} → LbltFactor n a words r a₁ words₁ → LbltFactor n a words s a₂ words₂ → (r ≡ s) × (a₁ ≡ a₂) × (words₁ ≡ words₂)
+  lblt-factor-unique p q =
+      let same = lblt.factored-unique (p .given) (q .given) in
+      (passed-same p q (same .answer), same .matrix, same .pivots)
+
+  pub lblt-solve-unique : {columns : ℕ} {b b₁ b₂ : List Float} {r s : ℕ} → LbltSolve n columns a words b r b₁ → LbltSolve n columns a words b s b₂ → (r ≡ s) × (b₁ ≡ b₂)
+  lblt-solve-unique p q =
+      let same = solved-once (p .given) (q .given) in
+      (passed-same p q (same .0), same .1)
+
+  pub lblt-determinant-unique : {r s : Determined} → LbltDeterminant n a words r → LbltDeterminant n a words s → r ≡ s
+  lblt-determinant-unique p q = passed-same p q (valued-same (determined-once (p .given) (q .given)))
+
+  pub lblt-d-unique : {d d₁ d₂ : List Float} {r s : ℕ} → LbltD n a words d r d₁ → LbltD n a words d s d₂ → (r ≡ s) × (d₁ ≡ d₂)
+  lblt-d-unique p q =
+      let same = filled-once (p .given) (q .given) in
+      (passed-same p q (same .0), same .1)
+
+  pub lblt-l-permuted-unique : {l l₁ l₂ : List Float} {r s : ℕ} → LbltLPermuted n a words l r l₁ → LbltLPermuted n a words l s l₂ → (r ≡ s) × (l₁ ≡ l₂)
+  lblt-l-permuted-unique p q =
+      let same = filled-once (p .given) (q .given) in
+      (passed-same p q (same .0), same .1)
+
+-- ---- Cholesky
+
+module _ {room n : ℕ} {a : List Float} where
+  pub cholesky-extend-unique : {m r s : ℕ} {a₁ a₂ : List Float} → CholeskyExtend room m n a r a₁ → CholeskyExtend room m n a s a₂ → (r ≡ s) × (a₁ ≡ a₂)
+  cholesky-extend-unique {m} p q =
+      let same = extended-unique room m n (p .given) (q .given) in
+      (passed-same p q (same .0), same .1)
+
+  pub cholesky-l-unique : {l l₁ l₂ : List Float} {r s : ℕ} → CholeskyL room n a l r l₁ → CholeskyL room n a l s l₂ → (r ≡ s) × (l₁ ≡ l₂)
+  cholesky-l-unique p q =
+      let same = copied-unique room n (p .given) (q .given) in
+      (passed-same p q (same .0), same .1)
+
+  pub cholesky-unpack-unique : {r s : ℕ} {a₁ a₂ : List Float} → CholeskyUnpack room n a r a₁ → CholeskyUnpack room n a s a₂ → (r ≡ s) × (a₁ ≡ a₂)
+  cholesky-unpack-unique p q =
+      let same = unpacked-unique room n (p .given) (q .given) in
+      (passed-same p q (same .0), same .1)
+
+  pub cholesky-determinant-unique : {r s : Determined} → CholeskyDeterminant room n a r → CholeskyDeterminant room n a s → r ≡ s
+  cholesky-determinant-unique p q = passed-same p q (valued-same (determined-unique room n (p .given) (q .given)))
+
+-- ---- UDU and twins
+
+pub udu-factor-unique : {n : ℕ} {p u u₁ u₂ d d₁ d₂ : List Float} {r s : ℕ} → UduFactor n p u d r u₁ d₁ → UduFactor n p u d s u₂ d₂ → (r ≡ s) × (u₁ ≡ u₂) × (d₁ ≡ d₂)
+udu-factor-unique x y =
+    let same = udu.factored-unique (x .given) (y .given) in
+    (passed-same x y (same .answer), same .upper, same .diagonal)
+
+pub first-twin-pair-unique : {room n : ℕ} {a : List Float} {r s : ℕ} → FirstTwinPair room n a r → FirstTwinPair room n a s → r ≡ s
+first-twin-pair-unique {room} {n} {a} p q = passed-same p q (first-twin-unique a room n (p .given) (q .given))

@@ -1,0 +1,56 @@
+-- What each exported call promises: the numbers of an answer that, with the slices at exit, meets the promise of the call below.
+use mathlib.Core.List.{List}
+use Prim.Native.Nat.{ℕ}
+use lib.Ieee.{Float}
+use Rattle.answer.specs.declared.Answer.{Answer}
+use Rattle.answer.specs.Number.{numberOf}
+use Rattle.lblt.specs.Factor as lblt
+use Rattle.lblt_solve.specs.Calls as readers
+use Rattle.lblt_solve.specs.Diagonal.{dOf}
+use Rattle.lblt_solve.specs.Permuted.{lPermutedOf}
+use Rattle.cholesky.specs.Promise.{Extended}
+use Rattle.cholesky.specs.Readers as cholesky
+use Rattle.udu.specs.Promise as udu
+use Rattle.twins.specs.First.{FirstTwin}
+use Rattle.twins.specs.Number.{twinNumber}
+use Rattle.urgyelpat.specs.Passed.{Passed, determinedOf}
+use Rattle.urgyelpat.specs.declared.Determined.{Determined}
+
+-- ---- LBLT
+
+abbrev pub LbltFactor : ℕ → List Float → List ℕ → ℕ → List Float → List ℕ → Type 0
+LbltFactor n a words r a' words' = Passed numberOf (λ (answer : Answer). lblt.Factored n a words answer a' words') r
+
+abbrev pub LbltSolve : ℕ → ℕ → List Float → List ℕ → List Float → ℕ → List Float → Type 0
+LbltSolve n columns a words b r b' = Passed numberOf (λ (answer : Answer). readers.Solved n columns a words b answer b') r
+
+abbrev pub LbltDeterminant : ℕ → List Float → List ℕ → Determined → Type 0
+LbltDeterminant n a words r = Passed determinedOf (readers.Determined n a words) r
+
+abbrev pub LbltD : ℕ → List Float → List ℕ → List Float → ℕ → List Float → Type 0
+LbltD n a words d r d' = Passed numberOf (λ (answer : Answer). readers.Filled n a words (dOf n (readers.lowerOf n a) words) d answer d') r
+
+abbrev pub LbltLPermuted : ℕ → List Float → List ℕ → List Float → ℕ → List Float → Type 0
+LbltLPermuted n a words l r l' = Passed numberOf (λ (answer : Answer). readers.Filled n a words (lPermutedOf n (readers.lowerOf n a) words) l answer l') r
+
+-- ---- Cholesky
+
+abbrev pub CholeskyExtend : ℕ → ℕ → ℕ → List Float → ℕ → List Float → Type 0
+CholeskyExtend room earlier n a r a' = Passed numberOf (Extended room earlier n a a') r
+
+abbrev pub CholeskyL : ℕ → ℕ → List Float → List Float → ℕ → List Float → Type 0
+CholeskyL room n a l r l' = Passed numberOf (cholesky.Copied room n a l l') r
+
+abbrev pub CholeskyUnpack : ℕ → ℕ → List Float → ℕ → List Float → Type 0
+CholeskyUnpack room n a r a' = Passed numberOf (cholesky.Unpacked room n a a') r
+
+abbrev pub CholeskyDeterminant : ℕ → ℕ → List Float → Determined → Type 0
+CholeskyDeterminant room n a r = Passed determinedOf (cholesky.Determined room n a) r
+
+-- ---- UDU and twins
+
+abbrev pub UduFactor : ℕ → List Float → List Float → List Float → ℕ → List Float → List Float → Type 0
+UduFactor n p u d r u' d' = Passed numberOf (λ (answer : Answer). udu.Factored p u d n answer u' d') r
+
+abbrev pub FirstTwinPair : ℕ → ℕ → List Float → ℕ → Type 0
+FirstTwinPair room n a r = Passed twinNumber (FirstTwin a room n) r

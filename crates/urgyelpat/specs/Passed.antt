@@ -1,0 +1,15 @@
+-- What goes back across C: a call below gives a value, and the caller gets the numbers of it.
+use mathlib.Core.Path.{_≡_}
+use Rattle.answer.specs.declared.Valued.{Valued}
+use Rattle.answer.specs.Number.{numberOf}
+use Rattle.urgyelpat.specs.declared.Determined.{Determined}
+
+-- r is the numbers of a value that meets the promise of the call below
+pub record Passed {A B : Type 0} (numbers : A → B) (Given : A → Type 0) (r : B) : Type 0 where
+  pub below : A
+  pub given : Given below
+  pub result : r ≡ numbers below
+
+-- a determinant: its answer as one number, its value as it is
+abbrev pub determinedOf : Valued → Determined
+determinedOf v = record { answer = numberOf (v .answer); value = v .value }

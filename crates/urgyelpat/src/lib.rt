@@ -1,0 +1,126 @@
+// The calls through the C convention: a slice is a pointer and then a length, an answer is one number, code·4,096 + place.
+ghost use mathlib.Core.Path.{_≡_};
+ghost use Rattle.urgyelpat.specs.Passed.{determinedOf};
+ghost use Rattle.urgyelpat.specs.Calls.{LbltFactor, LbltSolve, LbltDeterminant, LbltD, LbltLPermuted};
+ghost use Rattle.urgyelpat.specs.Calls.{CholeskyExtend, CholeskyL, CholeskyUnpack, CholeskyDeterminant};
+ghost use Rattle.urgyelpat.specs.Calls.{UduFactor, FirstTwinPair};
+use answer::Valued;
+
+// A determinant, +0 where refused, and the number of its answer.
+#[repr(C)]
+pub struct Determined {
+    pub answer: u64,
+    pub value: f64,
+}
+
+fn numbered(valued: Valued) -> Determined
+    ensures { λ r. ⌜ r ≡ determinedOf valued ⌝ }
+{
+    let answer = valued.answer;
+    Determined {
+        answer: answer.number(),
+        value: valued.value,
+    }
+}
+
+#[no_mangle]
+pub extern "C" fn urgyelpat_lblt_factor(a: &mut [f64], record: &mut [u32], n: usize) -> u64
+    ensures { λ r. ⌜ LbltFactor n (now (a .entry)) (now («record» .entry)) r (now (a .exit)) (now («record» .exit)) ⌝ }
+{
+    lblt::factor(a, record, n).number()
+}
+
+#[no_mangle]
+pub extern "C" fn urgyelpat_lblt_solve(
+    a: &[f64],
+    record: &[u32],
+    b: &mut [f64],
+    n: usize,
+    columns: usize,
+) -> u64
+    ensures { λ r. ⌜ LbltSolve n columns (now (a .entry)) (now («record» .entry)) (now (b .entry)) r (now (b .exit)) ⌝ }
+{
+    lblt_solve::solve_mut(a, record, b, n, columns).number()
+}
+
+#[no_mangle]
+pub extern "C" fn urgyelpat_lblt_determinant(a: &[f64], record: &[u32], n: usize) -> Determined
+    ensures { λ r. ⌜ LbltDeterminant n (now (a .entry)) (now («record» .entry)) r ⌝ }
+{
+    numbered(lblt_solve::determinant(a, record, n))
+}
+
+#[no_mangle]
+pub extern "C" fn urgyelpat_lblt_d(a: &[f64], record: &[u32], d: &mut [f64], n: usize) -> u64
+    ensures { λ r. ⌜ LbltD n (now (a .entry)) (now («record» .entry)) (now (d .entry)) r (now (d .exit)) ⌝ }
+{
+    lblt_solve::d(a, record, d, n).number()
+}
+
+#[no_mangle]
+pub extern "C" fn urgyelpat_lblt_l_permuted(
+    a: &[f64],
+    record: &[u32],
+    l: &mut [f64],
+    n: usize,
+) -> u64
+    ensures { λ r. ⌜ LbltLPermuted n (now (a .entry)) (now («record» .entry)) (now (l .entry)) r (now (l .exit)) ⌝ }
+{
+    lblt_solve::l_permuted(a, record, l, n).number()
+}
+
+#[no_mangle]
+pub extern "C" fn urgyelpat_cholesky_factor(a: &mut [f64], room: usize, n: usize) -> u64
+    ensures { λ r. ⌜ CholeskyExtend room 0 n (now (a .entry)) r (now (a .exit)) ⌝ }
+{
+    cholesky::factor(a, room, n).number()
+}
+
+// The first `earlier` rows are factored already.
+#[no_mangle]
+pub extern "C" fn urgyelpat_cholesky_extend(
+    a: &mut [f64],
+    room: usize,
+    earlier: usize,
+    n: usize,
+) -> u64
+    ensures { λ r. ⌜ CholeskyExtend room earlier n (now (a .entry)) r (now (a .exit)) ⌝ }
+{
+    cholesky::extend(a, room, earlier, n).number()
+}
+
+#[no_mangle]
+pub extern "C" fn urgyelpat_cholesky_l(a: &[f64], l: &mut [f64], room: usize, n: usize) -> u64
+    ensures { λ r. ⌜ CholeskyL room n (now (a .entry)) (now (l .entry)) r (now (l .exit)) ⌝ }
+{
+    cholesky::l(a, l, room, n).number()
+}
+
+#[no_mangle]
+pub extern "C" fn urgyelpat_cholesky_unpack(a: &mut [f64], room: usize, n: usize) -> u64
+    ensures { λ r. ⌜ CholeskyUnpack room n (now (a .entry)) r (now (a .exit)) ⌝ }
+{
+    cholesky::unpack(a, room, n).number()
+}
+
+#[no_mangle]
+pub extern "C" fn urgyelpat_cholesky_determinant(a: &[f64], room: usize, n: usize) -> Determined
+    ensures { λ r. ⌜ CholeskyDeterminant room n (now (a .entry)) r ⌝ }
+{
+    numbered(cholesky::determinant(a, room, n))
+}
+
+#[no_mangle]
+pub extern "C" fn urgyelpat_udu_factor(p: &[f64], u: &mut [f64], d: &mut [f64], n: usize) -> u64
+    ensures { λ r. ⌜ UduFactor n (now (p .entry)) (now (u .entry)) (now (d .entry)) r (now (u .exit)) (now (d .exit)) ⌝ }
+{
+    udu::factor(p, u, d, n).number()
+}
+
+// 0 for no twins, (4,096 + q)·4,096 + p for the rows p < q, or a refusal.
+#[no_mangle]
+pub extern "C" fn urgyelpat_first_twin(a: &[f64], room: usize, n: usize) -> u64
+    ensures { λ r. ⌜ FirstTwinPair room n (now (a .entry)) r ⌝ }
+{
+    twins::first_twin(a, room, n).number()
+}
