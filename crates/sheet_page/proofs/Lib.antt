@@ -3,3 +3,4 @@ pub mod ToGo
 pub mod Loops
 pub mod PageText
 pub mod RoundTrip
+pub mod PageLength

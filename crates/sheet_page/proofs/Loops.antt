@@ -1,22 +1,20 @@
 -- The loops over the pivot lines and the entry lines: what is known at each turn, and how a turn keeps it.
-use mathlib.Core.Path.{_≡_, refl, sym, ap, ap₂, _∙_}
+use mathlib.Core.Path.{_≡_, refl, ap, _∙_}
 use mathlib.Core.List.{List, [], _∷_, _++_, map}
-use Prim.Native.Nat.{ℕ, zero, suc, _+_, _*_, _-_, _<_, _≤_}
-use native.Mathlib.Nat.{suc-mul, mul-le-mul-right}
+use Prim.Native.Nat.{ℕ, suc, _+_, _*_, _-_, _<_, _≤_}
 use native.Mathlib.Numerals.{add-one}
 use native.Mathlib.Omega.{arith}
-use lib.Ieee.{Float, nan, binary64, toBits}
-use lib.ListN.{length, getD, length-map}
+use lib.Ieee.{Float}
+use lib.ListN.{length}
 use Rattle.pivots.specs.Words.{indexAt, sizeAt}
 use Rattle.sheet_text.specs.declared.place.Place.{Place}
 use Rattle.sheet_text.specs.Text.{entryLine}
 use Rattle.sheet_text.specs.Place.{places, nextPlace, cell}
 use Rattle.sheet_text.specs.Sheet.{entryLines, join}
-use Rattle.sheet_text.proofs.PlaceLaws.{at as place, Inside, restFrom, rest-all, rest-none, rest-more, rest-falls, next-inside}
-use Rattle.sheet_page.specs.declared.page.Written.{Written}
+use Rattle.sheet_text.proofs.PlaceLaws.{at as place, Inside, restFrom, rest-all, rest-none, rest-more, next-inside}
 use Rattle.sheet_page.specs.Put.{Put}
 use Rattle.sheet_page.specs.Page.{pivotLine, pivotLines, matrixIn, bitsAt, bitsOf}
-use Rattle.sheet_page.specs.Asked.{PutPivots, PutEntries, EntriesPut}
+use Rattle.sheet_page.specs.Asked.{EntriesPut}
 use Rattle.sheet_page.proofs.ToGo.{ToGo, to-go-all, to-go-more, to-go-none}
 
 -- ---- pivot lines
@@ -87,10 +85,3 @@ module _ {o₀ : List ℕ} {at n : ℕ} {a : List Float} {o : List ℕ} {p : Pla
       let none = rest-none n p (so .inside) h in
       let counted = so .counted in
       record { put = to-go-none (so .to-go) (ap (entryText n a) none); count = omega (arith, ap length none) }
-
--- ---- a place of the triangle is a place of the slice
-pub cell-inside : (n : ℕ) (p : Place) → p .row < n → p .column < n → cell n p < n * n
-cell-inside n p r c =
-    let column = mul-le-mul-right n c in
-    let next = suc-mul (p .column) n in
-    omega arith

@@ -1,11 +1,11 @@
 -- Texts that are written one after the other.
 use mathlib.Core.Path.{_≡_, refl, sym, ap, _∙_}
 use mathlib.Core.List.{List, [], _∷_, _++_, append-assoc, append-nil}
-use Prim.Native.Nat.{ℕ, zero, suc, _+_, _-_, _/_, _%_, _<_, _≤_, min}
+use Prim.Native.Nat.{ℕ, zero, suc, _+_, _-_, _/_, _%_, _<_, _≤_}
 use native.Mathlib.Numerals.{add-one}
 use native.Mathlib.Omega.{arith}
 use lib.ListN.{length, getD, take, drop, set, length-append, length-set}
-use lib.Seq.{take-nil, take-all, length-take-le, take-suc, take-suc-set, drop-set-lt, drop-drop}
+use lib.Seq.{take-all, length-take-le, take-suc, take-suc-set, drop-set-lt, drop-drop}
 use Rattle.sheet_text.specs.Text.{digit, decimal, hex}
 use Rattle.sheet_text.proofs.NumberLaws.{decimal-more}
 use Rattle.sheet_page.specs.Put.{Put}

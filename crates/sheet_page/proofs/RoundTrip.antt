@@ -1,21 +1,20 @@
 -- The sheet that would be written of any matrix is accepted, and the same matrix comes back; all NaNs are one.
-use mathlib.Core.Path.{_≡_, refl, sym, ap, _∙_}
+use mathlib.Core.Path.{_≡_, ap, _∙_}
 use mathlib.Core.List.{List, [], _∷_, map}
 use Prim.Native.Nat.{ℕ, zero, suc, _+_, _*_, _^_, _<_, _≤_}
 use native.Mathlib.Omega.{arith}
 use lib.Dec.{T}
-use lib.Ieee.{Float, nan, binary64, fits, toBits}
+use lib.Ieee.{Float, nan, binary64, fits}
 use lib.Ieee.Bits.{ofBits-toBits, toBits-lt}
 use lib.ListN.{length, getD}
 use Rattle.sheet_text.specs.declared.place.Place.{Place}
 use Rattle.sheet_text.specs.declared.reader.Sheet.{Sheet}
 use Rattle.sheet_text.specs.Place.{places}
-use Rattle.sheet_text.specs.Read.{rightAt}
+use Rattle.sheet_text.specs.Read.{rightAt, Outcome, outcome}
 use Rattle.sheet_text.specs.Sheet.{sheetOf, IsSheet, stored, Reads}
 use Rattle.sheet_text.proofs.Stored.{stored-entry}
 use Rattle.sheet_text.proofs.SheetOnce.{reads-once}
 use Rattle.sheet_text.proofs.SheetLaws.{complete}
-use Rattle.sheet_text.specs.Read.{Outcome, outcome, readOf}
 use Rattle.sheet_page.specs.Page.{bitsAt, bitsOf}
 use Rattle.sheet_page.proofs.PageText.{length-bits}
 

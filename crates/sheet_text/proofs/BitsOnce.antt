@@ -1,16 +1,15 @@
 -- A sheet's text fixes its order and its bits.
-use mathlib.Core.Path.{_≡_, refl, sym, ap, ap₂, _∙_, subst}
-use mathlib.Core.List.{List, [], _∷_, _++_, append-assoc, append-nil}
-use Prim.Native.Nat.{ℕ, suc, _<_, _≤_}
-use native.Mathlib.Nat.{not-suc-le-zero}
+use mathlib.Core.Path.{_≡_, refl, sym, ap, ap₂, _∙_}
+use mathlib.Core.List.{List, [], _∷_, _++_, append-assoc}
+use Prim.Native.Nat.{ℕ}
 use native.Mathlib.Omega.{arith}
 use lib.ListN.{length}
 use Rattle.sheet_text.specs.declared.place.Place.{Place}
 use Rattle.sheet_text.specs.Text.{bytes, numberLine, entryLine}
-use Rattle.sheet_text.specs.Parse.{Parse, found, numberAfter}
+use Rattle.sheet_text.specs.Parse.{found, numberAfter}
 use Rattle.sheet_text.specs.Place.{places}
 use Rattle.sheet_text.specs.Read.{entryAt}
-use Rattle.sheet_text.specs.Sheet.{entryLines, sheetLines, join, sheetOf, IsSheet}
+use Rattle.sheet_text.specs.Sheet.{entryLines, join, sheetOf, IsSheet}
 use Rattle.sheet_text.proofs.LineLaws.{line-found, place-found}
 use Rattle.sheet_text.proofs.EntriesLaws.{Wide, wide-tail, Short, short-places}
 use Rattle.sheet_text.proofs.SheetLaws.{all-lines}

@@ -1,7 +1,7 @@
 -- An entry line, part by part: what is found of it once the next part is, or is not.
-use mathlib.Core.Path.{_≡_, refl, _∙_, sym, ap}
+use mathlib.Core.Path.{_≡_}
 use mathlib.Core.Bool.{true, false}
-use mathlib.Core.List.{List, [], _∷_}
+use mathlib.Core.List.{List, _∷_}
 use Prim.Native.Nat.{ℕ, _+_}
 use borrow.Author.Tests.{eq-eqb, ne-eqb}
 use lib.Ieee.{Float, binary64, ofBits}
@@ -9,7 +9,7 @@ use lib.ListN.{drop, set}
 use lib.Seq.{drop-drop}
 use Rattle.sheet_text.specs.Text.{bytes, tab}
 use Rattle.sheet_text.specs.declared.line.Entry.{Entry}
-use Rattle.sheet_text.specs.Parse.{Parse, found, missing, startsWith, number, bits, afterColumn, afterRow, entry}
+use Rattle.sheet_text.specs.Parse.{found, missing, startsWith, number, bits, afterColumn, afterRow, entry}
 use Rattle.sheet_text.specs.declared.place.Place.{Place}
 use Rattle.sheet_text.specs.Place.{cell}
 use Rattle.sheet_text.specs.Read.{entryAt, taken, takeEntries}

@@ -5,18 +5,13 @@ use mathlib.Core.Logic.{_⊎_, inl, inr}
 use Prim.Native.Nat.{ℕ, zero, suc, _+_, _*_, _/_, _%_, _^_, _<_, _≤_}
 use native.Mathlib.Nat.{pow-suc, pow-zero, add-zero, zero-add, add-suc, suc-add}
 use native.Mathlib.Omega.{arith}
-use borrow.Author.Tests.{le-ltb}
 use Rattle.sheet_text.specs.Text.{lf, digit, hex, bitsField}
 use Rattle.sheet_text.specs.Digit.{digitOf}
-use Rattle.sheet_text.specs.Parse.{Parse, found, missing, lineEnd, hexDigits, bits}
-use Rattle.sheet_text.proofs.Steps.{hex-other, line-ends, line-goes-on}
+use Rattle.sheet_text.specs.Parse.{found, lineEnd, hexDigits, bits}
+use Rattle.sheet_text.proofs.Steps.{hex-byte, hex-other, line-ends, line-goes-on}
 use Rattle.sheet_text.proofs.PlaceLaws.{lt-or-ge}
 use Rattle.sheet_text.proofs.DigitLaws.{digit-value, digit-back}
 use Rattle.sheet_text.proofs.NumberLaws.{eq-or-ne, Spelled, not-missing}
-
-one-byte : (k v x d : ℕ) (t : List ℕ) → d ≡ digitOf x → d ≤ 15 → hexDigits (suc k) v (x ∷ t) ≡ hexDigits k (v * 16 + d) t
-unfolding hexDigits
-one-byte k v x d t e o = rw (← e, le-ltb 15 d o)
 
 -- ---- the text is read
 reads : (k m b : ℕ) (t : List ℕ) → b < 16 ^ k → hexDigits (k + m) 0 (hex k b ++ t) ≡ hexDigits m b t
@@ -32,7 +27,7 @@ reads (suc k) m b t h =
     ap (λ (x : ℕ). hexDigits x 0 ((hex k (b / 16) ++ (digit (b % 16) ∷ [])) ++ t)) (suc-add k m ∙ sym (add-suc k m))
     ∙ ap (hexDigits (k + suc m) 0) (append-assoc (hex k (b / 16)) (digit (b % 16) ∷ []) t)
     ∙ reads k (suc m) (b / 16) (digit (b % 16) ∷ t) (omega arith)
-    ∙ one-byte m (b / 16) (digit (b % 16)) (b % 16) t (sym e) (omega arith)
+    ∙ hex-byte m (b / 16) (digit (b % 16)) (b % 16) t (sym e) (omega arith)
     ∙ ap (λ (x : ℕ). hexDigits m x t) again
 
 pub bits-found : (b : ℕ) (t : List ℕ) → b < 2 ^ 64 → bits (bitsField b ++ t) ≡ found b t
@@ -73,7 +68,7 @@ sound (suc k) m v (x ∷ t) b rest h e = go (lt-or-ge 15 (digitOf x)) (λ w l. s
     go (inl d) more = absurd (not-missing b rest (sym (hex-other (suc k) v (x ∷ t) 0 (digitOf x) refl (omega arith) (omega arith) d) ∙ e))
     go (inr d) more =
         let power = pow-suc 16 m in
-        let next = more (v * 16 + digitOf x) (omega arith) (sym (one-byte k v x (digitOf x) t refl d) ∙ e) in
+        let next = more (v * 16 + digitOf x) (omega arith) (sym (hex-byte k v x (digitOf x) t refl d) ∙ e) in
         let text : hex m v ++ (x ∷ t) ≡ hex (suc m) (v * 16 + digitOf x) ++ t =
         ap (λ (y : ℕ). hex m v ++ (y ∷ t)) (sym (digit-back x d))
         ∙ sym (append-assoc (hex m v) (digit (digitOf x) ∷ []) t)

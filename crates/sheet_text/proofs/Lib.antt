@@ -16,3 +16,4 @@ pub mod SheetSound
 pub mod SheetOnce
 pub mod Stored
 pub mod BitsOnce
+pub mod Lengths

@@ -1,9 +1,9 @@
 -- The text of a line and what is read of it, both ways.
 use mathlib.Core.Path.{_≡_, refl, sym, ap, _∙_}
-use mathlib.Core.Bool.{Bool, true, false, _&&_}
+use mathlib.Core.Bool.{Bool, true, false}
 use mathlib.Core.List.{List, [], _∷_, _++_, append-assoc}
 use mathlib.Core.Logic.{_⊎_, inl, inr}
-use Prim.Native.Nat.{ℕ, _+_, _^_, _<_}
+use Prim.Native.Nat.{ℕ, _^_, _<_}
 use native.Mathlib.Omega.{arith}
 use borrow.Author.Tests.{eqb-true, eq-eqb}
 use lib.Dec.{eqb}
@@ -15,7 +15,7 @@ use Rattle.sheet_text.specs.declared.line.Entry.{Entry}
 use Rattle.sheet_text.specs.declared.place.Place.{Place}
 use Rattle.sheet_text.specs.Parse.{Parse, found, missing, startsWith, number, bits, numberAfter, afterColumn, afterRow, entry}
 use Rattle.sheet_text.specs.Read.{entryAt}
-use Rattle.sheet_text.proofs.Steps.{and-left, and-right, false-is-not-true}
+use Rattle.sheet_text.proofs.Steps.{and-left, and-right, false-is-not-true, after-word, no-word}
 use Rattle.sheet_text.proofs.EntrySteps.{column-bits, column-no-bits, row-column, row-no-column, entry-row, entry-no-row, entry-no-word, place-missing, other-row, other-column, in-place}
 use Rattle.sheet_text.proofs.NumberLaws.{eq-or-ne, Spelled, not-missing, number-found, number-sound}
 use Rattle.sheet_text.proofs.HexLaws.{bits-found, bits-sound}
@@ -42,14 +42,6 @@ lf-ends = omega arith
 tab-ends : 9 < digitOf tab
 unfolding digitOf
 tab-ends = omega arith
-
-after-word : (w t : List ℕ) → startsWith w t ≡ true → numberAfter w t ≡ number lf (drop (length w) t)
-unfolding numberAfter
-after-word w t e = rw e
-
-no-word : (w t : List ℕ) → startsWith w t ≡ false → numberAfter w t ≡ missing
-unfolding numberAfter
-no-word w t e = rw e
 
 pub line-found : (w : List ℕ) (v : ℕ) (t : List ℕ) → v < 10000 → numberAfter w (numberLine w v ++ t) ≡ found v t
 unfolding numberLine

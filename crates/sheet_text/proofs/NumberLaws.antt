@@ -1,16 +1,16 @@
 -- A decimal number's text and what is read of it, both ways.
 use mathlib.Core.Path.{_≡_, refl, sym, ap, _∙_}
-use mathlib.Core.Bool.{Bool, true, false, cond}
+use mathlib.Core.Bool.{Bool, true, false}
 use mathlib.Core.List.{List, [], _∷_, _++_, append-assoc}
 use mathlib.Core.Logic.{_⊎_, inl, inr}
 use Prim.Native.Nat.{ℕ, zero, suc, _+_, _*_, _/_, _%_, _<_, _≤_}
 use native.Mathlib.Nat.{not-suc-le-zero}
 use native.Mathlib.Omega.{arith}
-use borrow.Author.Tests.{lt-ltb, le-ltb, eq-eqb, ne-eqb, eqb-true, eqb-false}
+use borrow.Author.Tests.{lt-ltb, le-ltb, eqb-true, eqb-false}
 use lib.Dec.{eqb}
 use Rattle.sheet_text.specs.Text.{digit, decimalIn, decimal, field}
 use Rattle.sheet_text.specs.Digit.{digitOf}
-use Rattle.sheet_text.specs.Parse.{Parse, found, missing, digits, number}
+use Rattle.sheet_text.specs.Parse.{found, missing, digits, number}
 use Rattle.sheet_text.proofs.Steps.{digits-stop, digits-zero, digits-long, digits-other, digits-more, number-other, number-first}
 use Rattle.sheet_text.proofs.PlaceLaws.{lt-or-ge}
 use Rattle.sheet_text.proofs.DigitLaws.{digit-value, digit-back}

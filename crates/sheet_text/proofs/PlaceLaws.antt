@@ -4,7 +4,7 @@ use mathlib.Core.Logic.{_⊎_, inl, inr, ⊎-elim}
 use mathlib.Core.Bool.{Bool, true, false}
 use mathlib.Core.List.{List, [], _∷_, _++_}
 use Prim.Native.Nat.{ℕ, zero, suc, _+_, _*_, _-_, _<_, _≤_}
-use native.Mathlib.Nat.{mul-le-mul}
+use native.Mathlib.Nat.{suc-mul, mul-le-mul, mul-le-mul-right}
 use native.Mathlib.Numerals.{add-one}
 use native.Mathlib.Omega.{arith}
 use borrow.Author.Tests.{lt-ltb, le-ltb, ltb-true, ltb-false}
@@ -82,7 +82,7 @@ next-inside n p h c = ⊎-elim
     (lt-or-ge (p .row + 1) n)
 
 -- ---- how many there are
-length-rows : (m i j : ℕ) → length (rows m i j) ≡ m
+pub length-rows : (m i j : ℕ) → length (rows m i j) ≡ m
 unfolding rows
 length-rows zero i j = refl
 length-rows (suc m) i j = ap suc (length-rows m (suc i) j)
@@ -104,3 +104,10 @@ column-fits n p h c = let small : p .column ≤ 64 = omega arith in mul-le-mul s
 
 pub rest-falls : (n : ℕ) (p : Place) → p .row < n → length (restFrom n (nextPlace n p)) < length (restFrom n p)
 rest-falls n p h = rw (rest-more n p h) (omega arith)
+
+-- a place of the square is one of its n·n cells
+pub cell-inside : (n : ℕ) (p : Place) → p .row < n → p .column < n → cell n p < n * n
+cell-inside n p r c =
+    let column = mul-le-mul-right n c in
+    let next = suc-mul (p .column) n in
+    omega arith

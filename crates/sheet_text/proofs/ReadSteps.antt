@@ -1,5 +1,5 @@
 -- The whole sheet, part by part: what the reader answers once the next part is read, or is not.
-use mathlib.Core.Path.{_≡_, refl, sym, ap, _∙_}
+use mathlib.Core.Path.{_≡_, refl, ap, _∙_}
 use mathlib.Core.Bool.{Bool, true, false}
 use mathlib.Core.List.{List, [], _∷_}
 use Prim.Native.Nat.{ℕ, suc, _+_, _<_, _≤_}
@@ -12,7 +12,7 @@ use Rattle.sheet_text.specs.declared.reader.Sheet.{Sheet}
 use Rattle.sheet_text.specs.Text.{bytes}
 use Rattle.sheet_text.specs.Parse.{Parse, found, missing, numberAfter}
 use Rattle.sheet_text.specs.Place.{places, cell}
-use Rattle.sheet_text.specs.Read.{entryAt, Taken, taken, takeEntries, wrongAt, rightAt, closed, verdict, outcome, afterEntries, afterOrder, readOf}
+use Rattle.sheet_text.specs.Read.{entryAt, Taken, takeEntries, wrongAt, rightAt, closed, verdict, outcome, afterEntries, afterOrder, readOf}
 use Rattle.sheet_text.proofs.Steps.{cons-at}
 use Rattle.sheet_text.proofs.EntrySteps.{entries-stop, entries-more}
 use Rattle.sheet_text.proofs.PlaceLaws.{length-places}

@@ -1,29 +1,24 @@
 -- A sheet's text and the reader's answer: every sheet is read, and the lines that a text shares with a sheet are passed.
-use mathlib.Core.Path.{_≡_, refl, sym, ap, _∙_, subst}
-use mathlib.Core.Bool.{Bool, true, false}
+use mathlib.Core.Path.{_≡_, refl, sym, ap, _∙_}
+use mathlib.Core.Bool.{true}
 use mathlib.Core.List.{List, [], _∷_, _++_, append-assoc, append-nil}
-use mathlib.Core.Logic.{_⊎_, inl, inr}
-use Prim.Native.Nat.{ℕ, zero, suc, _+_, _-_, _<_, _≤_, min}
+use Prim.Native.Nat.{ℕ, zero, suc, _+_, _≤_}
 use native.Mathlib.Nat.{zero-add, le-of-suc-le-suc, not-suc-le-zero}
 use native.Mathlib.Omega.{arith}
 use borrow.Author.Tests.{eq-eqb}
-use lib.Dec.{eqb}
 use lib.Ieee.{Float}
-use lib.ListN.{length, take, drop, length-append, length-take, drop-of-length-le}
-use lib.Seq.{length-take-le, take-all, take-append-le}
-use Rattle.answer.specs.Number.{codeOf, placeOf}
+use lib.ListN.{length, take, drop, length-append, drop-of-length-le}
+use lib.Seq.{length-take-le, take-append-le}
 use Rattle.sheet_text.specs.declared.place.Place.{Place}
 use Rattle.sheet_text.specs.declared.reader.Sheet.{Sheet}
 use Rattle.sheet_text.specs.Text.{bytes, numberLine, entryLine}
-use Rattle.sheet_text.specs.Parse.{Parse, found, missing, numberAfter}
 use Rattle.sheet_text.specs.Place.{places}
-use Rattle.sheet_text.specs.Read.{taken, takeEntries, rightAt, wrongAt, atTheEnd, closed, verdict, outcome, afterEntries, readOf}
-use Rattle.sheet_text.specs.Sheet.{entryLines, sheetLines, join, sheetOf, IsSheet, BeginsAs, stored}
-use Rattle.sheet_text.proofs.PlaceLaws.{lt-or-ge, length-places}
-use Rattle.sheet_text.proofs.ReadSteps.{other-count, end-line, no-end-line, not-whole, order-zero, order-large, order-right, read-order, read-no-order}
-use Rattle.sheet_text.proofs.NumberLaws.{eq-or-ne}
+use Rattle.sheet_text.specs.Read.{taken, takeEntries, rightAt, atTheEnd, closed, verdict, outcome, afterEntries, readOf}
+use Rattle.sheet_text.specs.Sheet.{entryLines, sheetLines, join, sheetOf, IsSheet, stored}
+use Rattle.sheet_text.proofs.PlaceLaws.{length-places}
+use Rattle.sheet_text.proofs.ReadSteps.{end-line, order-right, read-order}
 use Rattle.sheet_text.proofs.LineLaws.{line-found}
-use Rattle.sheet_text.proofs.EntriesLaws.{Wide, wide-take, short-places, entries-read, Extent, entries-sound}
+use Rattle.sheet_text.proofs.EntriesLaws.{wide-take, short-places, entries-read}
 
 -- ---- lines
 pub entry-count : (ps : List Place) (bits : List ℕ) → length bits ≤ length ps → length (entryLines ps bits) ≡ length bits

@@ -1,16 +1,16 @@
 -- The reader's promise leaves one answer for each text, and the entries that it stores.
-use mathlib.Core.Path.{_≡_, refl, sym, ap, ap₂, _∙_}
+use mathlib.Core.Path.{_≡_, sym, ap, ap₂, _∙_}
 use mathlib.Core.List.{List, _++_, append-assoc}
 use mathlib.Core.Logic.{_⊎_, inl, inr}
-use Prim.Native.Nat.{ℕ, suc, _-_, _<_, _≤_}
+use Prim.Native.Nat.{ℕ, _-_, _<_, _≤_}
 use native.Mathlib.Omega.{arith}
 use lib.Ieee.{Float}
-use lib.ListN.{length, take, drop, take-append-drop}
+use lib.ListN.{take, drop, take-append-drop}
 use lib.Seq.{take-take}
 use Rattle.sheet_text.specs.declared.reader.Sheet.{Sheet}
 use Rattle.sheet_text.specs.Place.{places}
-use Rattle.sheet_text.specs.Read.{rightAt, wrongAt, Outcome, outcome, readOf}
-use Rattle.sheet_text.specs.Sheet.{sheetLines, join, sheetOf, IsSheet, BeginsAs, Begins, FirstWrong, stored, Reads, right, wrong}
+use Rattle.sheet_text.specs.Read.{wrongAt, outcome, readOf}
+use Rattle.sheet_text.specs.Sheet.{sheetLines, join, Begins, FirstWrong, stored, Reads, right, wrong}
 use Rattle.sheet_text.proofs.PlaceLaws.{lt-or-ge}
 use Rattle.sheet_text.proofs.SheetLaws.{join-both, complete}
 use Rattle.sheet_text.proofs.SheetSound.{after, sound}

@@ -2,13 +2,13 @@
 use mathlib.Core.Path.{_≡_, refl, sym, ap, _∙_, subst}
 use mathlib.Core.Bool.{Bool, true, false}
 use mathlib.Core.List.{List, [], _∷_, _++_, append-assoc, append-nil}
-use mathlib.Core.Logic.{_⊎_, inl, inr, ⊎-elim}
-use Prim.Native.Nat.{ℕ, zero, suc, _+_, _-_, _^_, _<_, _≤_}
+use mathlib.Core.Logic.{_⊎_, inl, inr}
+use Prim.Native.Nat.{ℕ, zero, suc, _+_, _-_, _<_, _≤_}
 use native.Mathlib.Nat.{not-suc-le-zero}
 use native.Mathlib.Omega.{arith}
 use lib.Ieee.{Float}
-use lib.ListN.{length, getD, take, drop, replicate, length-append, length-replicate, take-append-drop}
-use lib.Seq.{take-all, take-append-le, take-append-seam, take-take}
+use lib.ListN.{length, take, drop, replicate, length-append, length-replicate}
+use lib.Seq.{take-all, take-append-le, take-append-seam}
 use Rattle.answer.specs.Number.{codeOf, placeOf}
 use Rattle.sheet_text.specs.declared.place.Place.{Place}
 use Rattle.sheet_text.specs.declared.reader.Sheet.{Sheet}
@@ -16,13 +16,13 @@ use Rattle.sheet_text.specs.Text.{bytes, numberLine}
 use Rattle.sheet_text.specs.Parse.{Parse, found, missing, numberAfter}
 use Rattle.sheet_text.specs.Place.{rows, columns, places}
 use Rattle.sheet_text.specs.Read.{Taken, takeEntries, rightAt, wrongAt, atTheEnd, closed, verdict, Outcome, outcome, afterEntries, afterOrder, readOf}
-use Rattle.sheet_text.specs.Sheet.{entryLines, sheetLines, join, sheetOf, IsSheet, BeginsAs, Begins, FirstWrong, stored, Reads, right, wrong}
+use Rattle.sheet_text.specs.Sheet.{entryLines, sheetLines, join, sheetOf, IsSheet, BeginsAs, stored, Reads, right, wrong}
 use Rattle.sheet_text.proofs.PlaceLaws.{lt-or-ge}
 use Rattle.sheet_text.proofs.ReadSteps.{other-count, end-line, no-end-line, not-whole, order-zero, order-large, order-right, read-order, read-no-order}
 use Rattle.sheet_text.proofs.NumberLaws.{eq-or-ne}
-use Rattle.sheet_text.proofs.LineLaws.{line-found, line-sound}
+use Rattle.sheet_text.proofs.LineLaws.{line-sound}
 use Rattle.sheet_text.proofs.EntriesLaws.{Wide, wide-cons, wide-tail, Extent, entries-sound}
-use Rattle.sheet_text.proofs.SheetLaws.{entry-count, take-entries, join-both, length-lines, partly-read, whole-read, complete, count-right, all-lines}
+use Rattle.sheet_text.proofs.SheetLaws.{entry-count, take-entries, length-lines, partly-read, whole-read, complete, count-right, all-lines}
 
 -- ---- two answers told apart
 wrong-line : (j k : ℕ) → wrongAt j ≡ wrongAt k → j ≡ k

@@ -2,7 +2,7 @@
 use mathlib.Core.Path.{_≡_, refl, _∙_, sym, ap}
 use mathlib.Core.Bool.{Bool, true, false, cond, _&&_}
 use mathlib.Core.List.{List, [], _∷_}
-use Prim.Native.Nat.{ℕ, zero, suc, _+_, _*_, _-_, _^_, _<_, _≤_, zero-le, suc-le-suc}
+use Prim.Native.Nat.{ℕ, suc, _+_, _*_, _-_, _^_, _<_, _≤_, zero-le, suc-le-suc}
 use native.Mathlib.Nat.{pow-le-pow-right, pow-suc}
 use native.Mathlib.Numerals.{add-one}
 use lib.Dec.{lit<, eqb}
@@ -12,7 +12,7 @@ use lib.ListN.{length, getD, drop, length-drop, drop-of-length-le}
 use lib.Seq.{drop-cons, drop-drop}
 use Rattle.sheet_text.specs.Text.{lf}
 use Rattle.sheet_text.specs.Digit.{digitOf}
-use Rattle.sheet_text.specs.Parse.{Parse, found, missing, startsWith, digits, number, hexDigits, lineEnd, numberAfter}
+use Rattle.sheet_text.specs.Parse.{found, missing, startsWith, digits, number, hexDigits, lineEnd, numberAfter}
 
 pub cons-at : (s : List ℕ) (i : ℕ) → i < length s → drop i s ≡ getD s i 0 ∷ drop (i + 1) s
 cons-at s i h = rw (add-one, drop-cons s i 0)
@@ -102,6 +102,10 @@ hex-room k v d p l r o =
 suc-of : (k : ℕ) → 0 < k → k ≡ suc (k - 1)
 suc-of k h = omega arith
 
+pub hex-byte : (k v b d : ℕ) (t : List ℕ) → d ≡ digitOf b → d ≤ 15 → hexDigits (suc k) v (b ∷ t) ≡ hexDigits k (v * 16 + d) t
+unfolding hexDigits
+hex-byte k v b d t e o = rw (← e, le-ltb 15 d o)
+
 module _ (k v : ℕ) (s : List ℕ) (i : ℕ) where
   pub hex-end : 0 < k → length s ≤ i → hexDigits k v (drop i s) ≡ missing
   unfolding hexDigits
@@ -112,10 +116,10 @@ module _ (k v : ℕ) (s : List ℕ) (i : ℕ) where
   hex-other d e p h o = rw (suc-of k p, cons-at s i h, ← e, lt-ltb 15 d o)
 
   pub hex-more : (d : ℕ) → d ≡ digitOf (getD s i 0) → 0 < k → i < length s → d ≤ 15 → hexDigits k v (drop i s) ≡ hexDigits (k - 1) (v * 16 + d) (drop (i + 1) s)
-  unfolding hexDigits
   hex-more d e p h o =
       ap (λ (m : ℕ). hexDigits m v (drop i s)) (suc-of k p)
-      ∙ rw (cons-at s i h, ← e, le-ltb 15 d o)
+      ∙ ap (hexDigits (suc (k - 1)) v) (cons-at s i h)
+      ∙ hex-byte (k - 1) v (getD s i 0) d (drop (i + 1) s) e o
 
 none-left : (k : ℕ) → k ≤ 0 → k ≡ 0
 none-left k h = omega arith
@@ -143,10 +147,13 @@ starts-fits (x ∷ w) (y ∷ t) e = suc-le-suc (starts-fits w t (and-right (eqb 
 pub word-fits : (w s : List ℕ) (at : ℕ) → startsWith w (drop at s) ≡ true → length w ≤ length s - at
 word-fits w s at e = rw (length-drop at s) at (starts-fits w (drop at s) e)
 
-pub number-after : (w s : List ℕ) (at : ℕ) → startsWith w (drop at s) ≡ true → numberAfter w (drop at s) ≡ number lf (drop (at + length w) s)
+pub after-word : (w t : List ℕ) → startsWith w t ≡ true → numberAfter w t ≡ number lf (drop (length w) t)
 unfolding numberAfter
-number-after w s at e = rw (e, drop-drop (length w) at s)
+after-word w t e = rw e
 
-pub number-no-word : (w s : List ℕ) (at : ℕ) → startsWith w (drop at s) ≡ false → numberAfter w (drop at s) ≡ missing
+pub no-word : (w t : List ℕ) → startsWith w t ≡ false → numberAfter w t ≡ missing
 unfolding numberAfter
-number-no-word w s at e = rw e
+no-word w t e = rw e
+
+pub number-after : (w s : List ℕ) (at : ℕ) → startsWith w (drop at s) ≡ true → numberAfter w (drop at s) ≡ number lf (drop (at + length w) s)
+number-after w s at e = after-word w (drop at s) e ∙ ap (number lf) (drop-drop (length w) at s)

@@ -1,8 +1,8 @@
 -- What is stored of a sheet: each entry at its own place, all else as given.
-use mathlib.Core.Path.{_≡_, refl, sym, ap, _∙_}
+use mathlib.Core.Path.{_≡_, refl, _∙_}
 use mathlib.Core.List.{List, [], _∷_, _++_, map}
 use Prim.Native.Nat.{ℕ, zero, suc, _+_, _*_, _<_, _≤_}
-use native.Mathlib.Nat.{suc-mul, mul-le-mul-right, not-suc-le-zero}
+use native.Mathlib.Nat.{suc-mul}
 use native.Mathlib.Omega.{arith}
 use lib.Ieee.{Float, nan, binary64, ofBits}
 use lib.ListN.{length, getD, set, length-set}
@@ -10,7 +10,7 @@ use lib.Seq.{getD-set-same, getD-set-other}
 use Rattle.sheet_text.specs.declared.place.Place.{Place}
 use Rattle.sheet_text.specs.Place.{rows, columns, places, cell}
 use Rattle.sheet_text.specs.Sheet.{stored}
-use Rattle.sheet_text.proofs.PlaceLaws.{at}
+use Rattle.sheet_text.proofs.PlaceLaws.{at, cell-inside}
 use Rattle.sheet_text.proofs.EachPlace.{Each, each-place, in-place}
 
 -- each place's cell is after the cells of the places before it, and at c or after
@@ -67,11 +67,4 @@ stored-each n f (p ∷ ps) a c r h =
 pub stored-entry : (n : ℕ) (f : Place → ℕ) (a : List Float) (i j : ℕ) → n * n ≤ length a → j ≤ i → i < n → getD (stored n (places n) (map f (places n)) a) (i + j * n) nan ≡ ofBits binary64 (f (at i j))
 stored-entry n f a i j long h k =
     in-place (λ p. getD (stored n (places n) (map f (places n)) a) (cell n p) nan ≡ ofBits binary64 (f p)) n i j h k
-    (stored-each n f (places n) a 0 (rising-places n) (each-place (λ p. cell n p < length a) n (λ r c l m. room r c l m)))
-  where
-    room : (r c : ℕ) → c ≤ r → r < n → r + c * n < length a
-    room r c l m =
-        let right : suc c ≤ n = omega arith in
-        let column = mul-le-mul-right n right in
-        let next = suc-mul c n in
-        omega arith
+    (stored-each n f (places n) a 0 (rising-places n) (each-place (λ p. cell n p < length a) n (λ r c l m. omega (arith, cell-inside n (at r c) m (omega arith)))))

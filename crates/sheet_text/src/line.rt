@@ -18,7 +18,7 @@ pub enum Bits {
     Not,
 }
 
-pub fn wide(b: u8) -> usize
+fn wide(b: u8) -> usize
     ensures { λ r. ⌜ r ≡ b ⌝ }
 {
     b as usize

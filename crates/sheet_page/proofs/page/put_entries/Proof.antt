@@ -1,12 +1,11 @@
 -- The lines of the places from p on are still to come.
-use borrow.Author.Needs.{needs}
 use mathlib.Core.Path.{sym, subst}
 use native.Mathlib.Omega.{arith}
 use Prim.Native.Nat.{_<_}
 use lib.ListN.{length}
 use Rattle.sheet_text.specs.declared.place.Place.{Place}
-use Rattle.sheet_text.proofs.PlaceLaws.{restFrom, rest-falls, column-fits, length-places}
-use Rattle.sheet_page.proofs.Loops.{EntriesSoFar, entries-start, entries-more, entries-all, cell-inside}
+use Rattle.sheet_text.proofs.PlaceLaws.{restFrom, rest-falls, column-fits, cell-inside, length-places}
+use Rattle.sheet_page.proofs.Loops.{EntriesSoFar, entries-start, entries-more, entries-all}
 use Rattle.sheet_page.proofs.page.put_entries.Statement.{statement}
 use Rattle.sheet_page.proofs.page.put_entries.Tie as tie
 

@@ -1,9 +1,7 @@
 use borrow.Author.Needs.{needs}
-use mathlib.Core.Path.{refl}
-use mathlib.Core.Path.{ap}
+use mathlib.Core.Path.{refl, ap}
 use Rattle.sheet_text.specs.Text.{bitsField, entryLine}
-use Rattle.sheet_page.proofs.PutLaws.{put-same}
-use Rattle.sheet_page.proofs.PutLaws.{put-then, put-ends}
+use Rattle.sheet_page.proofs.PutLaws.{put-same, put-then, put-ends}
 use Rattle.sheet_page.proofs.page.put_entry.Statement.{statement}
 use Rattle.sheet_page.proofs.page.put_entry.Tie as tie
 

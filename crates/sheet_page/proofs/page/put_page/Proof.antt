@@ -1,5 +1,4 @@
 -- The lines one after the other.
-use borrow.Author.Needs.{needs}
 use mathlib.Core.Path.{refl, ap}
 use native.Mathlib.Omega.{arith}
 use Prim.Native.Nat.{ℕ, _+_, zero-le}

@@ -1,4 +1,3 @@
-use borrow.Author.Needs.{needs}
 use mathlib.Core.Path.{refl}
 use Rattle.sheet_page.specs.Page.{pivotLine}
 use Rattle.sheet_page.proofs.PutLaws.{put-then, put-ends}

@@ -1,11 +1,9 @@
 use borrow.Author.Needs.{needs}
-use mathlib.Core.Path.{refl}
-use mathlib.Core.Path.{ap}
+use mathlib.Core.Path.{refl, ap}
 use Prim.Native.Nat.{ℕ, zero-le}
 use Rattle.sheet_text.specs.Text.{field, tab, lf}
 use Rattle.sheet_page.specs.Page.{refusalOf}
-use Rattle.sheet_page.proofs.PutLaws.{put-same}
-use Rattle.sheet_page.proofs.PutLaws.{put-then, put-ends}
+use Rattle.sheet_page.proofs.PutLaws.{put-same, put-then, put-ends}
 use Rattle.sheet_page.proofs.page.put_refusal.Statement.{statement}
 use Rattle.sheet_page.proofs.page.put_refusal.Tie as tie
 

@@ -1,4 +1,3 @@
-use borrow.Author.Needs.{needs}
 use Rattle.sheet_text.specs.Text.{bitsField}
 use Rattle.sheet_page.proofs.PutLaws.{put-then, put-ends}
 use Rattle.sheet_page.proofs.put.put_bits.Statement.{statement}

@@ -1,6 +1,6 @@
 use borrow.Author.Needs.{needs}
 use mathlib.Core.Path.{sym}
-use lib.Ieee.{binary64, div, ofBits}
+use lib.Ieee.{div, ofBits}
 use Rattle.sheet_text.proofs.FloatBits.{nan-bits, number-bits}
 use Rattle.sheet_text.proofs.float.float_of.Statement.{statement}
 use Rattle.sheet_text.proofs.float.float_of.Tie as tie

@@ -1,6 +1,6 @@
 -- The number so far and the bytes from i on give what the first digit and the bytes from `at` on give.
 use borrow.Author.Needs.{needs}
-use mathlib.Core.Path.{_≡_, refl, sym, ap, _∙_}
+use mathlib.Core.Path.{_≡_, refl, sym, _∙_}
 use native.Mathlib.Omega.{arith}
 use Prim.Native.Nat.{ℕ, _-_, _<_}
 use mathlib.Core.List.{List}

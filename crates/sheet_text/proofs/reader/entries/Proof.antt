@@ -1,14 +1,13 @@
 -- The places still to come and the bytes from i on give what all places and the bytes from `at` on give.
 use borrow.Author.Needs.{needs}
-use mathlib.Core.Path.{_≡_, refl, sym, ap, subst, _∙_}
+use mathlib.Core.Path.{sym, ap, subst, _∙_}
 use native.Mathlib.Omega.{arith}
-use mathlib.Core.List.{List}
-use Prim.Native.Nat.{ℕ, _<_}
+use Prim.Native.Nat.{_<_}
 use lib.ListN.{length}
 use denote.Ref.{now}
 use Rattle.sheet_text.specs.declared.place.Place.{Place}
 use Rattle.sheet_text.specs.Line.{bitsFound}
-use Rattle.sheet_text.proofs.PlaceLaws.{Inside, restFrom, rest-falls, column-fits}
+use Rattle.sheet_text.proofs.PlaceLaws.{restFrom, rest-falls, column-fits}
 use Rattle.sheet_text.proofs.Entries.{SoFar, start, more, ended-early, all-read}
 use Rattle.sheet_text.proofs.reader.entries.Statement.{statement}
 use Rattle.sheet_text.proofs.reader.entries.Tie as tie

@@ -1,0 +1,92 @@
+// The calls by number, on what the registers hold.
+use crate::registers::part;
+use crate::registers::part_words;
+use crate::state::State;
+use answer::Answer;
+use answer::Valued;
+
+// The answer, and the word of the value or 0.
+pub struct Outcome {
+    pub answer: u64,
+    pub value: u64,
+}
+
+fn plain(answer: Answer) -> Outcome {
+    Outcome {
+        answer: answer.number(),
+        value: 0,
+    }
+}
+
+fn valued(v: Valued) -> Outcome {
+    let answer = v.answer;
+    Outcome {
+        answer: answer.number(),
+        value: leaf::to_bits(v.value),
+    }
+}
+
+// An answer that no call gives.
+fn no_call() -> Outcome {
+    Outcome {
+        answer: 0xffff_ffff_ffff_ffff,
+        value: 0,
+    }
+}
+
+pub fn call(
+    s: State,
+    which: u64,
+    n: usize,
+    x: usize,
+    y: usize,
+    a: &mut [f64],
+    b: &mut [f64],
+    c: &mut [f64],
+    r: &mut [u32],
+) -> Outcome {
+    match which {
+        1..=5 => of_lblt(which, n, x, part(a, s.a), part(b, s.b), part_words(r, s.r)),
+        6..=10 => of_cholesky(which, n, x, y, part(a, s.a), part(b, s.b)),
+        11 => of_udu(n, part(a, s.a), part(b, s.b), part(c, s.c)),
+        _ => no_call(),
+    }
+}
+
+fn of_lblt(
+    which: u64,
+    n: usize,
+    columns: usize,
+    a: &mut [f64],
+    b: &mut [f64],
+    r: &mut [u32],
+) -> Outcome {
+    match which {
+        1 => plain(lblt::factor(a, r, n)),
+        2 => plain(lblt_solve::solve_mut(a, r, b, n, columns)),
+        3 => valued(lblt_solve::determinant(a, r, n)),
+        4 => plain(lblt_solve::d(a, r, b, n)),
+        _ => plain(lblt_solve::l_permuted(a, r, b, n)),
+    }
+}
+
+fn of_cholesky(
+    which: u64,
+    n: usize,
+    room: usize,
+    earlier: usize,
+    a: &mut [f64],
+    b: &mut [f64],
+) -> Outcome {
+    match which {
+        6 => plain(cholesky::factor(a, room, n)),
+        7 => plain(cholesky::extend(a, room, earlier, n)),
+        8 => plain(cholesky::l(a, b, room, n)),
+        9 => plain(cholesky::unpack(a, room, n)),
+        _ => valued(cholesky::determinant(a, room, n)),
+    }
+}
+
+fn of_udu(n: usize, a: &mut [f64], b: &mut [f64], c: &mut [f64]) -> Outcome {
+    plain(udu::factor(a, b, c, n))
+}

@@ -1,0 +1,4 @@
+// Replays the stored list of cholesky.
+fn main() {
+    replay::run();
+}

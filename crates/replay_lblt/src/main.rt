@@ -1,0 +1,4 @@
+// Replays the stored list of lblt.
+fn main() {
+    replay::run();
+}

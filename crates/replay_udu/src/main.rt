@@ -1,0 +1,4 @@
+// Replays the stored list of udu.
+fn main() {
+    replay::run();
+}

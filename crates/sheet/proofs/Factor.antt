@@ -1,0 +1,76 @@
+-- The factor call on a square of at most 64 rows is done, its determinant is taken, and the page shows both.
+use mathlib.Core.Path.{_≡_, sym, ap, _∙_}
+use mathlib.Core.List.{List}
+use Prim.Native.Nat.{ℕ, _*_, _≤_}
+use native.Mathlib.Omega.{arith}
+use borrow.Author.Tests.{le-ltb, eq-eqb}
+use lib.Ieee.{Float, binary64, toBits}
+use lib.ListN.{length}
+use Rattle.answer.specs.declared.Answer.{Answer}
+use Rattle.answer.specs.declared.Answer.the-variants.{Done}
+use Rattle.answer.specs.declared.Valued.{Valued}
+use Rattle.matrix.specs.Matrix.{Matrix}
+use Rattle.matrix.specs.Grid.{load}
+use Rattle.matrix.specs.Layouts.{startOf, lower}
+use Rattle.matrix.proofs.Places.{lower-at}
+use Rattle.pivots.specs.Words.{wordsOf, Sized}
+use Rattle.pivots.specs.Rule.{checked}
+use Rattle.lblt.specs.Factor.{answerOf, full, factored, recorded, Stored}
+use Rattle.lblt.proofs.Accepted.{accepted}
+use Rattle.lblt_solve.specs.Calls.{lowerOf, readerAnswer, whenDone, Determined}
+use Rattle.lblt_solve.specs.Diagonal.{zeroFloat, determinantOf}
+use Rattle.sheet_text.specs.Place.{places}
+use Rattle.sheet_text.proofs.EachPlace.{each-same, each-place}
+use Rattle.sheet_page.specs.Page.{matrixIn, bitsAt, bitsOf, pageLines, pageOf}
+use Rattle.sheet.specs.Respond.{pageFrom}
+use Rattle.sheet.specs.Parts.{Square}
+
+-- the factor's entries are those that stand in the slice
+bits-same : (n : ℕ) (a : List Float) (F : Matrix) → load (lower (full n)) a ≡ F → bitsOf n (matrixIn n a) ≡ bitsOf n F
+unfolding bitsOf startOf
+bits-same n a F e =
+    each-same (bitsAt (matrixIn n a)) (bitsAt F) (places n)
+    (each-place (λ p. bitsAt (matrixIn n a) p ≡ bitsAt F p) n
+    (λ r c h k. ap (toBits binary64) (sym (lower-at (full n) a r c h k) ∙ ap (λ (M : Matrix). M r c) e)))
+
+page-same : (n : ℕ) (words : List ℕ) (a : List Float) (F : Matrix) (det : Float) → load (lower (full n)) a ≡ F → pageOf n words (matrixIn n a) det ≡ pageOf n words F det
+unfolding pageOf pageLines
+page-same n words a F det e = rw (bits-same n a F e)
+
+module _ (n : ℕ) (a : List Float) (words : List ℕ) (q : Square n a words) where
+  pub answer-done : answerOf n a words ≡ Done
+  unfolding answerOf
+  answer-done =
+      let small = q .small in
+      let below : n ≤ 1024 = omega arith in
+      rw (le-ltb 1024 n below, eq-eqb (length a) (n * n) (q .long), eq-eqb (length words) (wordsOf n) (q .sized))
+
+  words-sized : Sized n words
+  words-sized = record { order = omega (arith, q .small); total = q .sized }
+
+  module _ (a′ : List Float) (words′ : List ℕ) (s : Stored n a words a′ words′) (long : length a′ ≡ length a) (sized : length words′ ≡ length words) where
+    record-accepted : checked n words′ ≡ Done
+    record-accepted = ap (checked n) (s .pivots) ∙ accepted n (load (lower (full n)) a) words words-sized .done
+
+    reader-done : readerAnswer n n a′ words′ a′ ≡ Done
+    unfolding readerAnswer
+    reader-done =
+        let small = q .small in
+        let below : n ≤ 1024 = omega arith in
+        rw (le-ltb 1024 n below, eq-eqb (length a′) (n * n) (long ∙ q .long), eq-eqb (length words′) (wordsOf n) (sized ∙ q .sized)) record-accepted
+
+    determinant-is : (v : Valued) → Determined n a′ words′ v → v .value ≡ determinantOf n (factored n (load (lower (full n)) a) words .matrix) (recorded n (load (lower (full n)) a) words)
+    unfolding whenDone lowerOf
+    determinant-is v d =
+        d .value
+        ∙ ap (λ (r : Answer). whenDone r (determinantOf n (lowerOf n a′) words′) zeroFloat) (d .answer ∙ reader-done)
+        ∙ ap (λ (M : Matrix). determinantOf n M words′) (s .matrix .cells)
+        ∙ ap (determinantOf n (factored n (load (lower (full n)) a) words .matrix)) (s .pivots)
+
+    -- the page that is written is that of the matrix that was given
+    pub page-is : (v : Valued) → Determined n a′ words′ v → pageOf n words′ (matrixIn n a′) (v .value) ≡ pageFrom n (load (lower (full n)) a) words
+    unfolding pageFrom
+    page-is v d =
+        page-same n words′ a′ (factored n (load (lower (full n)) a) words .matrix) (v .value) (s .matrix .cells)
+        ∙ ap (λ (w : List ℕ). pageOf n w (factored n (load (lower (full n)) a) words .matrix) (v .value)) (s .pivots)
+        ∙ ap (pageOf n (recorded n (load (lower (full n)) a) words) (factored n (load (lower (full n)) a) words .matrix)) (determinant-is v d)

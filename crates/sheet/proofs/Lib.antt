@@ -1,0 +1,4 @@
+pub mod Factor
+pub mod Answers
+pub mod Once
+pub mod Cut

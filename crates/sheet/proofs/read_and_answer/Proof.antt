@@ -1,0 +1,86 @@
+use borrow.Author.Needs.{needs}
+use mathlib.Core.Path.{sym, _∙_}
+use Prim.Native.Nat.{_+_, _*_}
+use native.Mathlib.Omega.{arith}
+use denote.Ref.{now}
+use lib.Seq.{length-front}
+use Rattle.sheet.proofs.Answers.{square-small, room-length, words-length, order-small, parts, refuses-it, factors-it}
+use Rattle.sheet.proofs.read_and_answer.Statement.{statement}
+use Rattle.sheet.proofs.read_and_answer.Tie as tie
+
+read-sheet-requires : tie.Need-read-sheet-requires
+read-sheet-requires c κs = search needs
+
+code-requires : tie.Need-code-requires
+code-requires c κs = search needs
+
+put-refusal-requires : tie.Need-put-refusal-requires
+put-refusal-requires c κs = search needs
+
+same-length : tie.Need-same-length
+same-length c = c .before .before .before .before .before .before .before .before .read-sheet .kept .1 .0
+
+same-length-2 : tie.Need-same-length-2
+same-length-2 c = c .before .before .put-refusal .ensures .long
+
+returns : tie.Need-returns
+returns c = refuses-it (c .before .before .before .before .before .before .before .before .read-sheet .ensures) (λ e. c .before .before .before .before .if1 .taken (c .before .before .before .before .before .code .ensures ∙ e)) (c .before .before .put-refusal .ensures)
+
+mul-cells : tie.Need-mul-cells
+mul-cells c = omega (arith, square-small (c .before .before .before .before .read-sheet .result .order) (order-small (c .before .before .before .before .read-sheet .ensures)))
+
+mul-count : tie.Need-mul-count
+mul-count c = omega (arith, order-small (c .before .before .before .before .read-sheet .ensures))
+
+add-count : tie.Need-add-count
+add-count c = omega (arith, order-small (c .before .before .before .before .read-sheet .ensures))
+
+slice-relend-prefix-factor-and-write : tie.Need-slice-relend-prefix-factor-and-write
+slice-relend-prefix-factor-and-write c = omega (arith, square-small (c .before .before .before .before .read-sheet .result .order) (order-small (c .before .before .before .before .read-sheet .ensures)), c .before .before .before .before .read-sheet .kept .1 .0, room-length _ _ (c .before .before .before .before .before .before .before .before .before .before .pre))
+
+slice-aggregate-factor-and-write : tie.Need-slice-aggregate-factor-and-write
+slice-aggregate-factor-and-write c = sym (parts (c .before .before .before .before .before .read-sheet .ensures) _ (c .before .before .before .before .before .before .before .before .before .before .before .pre) (c .before .before .before .before .before .read-sheet .kept .1 .0) .long)
+
+slice-relend-prefix-factor-and-write-2 : tie.Need-slice-relend-prefix-factor-and-write-2
+slice-relend-prefix-factor-and-write-2 c = omega (arith, order-small (c .before .before .before .before .before .read-sheet .ensures), words-length _ _ (c .before .before .before .before .before .before .before .before .before .before .before .pre))
+
+slice-aggregate-factor-and-write-2 : tie.Need-slice-aggregate-factor-and-write-2
+slice-aggregate-factor-and-write-2 c = sym (parts (c .before .before .before .before .before .before .read-sheet .ensures) _ (c .before .before .before .before .before .before .before .before .before .before .before .before .pre) (c .before .before .before .before .before .before .read-sheet .kept .1 .0) .sized)
+
+factor-and-write-requires : tie.Need-factor-and-write-requires
+factor-and-write-requires c κs = parts (c .before .before .before .before .before .before .before .read-sheet .ensures) _ (c .before .before .before .before .before .before .before .before .before .before .before .before .before .pre) (c .before .before .before .before .before .before .before .read-sheet .kept .1 .0)
+
+same-length-3 : tie.Need-same-length-3
+same-length-3 c = length-front (c .before .before .before .before .before .before .before .before .before .before .before .before .before .before .read-sheet .last .1 .0) (c .before .before .before .before .before .before .factor-and-write .last .0) (c .before .before .before .before .before .before .before .before .before .before .before .before .before .before .read-sheet .result .order * c .before .before .before .before .before .before .before .before .before .before .before .before .before .before .read-sheet .result .order) (c .before .before .before .before .before .before .factor-and-write .kept .0) ∙ c .before .before .before .before .before .before .before .before .before .before .before .before .before .before .read-sheet .kept .1 .0
+
+same-length-4 : tie.Need-same-length-4
+same-length-4 c = length-front (now (c .before .before .before .before .before .before .before .before .before .before .before .before .before .before .before .before .before .before .before .before .args .words)) (c .before .before .before .before .before .before .factor-and-write .last .1 .0) (2 * c .before .before .before .before .before .before .before .before .before .before .before .before .before .before .read-sheet .result .order + 1) (c .before .before .before .before .before .before .factor-and-write .kept .1 .0)
+
+same-length-5 : tie.Need-same-length-5
+same-length-5 c = c .before .before .before .before .before .before .factor-and-write .ensures .long
+
+returns-2 : tie.Need-returns-2
+returns-2 c = factors-it (c .before .before .before .before .before .before .before .before .before .before .before .before .before .before .read-sheet .ensures) _ (c .before .before .before .before .before .before .before .before .before .before .before .before .before .before .before .before .before .before .before .before .pre) (sym (c .before .before .before .before .before .before .before .before .before .before .before .code .ensures) ∙ c .before .before .before .before .before .before .before .before .before .before .if1 .left) (c .before .before .before .before .before .before .factor-and-write .ensures)
+
+pub read-and-answer-spec : {M : Type 1} → statement M
+read-and-answer-spec =
+    tie.close
+    (tie.spec
+    read-sheet-requires
+    code-requires
+    put-refusal-requires
+    same-length
+    same-length-2
+    returns
+    mul-cells
+    mul-count
+    add-count
+    slice-relend-prefix-factor-and-write
+    slice-aggregate-factor-and-write
+    slice-relend-prefix-factor-and-write-2
+    slice-aggregate-factor-and-write-2
+    factor-and-write-requires
+    same-length-3
+    same-length-4
+    same-length-5
+    returns-2)

@@ -1,0 +1,48 @@
+-- What the program writes, of the bytes that it reads: the page of the factored sheet, or the refusal with the first wrong line.
+use mathlib.Core.Path.{_≡_}
+use mathlib.Core.List.{List}
+use Prim.Native.Nat.{ℕ, _*_, _≤_}
+use lib.Ieee.{Float, binary64, ofBits}
+use lib.ListN.{length, take, replicate}
+use Rattle.answer.specs.declared.Answer.the-variants.{BadLine}
+use Rattle.matrix.specs.Matrix.{Matrix}
+use Rattle.matrix.specs.Grid.{load}
+use Rattle.matrix.specs.Layouts.{lower}
+use Rattle.pivots.specs.Words.{wordsOf}
+use Rattle.lblt.specs.Factor.{full, factored, recorded}
+use Rattle.lblt_solve.specs.Diagonal.{determinantOf}
+use Rattle.sheet_text.specs.Place.{places}
+use Rattle.sheet_text.specs.Sheet.{sheetOf, IsSheet, FirstWrong, stored}
+use Rattle.sheet_page.specs.Page.{pageOf, refusalOf}
+use Rattle.sheet_page.specs.Put.{Put}
+
+-- order, pivots, mark, factor, determinant, and the number of pivot and entry lines, of a matrix and a record to write in
+unfoldable pub pageFrom : ℕ → Matrix → List ℕ → List ℕ
+pageFrom n M words =
+    pageOf n (recorded n M words) (factored n M words .matrix) (determinantOf n (factored n M words .matrix) (recorded n M words))
+
+-- room for 4,096 numbers, and for the record of 64 rows
+abbrev pub emptyRoom : List Float
+emptyRoom = replicate 4096 (ofBits binary64 0)
+
+abbrev pub emptyWords : List ℕ
+emptyWords = replicate 129 0
+
+-- the n·n numbers of a sheet: its entries, and zero above the diagonal
+unfoldable pub numbersOf : ℕ → List ℕ → List Float
+numbersOf n bits = take (n * n) (stored n (places n) bits emptyRoom)
+
+unfoldable pub factorPage : ℕ → List ℕ → List ℕ
+factorPage n bits = pageFrom n (load (lower (full n)) (numbersOf n bits)) (take (wordsOf n) emptyWords)
+
+pub data Response (s text : List ℕ) : Type 0 where
+  factors : (n : ℕ) (bits : List ℕ) → IsSheet n bits → s ≡ sheetOf n bits → text ≡ factorPage n bits → Response s text
+  refuses : (line : ℕ) → FirstWrong s line → text ≡ refusalOf (BadLine line) → Response s text
+
+-- the response to s stands at the start of the lent bytes, as far as they have room
+pub record Responds (s o : List ℕ) (r : ℕ) (o′ : List ℕ) : Type 0 where
+  pub text : List ℕ
+  pub response : Response s text
+  pub put : Put o 0 text r o′
+  pub ends : r ≤ length o′
+  pub counted : r ≡ length (take r o′)

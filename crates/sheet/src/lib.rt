@@ -1,0 +1,41 @@
+// The sheet program as one function, from the bytes of its input to the bytes of its output.
+use sheet_page::put_page;
+use sheet_page::put_refusal;
+use sheet_text::read_sheet;
+ghost use Rattle.sheet.specs.Respond.{Responds};
+ghost use Rattle.sheet.specs.Parts.{Square, Writes, Empty};
+
+// Factors the n·n numbers and writes the page.
+fn factor_and_write(a: &mut [f64], words: &mut [u32], n: usize, out: &mut [u8]) -> usize
+    requires { ⌜ Square n (now a) (now words) ⌝ }
+    ensures { λ r. ⌜ Writes n (now (a .entry)) (now (words .entry)) (now (out .entry)) r (now (out .exit)) ⌝ }
+{
+    lblt::factor(a, words, n);
+    let determinant = lblt_solve::determinant(a, words, n);
+    put_page(out, n, words, a, determinant.value)
+}
+
+// Reads the sheet into the room, then factors it or refuses it.
+fn read_and_answer(s: &[u8], a: &mut [f64], words: &mut [u32], out: &mut [u8]) -> usize
+    requires { ⌜ Empty (now a) (now words) ⌝ }
+    ensures { λ r. ⌜ Responds (now (s .entry)) (now (out .entry)) r (now (out .exit)) ⌝ }
+{
+    let sheet = read_sheet(s, a);
+    let n = sheet.order;
+    let verdict = sheet.answer;
+    if verdict.code() != 0 {
+        return put_refusal(out, verdict);
+    }
+    let cells = n * n;
+    let count = 2 * n + 1;
+    factor_and_write(&mut a[..cells], &mut words[..count], n, out)
+}
+
+// Writes the response to s at the start of `out` and answers where it ends.
+pub fn respond(s: &[u8], out: &mut [u8]) -> usize
+    ensures { λ r. ⌜ Responds (now (s .entry)) (now (out .entry)) r (now (out .exit)) ⌝ }
+{
+    let mut room = [0.0; 4096];
+    let mut words = [0u32; 129];
+    read_and_answer(s, &mut room, &mut words, out)
+}
