@@ -64,16 +64,26 @@ fn past(list: &[u8], at: usize) -> usize
 
 // How many words stand after the first of an instruction.
 fn payload(first: u64) -> usize {
-    let op = first % 256;
-    let count = size(first / 65536);
-    match op {
-        SET | SAME => count,
-        SWEEP => std::num::wrapping_add_usize(count, count),
+    match first % 256 {
+        SET | SAME => count_of(first),
+        SWEEP => std::num::wrapping_add_usize(count_of(first), count_of(first)),
         SHIFT => 2,
         CALL => 5,
         FILL | RANDOM | DIGEST => 1,
         _ => 0,
     }
+}
+
+// An instruction's count: no more than the words of a block.
+fn count_of(first: u64) -> usize {
+    at_most(size(first / 65536), 8192)
+}
+
+fn at_most(count: usize, most: usize) -> usize {
+    if count < most {
+        return count;
+    }
+    most
 }
 
 // What stands after the first word.
@@ -98,7 +108,7 @@ fn instruction(
         s,
         first % 256,
         first / 256 % 256,
-        size(first / 65536),
+        count_of(first),
         rest(list),
         a,
         b,
@@ -121,7 +131,7 @@ fn run(
     match op {
         SET | FILL | RANDOM => load(s, op, which, count, list, a, b, c, r),
         CALL => called(s, which, list, a, b, c, r),
-        SWEEP => sweep(s, which, count, list, a, b, c, r),
+        SWEEP => sweep(s, which, at_most(count, 64), list, a, b, c, r),
         SHIFT => {
             shift(
                 a,
