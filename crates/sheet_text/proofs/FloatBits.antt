@@ -1,11 +1,10 @@
--- A float from its bits and back, by the tests that the code makes.
+-- A float from its bits: which patterns are a NaN, by the test that the code makes.
 use mathlib.Core.Path.{_≡_, refl, sym, _∙_, subst}
-use mathlib.Core.Bool.{Bool, true, false, not, true≢false}
+use mathlib.Core.Bool.{Bool, true, not}
 use Prim.Native.Nat.{ℕ, _%_, _<_, _≤_}
 use borrow.Author.Tests.{lt-ltb, le-ltb}
 use lib.Dec.{T}
-use lib.Ieee.{Float, nan, inf, fin, binary64, isNan, ne, nanBits, ofBits}
-use lib.Ieee.Compare.{differs-from-itself, nan-differs}
+use lib.Ieee.{Float, nan, inf, fin, binary64, isNan, nanBits, ofBits}
 use lib.Ieee.Bits.{nanBits-is, nanBits-above}
 
 nan-is : (x : Float) → isNan x ≡ true → x ≡ nan
@@ -19,13 +18,3 @@ nan-bits b h = nan-is (ofBits binary64 b) (sym (nanBits-is binary64 b) ∙ nanBi
 
 pub number-bits : (b : ℕ) → b % 0x8000_0000_0000_0000 ≤ 0x7ff0_0000_0000_0000 → T (not (nanBits binary64 b))
 number-bits b h = subst (λ (t : Bool). T (not t)) (sym (nanBits-above binary64 b ∙ le-ltb _ _ h)) tt
-
--- what the test `x != x` says
-pub is-nan : (x : Float) → ne x x ≡ true → x ≡ nan
-is-nan x h = differs-from-itself x (subst T (sym h) tt)
-
-pub no-nan : (x : Float) → ne x x ≡ false → T (not (isNan x))
-unfolding isNan
-no-nan nan h = absurd (true≢false (sym nan-differs ∙ h))
-no-nan (inf s) h = tt
-no-nan (fin s m e) h = tt

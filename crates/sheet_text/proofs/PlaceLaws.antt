@@ -4,12 +4,13 @@ use mathlib.Core.Logic.{_⊎_, inl, inr, ⊎-elim}
 use mathlib.Core.Bool.{Bool, true, false}
 use mathlib.Core.List.{List, [], _∷_, _++_}
 use Prim.Native.Nat.{ℕ, zero, suc, _+_, _*_, _-_, _<_, _≤_}
-use native.Mathlib.Nat.{suc-mul, mul-le-mul, mul-le-mul-right}
+use native.Mathlib.Nat.{mul-le-mul}
 use native.Mathlib.Numerals.{add-one}
 use native.Mathlib.Omega.{arith}
 use borrow.Author.Tests.{lt-ltb, le-ltb, ltb-true, ltb-false}
 use lib.Dec.{ltb}
 use lib.ListN.{length, length-append}
+use Rattle.matrix.proofs.Places.{digits-within}
 use Rattle.sheet_text.specs.declared.place.Place.{Place}
 use Rattle.sheet_text.specs.Place.{rows, columns, places, nextPlace, cell}
 
@@ -107,7 +108,4 @@ rest-falls n p h = rw (rest-more n p h) (omega arith)
 
 -- a place of the square is one of its n·n cells
 pub cell-inside : (n : ℕ) (p : Place) → p .row < n → p .column < n → cell n p < n * n
-cell-inside n p r c =
-    let column = mul-le-mul-right n c in
-    let next = suc-mul (p .column) n in
-    omega arith
+cell-inside n p r c = digits-within n n (p .row) (p .column) r c

@@ -1,7 +1,7 @@
 use borrow.Author.Needs.{needs}
 use mathlib.Core.Path.{sym, ap}
 use lib.Ieee.{binary64, toBits}
-use Rattle.sheet_text.proofs.FloatBits.{is-nan, no-nan}
+use Rattle.leaf.proofs.Nan.{is-nan, no-nan}
 use Rattle.sheet_text.proofs.float.bits_of.Statement.{statement}
 use Rattle.sheet_text.proofs.float.bits_of.Tie as tie
 
