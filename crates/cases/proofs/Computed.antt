@@ -15,9 +15,9 @@ use Rattle.lblt.specs.Factor.{begun, factored, recorded}
 use Rattle.lblt.specs.Interchange.{swapBelow, swapBetween, interchange, brought1, brought2}
 use Rattle.lblt.specs.Step.{run, step, take, pivot1, pivot2, firstMark}
 use Rattle.lblt.specs.Update.{rank1At, rank1, scaleAt, eliminate1, update1, blockBy, blockAt, multiplier, work1, work2, rank2At, rank2By, rank2, update2}
-use Rattle.lblt_solve.specs.Blocks.{bySize, rowsOf, blocksFrom, forwards, blocksTo, backwards}
+use Rattle.lblt_column.specs.Blocks.{bySize, rowsOf, blocksFrom, forwards, blocksTo, backwards}
 use Rattle.lblt_solve.specs.Calls.{readerAnswer, whenDone, solveAnswer}
-use Rattle.lblt_solve.specs.Column.{swapRows, lessOne, lessTwo, eliminateOne, eliminateTwo, forwardBlock, divideOne, blockDeterminant, divideTwo, divideBlock, lessProduct, gatherRow, backwardBlock, solveColumn}
+use Rattle.lblt_column.specs.Column.{swapRows, lessOne, lessTwo, eliminateOne, eliminateTwo, forwardBlock, divideOne, blockDeterminant, divideTwo, divideBlock, lessProduct, gatherRow, backwardBlock, solveColumn}
 use Rattle.lblt_solve.specs.Diagonal.{timesBlock, determinantOf}
 use Rattle.cholesky.specs.Crate.{positive}
 use Rattle.cholesky.specs.Run.{run as choleskyColumns}

@@ -12,7 +12,7 @@ use Rattle.pivots.specs.Words.{wordsOf}
 use Rattle.lblt.specs.Choice.{columnMax}
 use Rattle.lblt.specs.Factor.{factored, recorded}
 use Rattle.lblt_solve.specs.Calls.{solveAnswer}
-use Rattle.lblt_solve.specs.Column.{solveColumn}
+use Rattle.lblt_column.specs.Column.{solveColumn}
 use Rattle.lblt_solve.specs.Diagonal.{determinantOf}
 use Rattle.cholesky.specs.Run.{Outcome, run}
 use Rattle.cholesky.specs.Crate.{crateRule}

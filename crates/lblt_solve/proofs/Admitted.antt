@@ -3,7 +3,6 @@ use mathlib.Core.Bool.{Bool, true, false, cond, _&&_, _||_}
 use mathlib.Core.List.{List}
 use mathlib.Core.Path.{_≡_, refl, sym, ap, _∙_}
 use Prim.Native.Nat.{ℕ, _-_, _*_, _<_, _≤_}
-use native.Mathlib.Nat.{mul-le-mul}
 use native.Mathlib.Omega.{arith}
 use borrow.Author.Tests.{eq-eqb, ne-eqb, eqb-true, lt-ltb, le-ltb, ltb-false}
 use lib.Dec.{eqb, ltb}
@@ -17,7 +16,7 @@ use Rattle.matrix.proofs.Places.{lower-fair}
 use Rattle.pivots.specs.Words.{markAt, wordsOf}
 use Rattle.pivots.specs.Rule.{checked, Accepted, faultOf, soundMark}
 use Rattle.lblt_solve.specs.Calls.{whole, readerAnswer, whenDone, solveAnswer}
-use Rattle.lblt_solve.specs.Engine.{Factored}
+use Rattle.lblt_column.specs.Engine.{Factored}
 
 module _ (n columns : ℕ) (a : List Float) (words : List ℕ) (other : List Float) where
   pub order-above : 1024 < n → OutOfRange ≡ readerAnswer n columns a words other
@@ -128,9 +127,6 @@ factored {n} {columns} {a} m =
       factor = record { roomy = roomy; sound = record { fair = lower-fair (whole n) roomy; long = m .square } };
       accepted = m .accepted;
     }
-
-pub product-small : (n m : ℕ) → n ≤ 1024 → m ≤ 1024 → n * m ≤ 1048576
-product-small n m h g = mul-le-mul {n₁ = n} {m₁ = m} {n₂ = 1024} {m₂ = 1024} h g
 
 -- ---- where a reader is done
 

@@ -5,20 +5,19 @@ use Prim.Native.Nat.{ℕ, _<_}
 use lib.Ieee.{Float}
 use Rattle.answer.specs.declared.Answer.{Answer}
 use Rattle.answer.specs.Number.{codeOf}
-use Rattle.lblt_solve.specs.Calls.{lowerOf, solveEach, Solved}
-use Rattle.lblt_solve.specs.Column.{solveColumn}
-use Rattle.lblt_solve.specs.Columns.{column}
+use Rattle.lblt_solve.specs.Calls.{lowerOf, Solved}
+use Rattle.lblt_column.specs.Column.{solveColumn}
+use Rattle.lblt_sides.specs.Columns.{column}
 use Rattle.lblt_solve.proofs.Admitted.{solver-admitted, when-done}
-use Rattle.lblt_solve.proofs.EachColumn.{each-column}
-use Rattle.lblt_solve.proofs.Keeps.{solve-keeps}
+use Rattle.lblt_sides.proofs.EachColumn.{each-column}
+use Rattle.lblt_column.proofs.Keeps.{solve-keeps}
 
 pub column-solved
     : {n columns : ℕ} {a : List Float} {words : List ℕ} {b : List Float} {r : Answer} {b' : List Float}
     → Solved n columns a words b r b' → codeOf r ≡ 0
     → (j : ℕ) → j < columns
     → column n j b' ≡ solveColumn n (lowerOf n a) words (column n j b)
-unfolding solveEach
 column-solved {n} {columns} {a} {words} {b} {r} s done j below =
     let m = solver-admitted n columns a words b done (s .answer) in
     ap (column n j) (s .sides ∙ when-done r _ _ done)
-    ∙ each-column n (solveEach n (lowerOf n a) words) (λ i l. solve-keeps n (lowerOf n a) words l) columns b (m .long) j below
+    ∙ each-column n (solveColumn n (lowerOf n a) words) (solve-keeps n (lowerOf n a) words) columns b (m .long) j below

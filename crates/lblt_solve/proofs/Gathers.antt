@@ -19,7 +19,7 @@ use Rattle.matrix.specs.Grid.{load, mask}
 use Rattle.matrix.specs.Layouts.{lower, startOf, square, inSquare}
 use Rattle.matrix.proofs.Loops.{for-none, for-more, for-same}
 use Rattle.lblt_solve.specs.Diagonal.{zeroFloat, oneFloat, allZero}
-use Rattle.lblt_solve.proofs.Offsets.{offset-at}
+use Rattle.lblt_column.proofs.Offsets.{offset-at}
 use Rattle.lblt_solve.specs.Permuted.{identity, swapColumns, plusProduct, gatherColumn, plusColumn}
 
 abbrev Row : Type 0

@@ -1,12 +1,6 @@
-pub mod Turning
-pub mod Offsets
-pub mod Walks
 pub mod Steps
 pub mod Admitted
-pub mod Parts
 pub mod Squares
 pub mod Gathers
 pub mod Once
-pub mod EachColumn
-pub mod Keeps
 pub mod ColumnAlone

@@ -16,7 +16,7 @@ use Rattle.matrix.proofs.Places.{in-square, square-at, digits-within}
 use Rattle.matrix.proofs.Squares.{square-sound, fills-each}
 use Rattle.lblt_solve.specs.Diagonal.{zeroFloat, allZero}
 use Rattle.lblt_solve.specs.Engine.{Squared}
-use Rattle.lblt_solve.proofs.Admitted.{product-small}
+use Rattle.lblt_sides.proofs.Parts.{product-small}
 
 pub sound-of : {n : ℕ} {l : List Float} → Squared n l → Sound (square n) l
 sound-of {n} {l} s = square-sound n l (s .long)

@@ -1,52 +1,18 @@
--- The step at a block, by the block's size: `move` is how the rows of the block lead to the next row.
+-- The step at a block, by the block's size, in a matrix and in a product: `move` is how the rows of the block lead to the next row.
 use mathlib.Core.List.{List}
 use mathlib.Core.Path.{_≡_, sym, ap, _∙_}
 use Prim.Native.Nat.{ℕ, _+_}
 use lib.Ieee.{Float, binary64, mul}
 use Rattle.pivots.specs.Words.{indexAt, sizeAt}
-use Rattle.lblt_solve.specs.Blocks.{bySize, rowsOf}
+use Rattle.lblt_column.specs.Blocks.{bySize, rowsOf}
 use Rattle.matrix.specs.Matrix.{Matrix, entry}
 use Rattle.matrix.specs.Grid.{load, Holds}
 use Rattle.matrix.specs.Layouts.{square}
 use Rattle.matrix.proofs.Grids.{holds-then, holds-as}
 use Rattle.lblt_solve.specs.Diagonal.{diagonalTwo}
-use Rattle.lblt_solve.specs.Column.{swapRows, gatherRow}
 use Rattle.lblt_solve.specs.Permuted.{swapColumns, gatherColumn}
-use Rattle.lblt_solve.specs.Engine.{Moved, Placed, Counted}
-use Rattle.lblt_solve.proofs.Walks.{size-one, size-two, rows-one, rows-two}
-
-module _ (words : List ℕ) (row : ℕ) {size : ℕ} (reads : size ≡ sizeAt words row) where
-  pub one-is : {S : Type 0} {s : S} (t : S) → size ≡ 1 → s ≡ bySize words row s t
-  one-is {s = s} t one = sym (size-one words row s t (sym reads ∙ one))
-
-  pub two-is : {S : Type 0} (s : S) {t : S} → (size ≡ 1 → ⊥) → t ≡ bySize words row s t
-  two-is s {t} other = sym (size-two words row s t (λ e. other (reads ∙ e)))
-
-  pub reads-one : size ≡ 1 → rowsOf words row ≡ 1
-  reads-one one = rows-one words row (sym reads ∙ one)
-
-  pub reads-two : (size ≡ 1 → ⊥) → rowsOf words row ≡ 2
-  reads-two other = rows-two words row (λ e. other (reads ∙ e))
-
-  pub moved-one
-      : (move : ℕ → ℕ) {left₁ b : List Float} (left₂ : List Float) → size ≡ 1 → b ≡ left₁
-      → Moved (move (rowsOf words row)) (move 1) (bySize words row left₁ left₂) b
-  moved-one move left₂ one e = record { row = ap move (sym (reads-one one)); column = e ∙ one-is left₂ one }
-
-  pub moved-two
-      : (move : ℕ → ℕ) (left₁ : List Float) {left₂ b : List Float} → (size ≡ 1 → ⊥) → b ≡ left₂
-      → Moved (move (rowsOf words row)) (move 2) (bySize words row left₁ left₂) b
-  moved-two move left₁ other e = record { row = ap move (sym (reads-two other)); column = e ∙ two-is left₁ other }
-
--- ---- one step after another
-
-pub swap-same : {b b' : List Float} {p p' : ℕ} (row : ℕ) → b ≡ b' → p ≡ p' → swapRows b row p ≡ swapRows b' row p'
-swap-same row e q = cc
-
-pub gather-same : {b b' : List Float} (n : ℕ) (A : Matrix) (row from : ℕ) → b ≡ b' → gatherRow n A row from b ≡ gatherRow n A row from b'
-gather-same n A row from e = cc
-
--- ---- the step at a block, in a matrix and in a product
+use Rattle.lblt_solve.specs.Engine.{Placed, Counted}
+use Rattle.lblt_column.proofs.Steps.{one-is, two-is, reads-one, reads-two}
 
 module _ (words : List ℕ) (row : ℕ) {size : ℕ} (reads : size ≡ sizeAt words row) where
   pub placed-one

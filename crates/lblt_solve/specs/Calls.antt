@@ -16,8 +16,8 @@ use Rattle.matrix.specs.Grid.{load}
 use Rattle.matrix.specs.Layouts.{lower, Fills}
 use Rattle.pivots.specs.Words.{markAt, wordsOf}
 use Rattle.pivots.specs.Rule.{checked}
-use Rattle.lblt_solve.specs.Column.{solveColumn}
-use Rattle.lblt_solve.specs.Columns.{eachColumn}
+use Rattle.lblt_column.specs.Column.{solveColumn}
+use Rattle.lblt_sides.specs.Columns.{eachColumn}
 use Rattle.lblt_solve.specs.Diagonal.{zeroFloat, determinantOf}
 
 -- the lower triangle of an n·n matrix: nothing else of it is read
@@ -47,12 +47,9 @@ solveAnswer n columns a words b =
     (cond (eqb (markAt n words) 0) Done (ZeroMark (markAt n words - 1)))
     (readerAnswer n columns a words b)
 
-unfoldable pub solveEach : ℕ → Matrix → List ℕ → ℕ → List Float → List Float
-solveEach n A words j b = solveColumn n A words b
-
 pub record Solved (n columns : ℕ) (a : List Float) (words : List ℕ) (b : List Float) (r : Answer) (b' : List Float) : Type 0 where
   pub answer : r ≡ solveAnswer n columns a words b
-  pub sides : b' ≡ whenDone r (eachColumn n columns (solveEach n (lowerOf n a) words) b) b
+  pub sides : b' ≡ whenDone r (eachColumn n columns (solveColumn n (lowerOf n a) words) b) b
 
 pub record Determined (n : ℕ) (a : List Float) (words : List ℕ) (r : Valued) : Type 0 where
   pub answer : r .answer ≡ readerAnswer n n a words a

@@ -5,8 +5,8 @@ use lib.Ieee.{Float, binary64, ofBits, mul}
 use Rattle.matrix.specs.Matrix.{Matrix, entry}
 use Rattle.matrix.specs.Grid.{mask}
 use Rattle.matrix.specs.Layouts.{square}
-use Rattle.lblt_solve.specs.Blocks.{bySize, forwards}
-use Rattle.lblt_solve.specs.Column.{blockDeterminant}
+use Rattle.lblt_column.specs.Blocks.{bySize, forwards}
+use Rattle.lblt_column.specs.Column.{blockDeterminant}
 
 abbrev pub zeroFloat : Float
 zeroFloat = ofBits binary64 0

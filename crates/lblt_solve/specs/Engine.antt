@@ -1,56 +1,12 @@
--- What the engines ask of their slices, and of the block at a row.
+-- What the engines leave behind at a block.
 use mathlib.Core.List.{List}
 use mathlib.Core.Path.{_≡_}
-use Prim.Native.Nat.{ℕ, _+_, _-_, _*_, _<_, _≤_}
+use Prim.Native.Nat.{ℕ, _-_, _*_, _≤_}
 use lib.Ieee.{Float}
 use lib.ListN.{length}
-use Rattle.matrix.specs.declared.Layout.{Layout}
 use Rattle.matrix.specs.Matrix.{Matrix}
-use Rattle.matrix.specs.Grid.{Sound, Holds}
-use Rattle.matrix.specs.Layouts.{Roomy, lower, square}
-use Rattle.pivots.specs.Words.{indexAt, wordsOf}
-use Rattle.pivots.specs.Rule.{Accepted}
-use Rattle.lblt_solve.specs.Blocks.{rowsOf}
-
--- a factor in its layout
-pub record Factor (y : Layout) (a : List Float) : Type 0 where
-  pub roomy : Roomy y
-  pub sound : Sound (lower y) a
-
--- a factor with its record
-pub record Factored (y : Layout) (a : List Float) (words : List ℕ) : Type 0 where
-  pub factor : Factor y a
-  pub accepted : Accepted (y .order) words
-
--- a factor and a column of right-hand sides
-pub record Sides (y : Layout) (a b : List Float) : Type 0 where
-  pub factor : Factor y a
-  pub long : length b ≡ y .order
-
--- the block that starts at row k lies within the order, and so does its pivot
-pub record BlockAt (n : ℕ) (words : List ℕ) (k : ℕ) : Type 0 where
-  pub total : length words ≡ wordsOf n
-  pub inside : k < n
-  pub rows : k + rowsOf words k ≤ n
-  pub index : indexAt words k < n
-
--- the same of the block that ends before row k
-pub record BlockBefore (n : ℕ) (words : List ℕ) (k : ℕ) : Type 0 where
-  pub total : length words ≡ wordsOf n
-  pub inside : 0 < k
-  pub rows : rowsOf words (k - 1) ≤ k
-  pub end : k ≤ n
-  pub index : indexAt words (k - 1) < n
-
--- a step that answers the next row and leaves the column as said
-pub record Moved (next r : ℕ) (left b : List Float) : Type 0 where
-  pub row : r ≡ next
-  pub column : b ≡ left
-
--- a slice of columns of n numbers
-pub record Lined (n columns : ℕ) (b : List Float) : Type 0 where
-  pub few : columns ≤ 1024
-  pub long : length b ≡ n * columns
+use Rattle.matrix.specs.Grid.{Holds}
+use Rattle.matrix.specs.Layouts.{square}
 
 -- a step that answers the next row and a number
 pub record Counted (next : ℕ) (number : Float) (r : ℕ) (x : Float) : Type 0 where

@@ -9,7 +9,7 @@ use Rattle.matrix.specs.Loop.{for}
 use Rattle.matrix.specs.Grid.{mask}
 use Rattle.matrix.specs.Layouts.{square}
 use Rattle.pivots.specs.Words.{indexAt}
-use Rattle.lblt_solve.specs.Blocks.{bySize, forwards}
+use Rattle.lblt_column.specs.Blocks.{bySize, forwards}
 use Rattle.lblt_solve.specs.Diagonal.{zeroFloat, oneFloat}
 
 unfoldable pub identity : Matrix

@@ -3,10 +3,11 @@ ghost use mathlib.Core.Path.{_≡_};
 ghost use Prim.Native.Nat.{_+_, _<_};
 ghost use Rattle.matrix.specs.Grid.{load, Holds};
 ghost use Rattle.matrix.specs.Layouts.{lower, square, Fills};
-ghost use Rattle.lblt_solve.specs.Blocks.{rowsOf, forwards};
-ghost use Rattle.lblt_solve.specs.Column.{blockDeterminant};
+ghost use Rattle.lblt_column.specs.Blocks.{rowsOf, forwards};
+ghost use Rattle.lblt_column.specs.Column.{blockDeterminant};
 ghost use Rattle.lblt_solve.specs.Diagonal.{determinantOf, timesBlock, diagonalTwo, diagonalBlock, dOf};
-ghost use Rattle.lblt_solve.specs.Engine.{Factor, Factored, BlockAt, Counted, Squared, Placed};
+ghost use Rattle.lblt_column.specs.Engine.{Factor, Factored, BlockAt};
+ghost use Rattle.lblt_solve.specs.Engine.{Counted, Squared, Placed};
 use crate::square;
 use matrix::Layout;
 

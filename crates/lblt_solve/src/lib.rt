@@ -1,7 +1,5 @@
 // The readers of an LBLT factor: `solve_mut`, `determinant`, `d` and `l_permuted`.
 mod admit;
-mod column;
-mod columns;
 mod diagonal;
 mod permuted;
 mod square;
@@ -21,7 +19,7 @@ pub fn solve_mut(a: &[f64], words: &[u32], b: &mut [f64], n: usize, columns: usi
     if answer.code() != 0 {
         return answer;
     }
-    columns::solve_columns(Layout { order: n, room: n }, a, words, b, columns);
+    lblt_sides::solve_columns(Layout { order: n, room: n }, a, words, b, columns);
     answer
 }
 

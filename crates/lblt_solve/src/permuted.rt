@@ -2,9 +2,10 @@
 ghost use Prim.Native.Nat.{_+_, _<_, _≤_};
 ghost use Rattle.matrix.specs.Grid.{load, Holds};
 ghost use Rattle.matrix.specs.Layouts.{lower, square, Fills};
-ghost use Rattle.lblt_solve.specs.Blocks.{rowsOf, forwards};
+ghost use Rattle.lblt_column.specs.Blocks.{rowsOf, forwards};
 ghost use Rattle.lblt_solve.specs.Permuted.{gatherColumn, permutedBlock, lPermutedOf};
-ghost use Rattle.lblt_solve.specs.Engine.{Factor, Factored, BlockAt, Squared, Placed};
+ghost use Rattle.lblt_column.specs.Engine.{Factor, Factored, BlockAt};
+ghost use Rattle.lblt_solve.specs.Engine.{Squared, Placed};
 use crate::square;
 use matrix::Layout;
 

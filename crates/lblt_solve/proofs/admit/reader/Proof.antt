@@ -1,5 +1,6 @@
 -- `reader` refuses in the order of the table: each way out cites its law.
-use Rattle.lblt_solve.proofs.Admitted.{order-above, columns-above, matrix-wrong, words-wrong, other-wrong, lengths-right, product-small}
+use Rattle.lblt_sides.proofs.Parts.{product-small}
+use Rattle.lblt_solve.proofs.Admitted.{order-above, columns-above, matrix-wrong, words-wrong, other-wrong, lengths-right}
 use mathlib.Core.Path.{_∙_}
 use native.Mathlib.Omega.{arith}
 use borrow.Author.Needs.{needs}

@@ -1,5 +1,5 @@
 -- `block_determinant` is the determinant of a block of size 2.
-use Rattle.lblt_solve.specs.Column.{blockDeterminant}
+use Rattle.lblt_column.specs.Column.{blockDeterminant}
 use native.Mathlib.Omega.{arith}
 use borrow.Author.Needs.{needs}
 use Rattle.lblt_solve.proofs.diagonal.block_determinant.Statement.{statement}

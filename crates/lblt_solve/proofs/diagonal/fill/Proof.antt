@@ -1,7 +1,7 @@
 -- `fill` puts zeros, then the diagonal blocks.
 use Rattle.lblt_solve.proofs.Squares.{fills-as}
 use Rattle.lblt_solve.specs.Diagonal.{dOf}
-use Rattle.lblt_solve.specs.Blocks.{forwards}
+use Rattle.lblt_column.specs.Blocks.{forwards}
 use mathlib.Core.Path.{ap}
 use borrow.Author.Needs.{needs}
 use Rattle.lblt_solve.proofs.diagonal.fill.Statement.{statement}

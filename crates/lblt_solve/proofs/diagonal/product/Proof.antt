@@ -1,5 +1,5 @@
 -- `product` multiplies the blocks' determinants from 1.
-use Rattle.lblt_solve.proofs.Walks.{Along, along-none, along-more, along-all, block-at, rows-positive}
+use Rattle.lblt_column.proofs.Walks.{Along, along-none, along-more, along-all, block-at, rows-positive}
 use Rattle.lblt_solve.specs.Diagonal.{timesBlock, determinantOf}
 use Rattle.matrix.specs.Layouts.{lower}
 use Rattle.matrix.specs.Grid.{load}

@@ -1,5 +1,6 @@
 -- `put_block` puts one diagonal block.
-use Rattle.lblt_solve.proofs.Steps.{reads-two, placed-one, placed-two}
+use Rattle.lblt_column.proofs.Steps.{reads-two}
+use Rattle.lblt_solve.proofs.Steps.{placed-one, placed-two}
 use Rattle.lblt_solve.specs.Diagonal.{diagonalBlock}
 use Rattle.matrix.proofs.Grids.{holds-as}
 use Rattle.matrix.specs.Matrix.{entry}

@@ -1,5 +1,5 @@
 -- The blocks one after the other.
-use Rattle.lblt_solve.proofs.Walks.{Along, along-none, along-more, along-all, block-at, rows-positive}
+use Rattle.lblt_column.proofs.Walks.{Along, along-none, along-more, along-all, block-at, rows-positive}
 use Rattle.lblt_solve.specs.Diagonal.{diagonalBlock}
 use Rattle.matrix.specs.Layouts.{lower, square}
 use Rattle.matrix.specs.Grid.{load}

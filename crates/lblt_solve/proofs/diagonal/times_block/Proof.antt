@@ -1,5 +1,6 @@
 -- `times_block` multiplies by one block's determinant.
-use Rattle.lblt_solve.proofs.Steps.{reads-two, counted-one, counted-two}
+use Rattle.lblt_column.proofs.Steps.{reads-two}
+use Rattle.lblt_solve.proofs.Steps.{counted-one, counted-two}
 use Rattle.lblt_solve.specs.Diagonal.{timesBlock}
 use Prim.Native.Nat.{_+_}
 use native.Mathlib.Omega.{arith}

@@ -1,7 +1,7 @@
 -- `fill` puts the identity, then goes through the blocks.
 use Rattle.lblt_solve.proofs.Squares.{fills-as}
 use Rattle.lblt_solve.specs.Permuted.{lPermutedOf}
-use Rattle.lblt_solve.specs.Blocks.{forwards}
+use Rattle.lblt_column.specs.Blocks.{forwards}
 use mathlib.Core.Path.{ap}
 use borrow.Author.Needs.{needs}
 use Rattle.lblt_solve.proofs.permuted.fill.Statement.{statement}

@@ -1,7 +1,7 @@
 -- `gather_column` adds the later columns to column k, one after the other.
 use Rattle.lblt_solve.proofs.Gathers.{plusAt, gather-at}
 use Rattle.lblt_solve.proofs.Squares.{sound-of, squared-of}
-use Rattle.lblt_solve.proofs.Offsets.{offset-small, offset-within}
+use Rattle.lblt_column.proofs.Offsets.{offset-small, offset-within}
 use Rattle.matrix.proofs.Grids.{Turned, turned-none, turned-more, turned-all, holds-as}
 use Rattle.matrix.specs.Layouts.{square}
 use mathlib.Core.Path.{sym, _∙_}

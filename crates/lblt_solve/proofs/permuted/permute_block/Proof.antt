@@ -1,5 +1,6 @@
 -- `permute_block` exchanges the columns of one block and adds the later ones.
-use Rattle.lblt_solve.proofs.Steps.{reads-two, placed-one, placed-two, permuted-one, permuted-two}
+use Rattle.lblt_column.proofs.Steps.{reads-two}
+use Rattle.lblt_solve.proofs.Steps.{placed-one, placed-two, permuted-one, permuted-two}
 use Rattle.lblt_solve.proofs.Squares.{squared-of}
 use Rattle.lblt_solve.specs.Permuted.{permutedBlock}
 use Prim.Native.Nat.{_+_}

@@ -1,0 +1,5 @@
+pub mod Turning
+pub mod Offsets
+pub mod Walks
+pub mod Steps
+pub mod Keeps
