@@ -65,7 +65,7 @@ module _ (n : ℕ) (A : Matrix) (words : List ℕ) where
 
   pub reduce-keeps : Keeps (reduceBlock n A words)
   unfolding reduceBlock
-  reduce-keeps k b = divide-keeps k _ ∙ forward-keeps k b
+  reduce-keeps k b = divide-keeps k (forwardBlock n A words k b) ∙ forward-keeps k b
 
   pub backward-keeps : Keeps (backwardBlock n A words)
   unfolding backwardBlock

@@ -3,3 +3,4 @@ pub mod Offsets
 pub mod Walks
 pub mod Steps
 pub mod Keeps
+pub mod Early

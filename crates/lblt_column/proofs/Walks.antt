@@ -2,6 +2,7 @@
 --     Along    going forwards, s is reached at row k:    along-none, along-more, along-all
 --     Back     going backwards, s is reached at row k:   back-none, back-more, back-all
 --     block-at, block-before      what the step at a row may ask of the record
+--     boundary-next               where the block at a boundary ends
 use mathlib.Core.Bool.{Bool, true, false}
 use mathlib.Core.List.{List}
 use mathlib.Core.Logic.{_⊎_, inl, inr, ⊎-elim}
@@ -32,7 +33,7 @@ pub rows-two : (words : List ℕ) (row : ℕ) → (sizeAt words row ≡ 1 → �
 unfolding rowsOf
 rows-two words row other = size-two words row 1 2 other
 
-decEq : (a b : ℕ) → (a ≡ b) ⊎ (a ≡ b → ⊥)
+pub decEq : (a b : ℕ) → (a ≡ b) ⊎ (a ≡ b → ⊥)
 decEq a b = at (eqb a b) refl
   where
     at : (t : Bool) → eqb a b ≡ t → (a ≡ b) ⊎ (a ≡ b → ⊥)
@@ -64,7 +65,7 @@ block-at {n} {words} {k} a b below = at (decEq (sizeAt words k) 1)
         record { total = a .sized .total; inside = below; rows = omega (arith, rows-two words k other, t .room); index = t .high }
 
 -- the boundary after it
-boundary-next : {n : ℕ} {words : List ℕ} {k : ℕ} → Boundary n words k → k < n → Boundary n words (k + rowsOf words k)
+pub boundary-next : {n : ℕ} {words : List ℕ} {k : ℕ} → Boundary n words k → k < n → Boundary n words (k + rowsOf words k)
 boundary-next {n} {words} {k} b below = at (decEq (sizeAt words k) 1)
   where
     at : (sizeAt words k ≡ 1) ⊎ (sizeAt words k ≡ 1 → ⊥) → Boundary n words (k + rowsOf words k)

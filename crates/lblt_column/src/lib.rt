@@ -5,7 +5,7 @@ ghost use lib.ListN.{length};
 ghost use Rattle.matrix.specs.Grid.{load};
 ghost use Rattle.matrix.specs.Layouts.{lower};
 ghost use Rattle.lblt_column.specs.Blocks.{rowsOf, forwards, backwards};
-ghost use Rattle.lblt_column.specs.Column.{swapRows, eliminateOne, eliminateTwo, forwardBlock, divideOne, divideTwo, divideBlock, gatherRow, backwardBlock, solveColumn};
+ghost use Rattle.lblt_column.specs.Column.{swapRows, eliminateOne, eliminateTwo, divideOne, divideTwo, reduceBlock, gatherRow, backwardBlock, solveColumn};
 ghost use Rattle.lblt_column.specs.Engine.{Factored, Sides, BlockAt, BlockBefore, Moved};
 use matrix::Layout;
 
@@ -14,9 +14,12 @@ fn swap_rows(b: &mut [f64], p: usize, q: usize)
     requires { ⌜ q < length (now b) ⌝ }
     ensures { λ _. ⌜ now (b .exit) ≡ swapRows (now (b .entry)) p q ⌝ }
 {
-    let x = b[p];
-    b[p] = b[q];
-    b[q] = x;
+    if p == q {
+        return;
+    }
+    let x = b[q];
+    b[q] = b[p];
+    b[p] = x;
 }
 
 // ---- L y = Pᵀ b
@@ -53,35 +56,6 @@ fn eliminate_two(y: Layout, a: &[f64], b: &mut [f64], k: usize)
     }
 }
 
-// The next block's row comes back.
-fn forward_block(y: Layout, a: &[f64], words: &[u32], b: &mut [f64], k: usize) -> usize
-    requires { ⌜ Sides y (now a) (now b) ⌝ }
-    requires { ⌜ BlockAt (y .order) (now words) k ⌝ }
-    ensures { λ r. ⌜ Moved (k + rowsOf (now (words .entry)) k) r (forwardBlock (y .order) (load (lower y) (now (a .entry))) (now (words .entry)) k (now (b .entry))) (now (b .exit)) ⌝ }
-{
-    let p = pivots::index(words, k);
-    if pivots::size(words, k) == 1 {
-        swap_rows(b, k, p);
-        eliminate_one(y, a, b, k);
-        return k + 1;
-    }
-    swap_rows(b, k + 1, p);
-    eliminate_two(y, a, b, k);
-    k + 2
-}
-
-fn forward(y: Layout, a: &[f64], words: &[u32], b: &mut [f64])
-    requires { ⌜ Factored y (now a) (now words) ⌝ }
-    requires { ⌜ Sides y (now a) (now b) ⌝ }
-    ensures { λ _. ⌜ now (b .exit) ≡ forwards (y .order) (now (words .entry)) (forwardBlock (y .order) (load (lower y) (now (a .entry))) (now (words .entry))) (now (b .entry)) ⌝ }
-{
-    let n = y.order;
-    let mut k: usize = 0;
-    while k < n {
-        k = forward_block(y, a, words, b, k);
-    }
-}
-
 // ---- D z = y
 
 fn divide_one(y: Layout, a: &[f64], b: &mut [f64], k: usize)
@@ -107,28 +81,36 @@ fn divide_two(y: Layout, a: &[f64], b: &mut [f64], k: usize)
     b[k + 1] = (b_k1 * d11 - b_k * d21) / det;
 }
 
-fn divide_block(y: Layout, a: &[f64], words: &[u32], b: &mut [f64], k: usize) -> usize
+// ---- both, block by block
+
+// The next block's row comes back.
+fn reduce_block(y: Layout, a: &[f64], words: &[u32], b: &mut [f64], k: usize) -> usize
     requires { ⌜ Sides y (now a) (now b) ⌝ }
     requires { ⌜ BlockAt (y .order) (now words) k ⌝ }
-    ensures { λ r. ⌜ Moved (k + rowsOf (now (words .entry)) k) r (divideBlock (load (lower y) (now (a .entry))) (now (words .entry)) k (now (b .entry))) (now (b .exit)) ⌝ }
+    ensures { λ r. ⌜ Moved (k + rowsOf (now (words .entry)) k) r (reduceBlock (y .order) (load (lower y) (now (a .entry))) (now (words .entry)) k (now (b .entry))) (now (b .exit)) ⌝ }
 {
+    let p = pivots::index(words, k);
     if pivots::size(words, k) == 1 {
+        swap_rows(b, k, p);
+        eliminate_one(y, a, b, k);
         divide_one(y, a, b, k);
         return k + 1;
     }
+    swap_rows(b, k + 1, p);
+    eliminate_two(y, a, b, k);
     divide_two(y, a, b, k);
     k + 2
 }
 
-fn divide(y: Layout, a: &[f64], words: &[u32], b: &mut [f64])
+fn reduce(y: Layout, a: &[f64], words: &[u32], b: &mut [f64])
     requires { ⌜ Factored y (now a) (now words) ⌝ }
     requires { ⌜ Sides y (now a) (now b) ⌝ }
-    ensures { λ _. ⌜ now (b .exit) ≡ forwards (y .order) (now (words .entry)) (divideBlock (load (lower y) (now (a .entry))) (now (words .entry))) (now (b .entry)) ⌝ }
+    ensures { λ _. ⌜ now (b .exit) ≡ forwards (y .order) (now (words .entry)) (reduceBlock (y .order) (load (lower y) (now (a .entry))) (now (words .entry))) (now (b .entry)) ⌝ }
 {
     let n = y.order;
     let mut k: usize = 0;
     while k < n {
-        k = divide_block(y, a, words, b, k);
+        k = reduce_block(y, a, words, b, k);
     }
 }
 
@@ -185,7 +167,6 @@ pub fn solve_column(y: Layout, a: &[f64], words: &[u32], b: &mut [f64])
     requires { ⌜ Sides y (now a) (now b) ⌝ }
     ensures { λ _. ⌜ now (b .exit) ≡ solveColumn (y .order) (load (lower y) (now (a .entry))) (now (words .entry)) (now (b .entry)) ⌝ }
 {
-    forward(y, a, words, b);
-    divide(y, a, words, b);
+    reduce(y, a, words, b);
     backward(y, a, words, b);
 }

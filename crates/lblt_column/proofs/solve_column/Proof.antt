@@ -1,26 +1,20 @@
--- `solve_column`: the factor's blocks forwards, the diagonal blocks, the factor's blocks backwards.
+-- `solve_column`: the factor's blocks forwards, each divided as soon as it is eliminated; then the factor's blocks backwards.
+use Rattle.lblt_column.proofs.Early.{early}
 use Rattle.lblt_column.specs.Column.{solveColumn}
-use Rattle.lblt_column.specs.Blocks.{forwards, backwards}
-use mathlib.Core.Path.{ap, _∙_}
+use Rattle.lblt_column.specs.Blocks.{backwards}
+use mathlib.Core.Path.{sym, ap, _∙_}
 use borrow.Author.Needs.{needs}
 use Rattle.lblt_column.proofs.solve_column.Statement.{statement}
 use Rattle.lblt_column.proofs.solve_column.Tie as tie
 
-forward-requires : tie.Need-forward-requires
-forward-requires c κs = search needs
-
-divide-requires : tie.Need-divide-requires
-divide-requires c κs =
-    let pre = c .before .before .before .before .before .before .before .before .pre in
-    let forward = c .before .before .before .forward in
-    (pre .0, record { factor = pre .1 .factor; long = forward .kept .1 .1 .1 .0 ∙ pre .1 .long })
+reduce-requires : tie.Need-reduce-requires
+reduce-requires c κs = search needs
 
 backward-requires : tie.Need-backward-requires
 backward-requires c κs =
-    let pre = c .before .before .before .before .before .before .before .before .before .before .before .before .pre in
-    let divide = c .before .before .before .divide in
-    let forward = c .before .before .before .before .before .before .before .forward in
-    (pre .0, record { factor = pre .1 .factor; long = divide .kept .1 .1 .1 .0 ∙ forward .kept .1 .1 .1 .0 ∙ pre .1 .long })
+    let pre = c .before .before .before .before .before .before .before .before .pre in
+    let reduce = c .before .before .before .reduce in
+    (pre .0, record { factor = pre .1 .factor; long = reduce .kept .1 .1 .1 .0 ∙ pre .1 .long })
 
 same-length : tie.Need-same-length
 same-length c = search needs
@@ -28,11 +22,11 @@ same-length c = search needs
 returns : tie.Need-returns
 unfolding solveColumn
 returns c =
+    let pre = c .before .before .before .before .before .before .before .before .before .before .before .pre in
     let backward = c .before .before .backward in
-    let divide = c .before .before .before .before .before .before .divide in
-    let forward = c .before .before .before .before .before .before .before .before .before .before .forward in
-    backward .ensures ∙ ap (backwards _ _ _) (divide .ensures ∙ ap (forwards _ _ _) (forward .ensures))
+    let reduce = c .before .before .before .before .before .before .reduce in
+    backward .ensures ∙ ap (backwards _ _ _) (reduce .ensures ∙ sym (early _ _ (pre .0 .accepted) _))
 
 pub solve-column-spec : {M : Type 1} → statement M
 solve-column-spec =
-    tie.close (tie.spec forward-requires divide-requires backward-requires same-length returns)
+    tie.close (tie.spec reduce-requires backward-requires same-length returns)

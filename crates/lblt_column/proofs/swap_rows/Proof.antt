@@ -1,8 +1,11 @@
 -- `swap_rows` exchanges two rows of a column.
-use Rattle.lblt_column.specs.Column.{swapRows}
+use Rattle.lblt_column.proofs.Steps.{swap-none, swap-second}
 use borrow.Author.Needs.{needs}
 use Rattle.lblt_column.proofs.swap_rows.Statement.{statement}
 use Rattle.lblt_column.proofs.swap_rows.Tie as tie
+
+returns : tie.Need-returns
+returns c = swap-none _ (c .if1 .taken)
 
 mul-x : tie.Need-mul-x
 mul-x c = search needs
@@ -31,14 +34,14 @@ slice-write-b-2 c = search needs
 same-length : tie.Need-same-length
 same-length c = search needs
 
-returns : tie.Need-returns
-unfolding swapRows
-returns c = search needs
+returns-2 : tie.Need-returns-2
+returns-2 c = swap-second _ (c .before .before .if1 .left)
 
 pub swap-rows-spec : {M : Type 1} → statement M
 swap-rows-spec =
     tie.close
     (tie.spec
+    returns
     mul-x
     slice-read-x
     mul-b
@@ -48,4 +51,4 @@ swap-rows-spec =
     mul-b-3
     slice-write-b-2
     same-length
-    returns)
+    returns-2)
