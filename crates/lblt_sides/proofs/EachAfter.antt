@@ -15,7 +15,7 @@ use lib.ListN.{length, take, drop}
 use lib.Seq.{take-add, take-all}
 use Rattle.matrix.specs.Loop.{turns, for}
 use Rattle.lblt_column.specs.Blocks.{rowsOf, blocksFrom, forwards, blocksTo, backwards}
-use Rattle.lblt_column.proofs.Keeps.{for-keeps, from-keeps, to-keeps}
+use Rattle.lblt_column.proofs.Keeps.{from-keeps, to-keeps}
 use Rattle.lblt_sides.specs.Columns.{column, eachColumn}
 use Rattle.lblt_sides.proofs.Parts.{column-within}
 use Rattle.lblt_sides.proofs.EachColumn.{each-column, each-long, column-length}

@@ -2,6 +2,7 @@
 mod admit;
 mod diagonal;
 mod permuted;
+mod sides;
 mod square;
 
 ghost use Rattle.lblt_solve.specs.Calls.{Solved, Determined, Filled, lowerOf};
@@ -19,7 +20,7 @@ pub fn solve_mut(a: &[f64], words: &[u32], b: &mut [f64], n: usize, columns: usi
     if answer.code() != 0 {
         return answer;
     }
-    lblt_sides::solve_columns(Layout { order: n, room: n }, a, words, b, columns);
+    sides::solve(Layout { order: n, room: n }, a, words, b, columns);
     answer
 }
 

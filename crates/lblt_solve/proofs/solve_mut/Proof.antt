@@ -20,8 +20,8 @@ returns c =
     let solver = c .before .before .solver in
     record { answer = solver .ensures; sides = sym (when-refused _ _ _ (λ z. c .if1 .taken (c .before .code .ensures ∙ z))) }
 
-solve-columns-requires : tie.Need-solve-columns-requires
-solve-columns-requires c κs =
+solve-requires : tie.Need-solve-requires
+solve-requires c κs =
     let code = c .before .before .code in
     let if1 = c .before .if1 in
     let solver = c .before .before .before .solver in
@@ -35,10 +35,10 @@ returns-2 : tie.Need-returns-2
 unfolding lowerOf
 returns-2 c =
     let solver = c .before .before .before .before .before .before .solver in
-    let solve-columns = c .before .before .solve-columns in
+    let solve = c .before .before .solve in
     let code = c .before .before .before .before .before .code in
     let if1 = c .before .before .before .before .if1 in
-    record { answer = solver .ensures; sides = solve-columns .ensures ∙ sym (when-done _ _ _ (sym (code .ensures) ∙ if1 .left)) }
+    record { answer = solver .ensures; sides = solve .ensures ∙ sym (when-done _ _ _ (sym (code .ensures) ∙ if1 .left)) }
 
 pub solve-mut-spec : {M : Type 1} → statement M
 solve-mut-spec =
@@ -48,6 +48,6 @@ solve-mut-spec =
     code-requires
     same-length
     returns
-    solve-columns-requires
+    solve-requires
     same-length-2
     returns-2)

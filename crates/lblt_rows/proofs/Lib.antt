@@ -1,0 +1,3 @@
+pub mod Stores
+pub mod RowSteps
+pub mod Across
