@@ -1,0 +1,274 @@
+/* The stack that each call of the archive uses, in bytes.
+ *
+ * Every call has a thread of its own, with a stack of 1 MB. Just before the call the thread paints all of the stack that lies
+ * below its own frame, and right after it looks for the lowest word that has lost the paint. From the stack above that word,
+ * the same after an empty call is taken off. */
+#define _GNU_SOURCE
+#include "urgyelpat.h"
+#include <pthread.h>
+#include <stdio.h>
+#include <stdlib.h>
+#include <sys/mman.h>
+
+#define STACK ((size_t)1 << 20)
+#define PAGE ((size_t)4096)
+#define PAINT 0xa5a5a5a5a5a5a5a5u
+#define MOST ((size_t)URGYELPAT_LARGEST)
+/* the columns of a solve: one, and many with a rest when they are taken four at a time */
+#define MANY ((size_t)67)
+
+typedef enum {
+    EMPTY,
+    LBLT_FACTOR,
+    LBLT_SOLVE_ONE,
+    LBLT_SOLVE_MANY,
+    LBLT_DETERMINANT,
+    LBLT_D,
+    LBLT_L_PERMUTED,
+    CHOLESKY_FACTOR,
+    CHOLESKY_EXTEND,
+    CHOLESKY_L,
+    CHOLESKY_UNPACK,
+    CHOLESKY_DETERMINANT,
+    UDU_FACTOR,
+    FIRST_TWIN_RANDOM,
+    FIRST_TWIN_NEAR,
+    CALLS
+} which;
+
+static const char *const names[CALLS] = {
+    "empty call",
+    "lblt_factor",
+    "lblt_solve, 1 column",
+    "lblt_solve, 67 columns",
+    "lblt_determinant",
+    "lblt_d",
+    "lblt_l_permuted",
+    "cholesky_factor",
+    "cholesky_extend, the second half",
+    "cholesky_l",
+    "cholesky_unpack",
+    "cholesky_determinant",
+    "udu_factor",
+    "first_twin, random rows",
+    "first_twin, rows that nearly agree",
+};
+
+static void *stack; /* its lowest byte */
+static double *a, *b;
+static uint32_t record[2 * URGYELPAT_LARGEST + 1];
+static double vector[URGYELPAT_LARGEST];
+
+/* ---- what is lent */
+
+static double unit(uint64_t *state)
+{
+    *state = *state * 6364136223846793005u + 1442695040888963407u;
+    return (double)(*state >> 11) / 9007199254740992.0;
+}
+
+/* Symmetric, between -1 and 1 beside the diagonal. A diagonal of 0 makes LBLT begin with a pivot of size 2, one of n makes the
+ * matrix positive definite. */
+static void fill_random(size_t n, double diagonal)
+{
+    uint64_t state = 1;
+    for (size_t j = 0; j < n; j++)
+        for (size_t i = j; i < n; i++)
+            a[i + j * n] = a[j + i * n] = i == j ? diagonal : 2.0 * unit(&state) - 1.0;
+}
+
+/* All entries 1 but for one a row: no rows are twins, and all nearly are. */
+static void fill_near(size_t n)
+{
+    for (size_t j = 0; j < n; j++)
+        for (size_t i = 0; i < n; i++)
+            a[i + j * n] = (i ^ 1) == j ? 2.0 : 1.0;
+}
+
+static void must(int held, const char *what, size_t n)
+{
+    if (!held) {
+        printf("%s, order %zu: the call did not do its work\n", what, n);
+        exit(1);
+    }
+}
+
+/* The slices as the call wants them: a matrix, or a factor of one. */
+static void prepare(which call, size_t n)
+{
+    uint64_t answer = 0;
+    for (size_t i = 0; i < MOST * MOST; i++)
+        b[i] = 1.0;
+    switch (call) {
+    case EMPTY:
+        break;
+    case LBLT_FACTOR:
+        fill_random(n, 0.0);
+        break;
+    case LBLT_SOLVE_ONE:
+    case LBLT_SOLVE_MANY:
+    case LBLT_DETERMINANT:
+    case LBLT_D:
+    case LBLT_L_PERMUTED:
+        fill_random(n, 0.0);
+        answer = urgyelpat_lblt_factor(a, n * n, record, 2 * n + 1, n);
+        break;
+    case CHOLESKY_FACTOR:
+    case UDU_FACTOR:
+        fill_random(n, (double)n);
+        break;
+    case CHOLESKY_EXTEND:
+        fill_random(n, (double)n);
+        answer = urgyelpat_cholesky_factor(a, n * n, n, n / 2);
+        break;
+    case CHOLESKY_L:
+    case CHOLESKY_UNPACK:
+    case CHOLESKY_DETERMINANT:
+        fill_random(n, (double)n);
+        answer = urgyelpat_cholesky_factor(a, n * n, n, n);
+        break;
+    case FIRST_TWIN_RANDOM:
+        fill_random(n, 0.0);
+        break;
+    case FIRST_TWIN_NEAR:
+        fill_near(n);
+        break;
+    case CALLS:
+        break;
+    }
+    must(answer == 0, names[call], n);
+}
+
+/* ---- the call */
+
+__attribute__((noinline)) static uint64_t nothing(size_t n)
+{
+    __asm__ volatile("" : : "r"(n));
+    return 0;
+}
+
+__attribute__((noinline)) static uint64_t called(which call, size_t n)
+{
+    uint64_t answer = 0;
+    switch (call) {
+    case EMPTY:
+    case CALLS:
+        answer = nothing(n);
+        break;
+    case LBLT_FACTOR:
+        answer = urgyelpat_lblt_factor(a, n * n, record, 2 * n + 1, n);
+        break;
+    case LBLT_SOLVE_ONE:
+        answer = urgyelpat_lblt_solve(a, n * n, record, 2 * n + 1, b, n, n, 1);
+        break;
+    case LBLT_SOLVE_MANY:
+        answer = urgyelpat_lblt_solve(a, n * n, record, 2 * n + 1, b, n * MANY, n, MANY);
+        break;
+    case LBLT_DETERMINANT:
+        answer = urgyelpat_lblt_determinant(a, n * n, record, 2 * n + 1, n).answer;
+        break;
+    case LBLT_D:
+        answer = urgyelpat_lblt_d(a, n * n, record, 2 * n + 1, b, n * n, n);
+        break;
+    case LBLT_L_PERMUTED:
+        answer = urgyelpat_lblt_l_permuted(a, n * n, record, 2 * n + 1, b, n * n, n);
+        break;
+    case CHOLESKY_FACTOR:
+        answer = urgyelpat_cholesky_factor(a, n * n, n, n);
+        break;
+    case CHOLESKY_EXTEND:
+        answer = urgyelpat_cholesky_extend(a, n * n, n, n / 2, n);
+        break;
+    case CHOLESKY_L:
+        answer = urgyelpat_cholesky_l(a, n * n, b, n * n, n, n);
+        break;
+    case CHOLESKY_UNPACK:
+        answer = urgyelpat_cholesky_unpack(a, n * n, n, n);
+        break;
+    case CHOLESKY_DETERMINANT:
+        answer = urgyelpat_cholesky_determinant(a, n * n, n, n).answer;
+        break;
+    case UDU_FACTOR:
+        answer = urgyelpat_udu_factor(a, n * n, b, n * n, vector, n, n);
+        break;
+    case FIRST_TWIN_RANDOM:
+    case FIRST_TWIN_NEAR:
+        answer = urgyelpat_first_twin(a, n * n, n, n);
+        break;
+    }
+    /* after the call, so that each is a call and no jump */
+    __asm__ volatile("" : "+r"(answer));
+    return answer;
+}
+
+/* ---- the paint */
+
+typedef struct {
+    which call;
+    size_t n;
+    uint64_t answer;
+    size_t used; /* from the lowest word that has lost the paint up to the top of the stack */
+} task;
+
+/* A leaf whose few locals are in registers: nothing of its own lies below its frame. */
+__attribute__((noinline)) static void paint(void)
+{
+    const volatile uint64_t *end = __builtin_frame_address(0);
+    for (volatile uint64_t *word = stack; word < end; word++)
+        *word = PAINT;
+}
+
+static void *painted_call(void *given)
+{
+    task *t = given;
+    paint();
+    t->answer = called(t->call, t->n);
+    const volatile uint64_t *word = stack;
+    while (*word == PAINT)
+        word++;
+    t->used = STACK - (size_t)((const volatile unsigned char *)word - (const volatile unsigned char *)stack);
+    return NULL;
+}
+
+static size_t used(which call, size_t n)
+{
+    task t = {call, n, 1, 0};
+    pthread_t thread;
+    pthread_attr_t attributes;
+    prepare(call, n);
+    if (pthread_attr_init(&attributes) != 0 || pthread_attr_setstack(&attributes, stack, STACK) != 0 ||
+        pthread_create(&thread, &attributes, painted_call, &t) != 0 || pthread_join(thread, NULL) != 0) {
+        fprintf(stderr, "no thread\n");
+        exit(1);
+    }
+    pthread_attr_destroy(&attributes);
+    must(t.answer == 0, names[call], n);
+    return t.used;
+}
+
+int main(void)
+{
+    static const size_t orders[] = {3, 16, 64, 512, 1024};
+    const size_t count = sizeof orders / sizeof *orders;
+    /* the page below the stack cannot be touched */
+    unsigned char *mapped = mmap(NULL, PAGE + STACK, PROT_READ | PROT_WRITE, MAP_PRIVATE | MAP_ANONYMOUS, -1, 0);
+    a = malloc(sizeof(double) * MOST * MOST);
+    b = malloc(sizeof(double) * MOST * MOST);
+    if (mapped == MAP_FAILED || mprotect(mapped, PAGE, PROT_NONE) != 0 || a == NULL || b == NULL) {
+        fprintf(stderr, "no memory\n");
+        return 1;
+    }
+    stack = mapped + PAGE;
+    const size_t empty = used(EMPTY, 0);
+    printf("bytes of stack, less those of an empty call\n%-36s", "order");
+    for (size_t o = 0; o < count; o++)
+        printf("%7zu", orders[o]);
+    printf("\n");
+    for (which call = EMPTY + 1; call < CALLS; call++) {
+        printf("%-36s", names[call]);
+        for (size_t o = 0; o < count; o++)
+            printf("%7zu", used(call, orders[o]) - empty);
+        printf("\n");
+    }
+    return 0;
+}
