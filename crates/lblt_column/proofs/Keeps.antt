@@ -51,17 +51,34 @@ pub gather-keeps : (n : ℕ) (A : Matrix) (row from : ℕ) (b : List Float) → 
 unfolding gatherRow
 gather-keeps n A row from b = simp length-set
 
+module _ (n : ℕ) (A : Matrix) where
+  pub eliminate-one-keeps : Keeps (eliminateOne n A)
+  unfolding eliminateOne lessOne
+  eliminate-one-keeps k b = for-keeps (k + 1) n _ b (λ i l. length-set l i _)
+
+  pub eliminate-two-keeps : Keeps (eliminateTwo n A)
+  unfolding eliminateTwo lessTwo
+  eliminate-two-keeps k b = for-keeps (k + 2) n _ b (λ i l. length-set l i _)
+
+pub divide-one-keeps : (A : Matrix) → Keeps (divideOne A)
+unfolding divideOne
+divide-one-keeps A k b = length-set b k _
+
+pub divide-two-keeps : (A : Matrix) → Keeps (divideTwo A)
+unfolding divideTwo
+divide-two-keeps A k b = simp length-set
+
 module _ (n : ℕ) (A : Matrix) (words : List ℕ) where
   pub forward-keeps : Keeps (forwardBlock n A words)
-  unfolding forwardBlock eliminateOne eliminateTwo lessOne lessTwo
+  unfolding forwardBlock
   forward-keeps k b =
       by-size words k _ _ b
-      (for-keeps (k + 1) n _ _ (λ i l. length-set l i _) ∙ swap-keeps b k (indexAt words k))
-      (for-keeps (k + 2) n _ _ (λ i l. length-set l i _) ∙ swap-keeps b (k + 1) (indexAt words k))
+      (eliminate-one-keeps n A k _ ∙ swap-keeps b k (indexAt words k))
+      (eliminate-two-keeps n A k _ ∙ swap-keeps b (k + 1) (indexAt words k))
 
   pub divide-keeps : Keeps (divideBlock A words)
-  unfolding divideBlock divideOne divideTwo
-  divide-keeps k b = by-size words k _ _ b (simp length-set) (simp length-set)
+  unfolding divideBlock
+  divide-keeps k b = by-size words k _ _ b (divide-one-keeps A k b) (divide-two-keeps A k b)
 
   pub reduce-keeps : Keeps (reduceBlock n A words)
   unfolding reduceBlock

@@ -10,20 +10,12 @@ use lib.ListN.{length, set, length-set}
 use lib.Seq.{getD-set-same, getD-set-other, set-getD, set-set}
 use Rattle.matrix.specs.Matrix.{Matrix}
 use Rattle.matrix.specs.Loop.{turns, for}
-use Rattle.lblt_column.specs.Column.{at, swapRows, lessOne, lessTwo, eliminateOne, eliminateTwo, lessProduct, gatherRow}
-use Rattle.lblt_rows.specs.Rows.{lessRow, exchangeRows}
+use Rattle.lblt_column.specs.Column.{at, lessOne, lessTwo, eliminateOne, eliminateTwo, lessProduct, gatherRow}
+use Rattle.lblt_rows.specs.Rows.{lessRow}
 
 pub less-keeps : (i k : ℕ) (x : Float) (l : List Float) → length (lessRow i k x l) ≡ length l
 unfolding lessRow
 less-keeps i k x l = length-set l i _
-
-pub exchange-keeps : (p q : ℕ) (l : List Float) → length (exchangeRows p q l) ≡ length l
-unfolding exchangeRows swapRows
-exchange-keeps p q l = simp length-set
-
-pub exchange-none : (p : ℕ) (l : List Float) → exchangeRows p p l ≡ l
-unfolding exchangeRows swapRows
-exchange-none p l = set-set l p _ _ ∙ set-getD l p nan
 
 module _ (n : ℕ) (A : Matrix) (l : List Float) (long : length l ≡ n) where
   -- row i less x·row k and then less z·row m

@@ -11,7 +11,7 @@ use lib.ListN.{length, getD, set, take, drop, take-append-drop}
 use lib.Seq.{getD-take, getD-drop, take-set-le, drop-set-add, take-set-lt, drop-set-lt}
 use Rattle.lblt_column.specs.Column.{at, swapRows}
 use Rattle.lblt_sides.specs.Columns.{column, atColumn, Lined}
-use Rattle.lblt_rows.specs.Rows.{lessRow, exchangeRows}
+use Rattle.lblt_rows.specs.Rows.{lessRow}
 use Rattle.lblt_sides.proofs.Parts.{column-within, column-small}
 
 pub record Room (n j : ℕ) (b : List Float) : Type 0 where
@@ -84,9 +84,9 @@ module _ (n j : ℕ) (b : List Float) where
 
   pub swap-at
       : (p q : ℕ) → p < n → q < n
-      → set (set b (j * n + p) (getD b (j * n + q) nan)) (j * n + q) (getD b (j * n + p) nan) ≡ atColumn n (exchangeRows p q) j b
-  unfolding exchangeRows swapRows
-  swap-at p q hp hq = store-two (exchangeRows p q) p q _ _ hp hq (rw (sym (number-at p hp), sym (number-at q hq)) refl)
+      → set (set b (j * n + p) (getD b (j * n + q) nan)) (j * n + q) (getD b (j * n + p) nan) ≡ atColumn n (λ l. swapRows l p q) j b
+  unfolding swapRows
+  swap-at p q hp hq = store-two (λ l. swapRows l p q) p q _ _ hp hq (rw (sym (number-at p hp), sym (number-at q hq)) refl)
 
   pub divide-at : (k : ℕ) (d : Float) → k < n → set b (j * n + k) (div binary64 (getD b (j * n + k) nan) d) ≡ atColumn n (divideBy k d) j b
   divide-at k d h = store-one (divideBy k d) k _ h (rw (sym (number-at k h)) refl)

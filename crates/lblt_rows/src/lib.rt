@@ -4,10 +4,10 @@ ghost use Prim.Native.Nat.{_+_, _-_, _<_, _≤_};
 ghost use Rattle.matrix.specs.Grid.{load};
 ghost use Rattle.matrix.specs.Layouts.{lower};
 ghost use Rattle.lblt_column.specs.Blocks.{rowsOf, forwards, backwards};
-ghost use Rattle.lblt_column.specs.Column.{eliminateOne, eliminateTwo, divideOne, divideTwo, reduceBlock, gatherRow, backwardBlock, solveColumn};
+ghost use Rattle.lblt_column.specs.Column.{swapRows, eliminateOne, eliminateTwo, divideOne, divideTwo, reduceBlock, gatherRow, backwardBlock, solveColumn};
 ghost use Rattle.lblt_column.specs.Engine.{Factor, Factored, BlockAt, BlockBefore, Moved};
 ghost use Rattle.lblt_sides.specs.Columns.{eachColumn, Lined};
-ghost use Rattle.lblt_rows.specs.Rows.{lessRow, exchangeRows};
+ghost use Rattle.lblt_rows.specs.Rows.{lessRow};
 use matrix::Layout;
 
 fn swap_rows(b: &mut [f64], n: usize, columns: usize, p: usize, q: usize)
@@ -15,7 +15,7 @@ fn swap_rows(b: &mut [f64], n: usize, columns: usize, p: usize, q: usize)
     requires { ⌜ Lined n columns (now b) ⌝ }
     requires { ⌜ p < n ⌝ }
     requires { ⌜ q < n ⌝ }
-    ensures { λ _. ⌜ now (b .exit) ≡ eachColumn n columns (exchangeRows p q) (now (b .entry)) ⌝ }
+    ensures { λ _. ⌜ now (b .exit) ≡ eachColumn n columns (λ l. swapRows l p q) (now (b .entry)) ⌝ }
 {
     if p == q {
         return;

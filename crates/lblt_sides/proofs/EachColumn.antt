@@ -51,7 +51,7 @@ module _ (n : ℕ) (f : List Float → List Float) (keeps : (l : List Float) →
     middle : length (f (column n j b)) ≡ n
     middle = keeps (column n j b) ∙ whole
 
-    at-long : length (atColumn n f j b) ≡ length b
+    pub at-long : length (atColumn n f j b) ≡ length b
     unfolding atColumn
     at-long = simp (length-append, length-append) (omega (arith, front, middle, rest))
 

@@ -1,3 +1,4 @@
 pub mod Parts
 pub mod EachColumn
 pub mod EachAfter
+pub mod Blocks

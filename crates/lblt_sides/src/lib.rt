@@ -9,7 +9,7 @@ ghost use Rattle.lblt_sides.specs.Columns.{atColumn, eachColumn, Lined};
 use lblt_column::solve_column;
 use matrix::Layout;
 
-fn solve_at(y: Layout, a: &[f64], words: &[u32], b: &mut [f64], columns: usize, j: usize)
+pub fn solve_at(y: Layout, a: &[f64], words: &[u32], b: &mut [f64], columns: usize, j: usize)
     requires { ⌜ Factored y (now a) (now words) ⌝ }
     requires { ⌜ Lined (y .order) columns (now b) ⌝ }
     requires { ⌜ j < columns ⌝ }

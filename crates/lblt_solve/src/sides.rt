@@ -1,4 +1,4 @@
-// The right-hand sides of `solve_mut`: few columns one by one, and many columns row by row where the order is small.
+// The right-hand sides of `solve_mut`: few columns one by one; many columns four at a time, or row by row where the order is small.
 ghost use mathlib.Core.Path.{_≡_};
 ghost use Rattle.matrix.specs.Grid.{load};
 ghost use Rattle.matrix.specs.Layouts.{lower};
@@ -16,9 +16,9 @@ pub fn solve(y: Layout, a: &[f64], words: &[u32], b: &mut [f64], columns: usize)
         lblt_sides::solve_columns(y, a, words, b, columns);
         return;
     }
-    if y.order < 32 {
+    if y.order < 8 {
         lblt_rows::solve_rows(y, a, words, b, columns);
         return;
     }
-    lblt_sides::solve_columns(y, a, words, b, columns);
+    lblt_fours::solve_fours(y, a, words, b, columns);
 }

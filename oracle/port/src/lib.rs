@@ -43,48 +43,59 @@ pub struct Port;
 
 /// Every slice is lent by Rust for the time of the call, and no two overlap.
 impl Calls for Port {
+    #[inline]
     fn lblt_factor(&self, a: &mut [f64], record: &mut [u32], n: usize) -> u64 {
         unsafe { urgyelpat_lblt_factor(a.as_mut_ptr(), a.len(), record.as_mut_ptr(), record.len(), n) }
     }
 
+    #[inline]
     fn lblt_solve(&self, a: &[f64], record: &[u32], b: &mut [f64], n: usize, columns: usize) -> u64 {
         unsafe { urgyelpat_lblt_solve(a.as_ptr(), a.len(), record.as_ptr(), record.len(), b.as_mut_ptr(), b.len(), n, columns) }
     }
 
+    #[inline]
     fn lblt_determinant(&self, a: &[f64], record: &[u32], n: usize) -> (u64, f64) {
         let r = unsafe { urgyelpat_lblt_determinant(a.as_ptr(), a.len(), record.as_ptr(), record.len(), n) };
         (r.answer, r.value)
     }
 
+    #[inline]
     fn lblt_d(&self, a: &[f64], record: &[u32], d: &mut [f64], n: usize) -> u64 {
         unsafe { urgyelpat_lblt_d(a.as_ptr(), a.len(), record.as_ptr(), record.len(), d.as_mut_ptr(), d.len(), n) }
     }
 
+    #[inline]
     fn lblt_l_permuted(&self, a: &[f64], record: &[u32], l: &mut [f64], n: usize) -> u64 {
         unsafe { urgyelpat_lblt_l_permuted(a.as_ptr(), a.len(), record.as_ptr(), record.len(), l.as_mut_ptr(), l.len(), n) }
     }
 
+    #[inline]
     fn cholesky_factor(&self, a: &mut [f64], room: usize, n: usize) -> u64 {
         unsafe { urgyelpat_cholesky_factor(a.as_mut_ptr(), a.len(), room, n) }
     }
 
+    #[inline]
     fn cholesky_extend(&self, a: &mut [f64], room: usize, earlier: usize, n: usize) -> u64 {
         unsafe { urgyelpat_cholesky_extend(a.as_mut_ptr(), a.len(), room, earlier, n) }
     }
 
+    #[inline]
     fn cholesky_l(&self, a: &[f64], l: &mut [f64], room: usize, n: usize) -> u64 {
         unsafe { urgyelpat_cholesky_l(a.as_ptr(), a.len(), l.as_mut_ptr(), l.len(), room, n) }
     }
 
+    #[inline]
     fn cholesky_unpack(&self, a: &mut [f64], room: usize, n: usize) -> u64 {
         unsafe { urgyelpat_cholesky_unpack(a.as_mut_ptr(), a.len(), room, n) }
     }
 
+    #[inline]
     fn cholesky_determinant(&self, a: &[f64], room: usize, n: usize) -> (u64, f64) {
         let r = unsafe { urgyelpat_cholesky_determinant(a.as_ptr(), a.len(), room, n) };
         (r.answer, r.value)
     }
 
+    #[inline]
     fn udu_factor(&self, p: &[f64], u: &mut [f64], d: &mut [f64], n: usize) -> u64 {
         unsafe { urgyelpat_udu_factor(p.as_ptr(), p.len(), u.as_mut_ptr(), u.len(), d.as_mut_ptr(), d.len(), n) }
     }

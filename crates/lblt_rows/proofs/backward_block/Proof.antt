@@ -1,6 +1,6 @@
 -- `backward_block` takes the rows below from one block, across the columns.
 use Rattle.lblt_column.proofs.Steps.{reads-two}
-use Rattle.lblt_rows.proofs.Across.{backward-across-one, backward-across-two}
+use Rattle.lblt_sides.proofs.Blocks.{backed-one, backed-two}
 use native.Mathlib.Omega.{arith}
 use mathlib.Core.Path.{_∙_}
 use Prim.Native.Nat.{_-_}
@@ -34,7 +34,7 @@ same-length : tie.Need-same-length
 same-length c = search needs
 
 returns : tie.Need-returns
-returns c = backward-across-one _ _ _ (c .before .before .before .before .before .before .before .before .before .before .before .before .before .before .pre .1 .0 .long) _ _ _ (c .before .before .before .before .before .size .ensures) (c .before .before .before .before .before .before .before .before .before .before .index .ensures) (c .before .before .before .before .if1 .taken) (c .before .before .before .before .before .before .before .before .gather-row .ensures) (c .before .before .swap-rows .ensures)
+returns c = backed-one _ _ _ (c .before .before .before .before .before .before .before .before .before .before .before .before .before .before .pre .1 .0 .long) _ _ _ (c .before .before .before .before .before .size .ensures) (c .before .before .before .before .before .before .before .before .before .before .index .ensures) (c .before .before .before .before .if1 .taken) (c .before .before .before .before .before .before .before .before .gather-row .ensures) (c .before .before .swap-rows .ensures)
 
 sub-gather-row : tie.Need-sub-gather-row
 sub-gather-row c = omega (arith, c .before .before .before .before .before .before .before .before .before .before .before .pre .1 .1 .rows, reads-two (c .before .before .before .before .before .before .before .before .before .before .before .args .words .now) (c .before .before .before .before .before .before .before .before .before .before .before .args .k - 1) (c .before .before .size .ensures) (c .before .if1 .left))
@@ -52,7 +52,7 @@ same-length-2 : tie.Need-same-length-2
 same-length-2 c = search needs
 
 returns-2 : tie.Need-returns-2
-returns-2 c = backward-across-two _ _ _ (c .before .before .before .before .before .before .before .before .before .before .before .before .before .before .before .before .before .before .pre .1 .0 .long) _ _ _ (c .before .before .before .before .before .before .before .before .before .size .ensures) (c .before .before .before .before .before .before .before .before .before .before .before .before .before .before .index .ensures) (c .before .before .before .before .before .before .before .before .if1 .left) (c .before .before .before .before .before .before .before .before .before .before .before .before .gather-row .ensures) (c .before .before .before .before .before .before .gather-row2 .ensures) (c .before .before .swap-rows2 .ensures)
+returns-2 c = backed-two _ _ _ (c .before .before .before .before .before .before .before .before .before .before .before .before .before .before .before .before .before .before .pre .1 .0 .long) _ _ _ (c .before .before .before .before .before .before .before .before .before .size .ensures) (c .before .before .before .before .before .before .before .before .before .before .before .before .before .before .index .ensures) (c .before .before .before .before .before .before .before .before .if1 .left) (c .before .before .before .before .before .before .before .before .before .before .before .before .gather-row .ensures) (c .before .before .before .before .before .before .gather-row2 .ensures) (c .before .before .swap-rows2 .ensures)
 
 pub backward-block-spec : {M : Type 1} → statement M
 backward-block-spec =

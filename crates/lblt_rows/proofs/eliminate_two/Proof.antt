@@ -3,13 +3,14 @@ use Rattle.lblt_column.proofs.Turning.{Turning, turning-none, turning-more, tur
 use Prim.Native.Nat.{_+_, _-_}
 use native.Mathlib.Omega.{arith}
 use Rattle.lblt_sides.specs.Columns.{eachColumn}
-use mathlib.Core.Path.{_∙_}
+use mathlib.Core.Path.{ap, _∙_}
 use Rattle.lblt_column.proofs.Offsets.{offset-small, offset-within}
 use lib.ListN.{getD}
 use lib.Ieee.{nan}
 use Rattle.lblt_rows.specs.Rows.{lessRow}
+use Rattle.lblt_sides.proofs.EachAfter.{each-after}
 use Rattle.lblt_rows.proofs.RowSteps.{less-keeps}
-use Rattle.lblt_rows.proofs.Across.{each-two, eliminated-two}
+use Rattle.lblt_rows.proofs.Across.{eliminated-two}
 use borrow.Author.Needs.{needs}
 use Rattle.lblt_rows.proofs.eliminate_two.Statement.{statement}
 use Rattle.lblt_rows.proofs.eliminate_two.Tie as tie
@@ -73,7 +74,7 @@ loop-less c = omega (arith, c .before .before .before .before .before .before .b
 loop-again : tie.Need-loop-again Inv-loop μ-loop
 loop-again c =
     turning-more (c .before .before .before .before .before .before .before .before .before .before .before .loop .inv) (c .before .before .before .before .before .before .before .before .before .before .loop-test .taken)
-    (each-two _ _ (c .before .before .before .before .before .before .before .before .before .before .before .loop .b) (c .before .before .before .before .before .before .before .before .before .before .before .loop .inv .long ∙ c .before .before .before .before .before .before .before .before .before .before .before .before .before .before .before .before .pre .1 .0 .long) _ _ (less-keeps _ _ _) (less-keeps _ _ _) (c .before .before .before .before .before .before .before .less-row .ensures) (c .before .before .less-row2 .ensures))
+    (c .before .before .less-row2 .ensures ∙ ap (eachColumn _ _ _) (c .before .before .before .before .before .before .before .less-row .ensures) ∙ each-after _ _ _ _ (less-keeps _ _ _) (less-keeps _ _ _) (c .before .before .before .before .before .before .before .before .before .before .before .loop .b) (c .before .before .before .before .before .before .before .before .before .before .before .loop .inv .long ∙ c .before .before .before .before .before .before .before .before .before .before .before .before .before .before .before .before .pre .1 .0 .long))
     (c .before .before .less-row2 .kept .0 ∙ c .before .before .before .before .before .before .before .less-row .kept .0)
 
 same-length : tie.Need-same-length Inv-loop μ-loop

@@ -1,6 +1,6 @@
 -- `reduce_block` takes one block of the factor from the rows below, and divides its own, across the columns.
 use Rattle.lblt_column.proofs.Steps.{reads-two}
-use Rattle.lblt_rows.proofs.Across.{reduced-across-one, reduced-across-two}
+use Rattle.lblt_sides.proofs.Blocks.{reduced-one, reduced-two}
 use native.Mathlib.Omega.{arith}
 use mathlib.Core.Path.{_∙_}
 use borrow.Author.Needs.{needs}
@@ -36,7 +36,7 @@ same-length : tie.Need-same-length
 same-length c = search needs
 
 returns : tie.Need-returns
-returns c = reduced-across-one _ _ _ (c .before .before .before .before .before .before .before .before .before .before .before .before .before .before .before .before .before .before .pre .1 .0 .long) _ _ _ (c .before .before .before .before .before .before .before .before .before .before .before .before .before .size .ensures) (c .before .before .before .before .before .before .before .before .before .before .before .before .before .before .index .ensures) (c .before .before .before .before .before .before .before .before .before .before .before .before .if1 .taken) (c .before .before .before .before .before .before .before .before .before .before .swap-rows .ensures) (c .before .before .before .before .before .before .eliminate-one .ensures) (c .before .before .divide-one .ensures)
+returns c = reduced-one _ _ _ (c .before .before .before .before .before .before .before .before .before .before .before .before .before .before .before .before .before .before .pre .1 .0 .long) _ _ _ (c .before .before .before .before .before .before .before .before .before .before .before .before .before .size .ensures) (c .before .before .before .before .before .before .before .before .before .before .before .before .before .before .index .ensures) (c .before .before .before .before .before .before .before .before .before .before .before .before .if1 .taken) (c .before .before .before .before .before .before .before .before .before .before .swap-rows .ensures) (c .before .before .before .before .before .before .eliminate-one .ensures) (c .before .before .divide-one .ensures)
 
 add-swap-rows : tie.Need-add-swap-rows
 add-swap-rows c = search needs
@@ -57,7 +57,7 @@ same-length-2 : tie.Need-same-length-2
 same-length-2 c = search needs
 
 returns-2 : tie.Need-returns-2
-returns-2 c = reduced-across-two _ _ _ (c .before .before .before .before .before .before .before .before .before .before .before .before .before .before .before .before .before .before .pre .1 .0 .long) _ _ _ (c .before .before .before .before .before .before .before .before .before .before .before .before .before .size .ensures) (c .before .before .before .before .before .before .before .before .before .before .before .before .before .before .index .ensures) (c .before .before .before .before .before .before .before .before .before .before .before .before .if1 .left) (c .before .before .before .before .before .before .before .before .before .before .swap-rows2 .ensures) (c .before .before .before .before .before .before .eliminate-two .ensures) (c .before .before .divide-two .ensures)
+returns-2 c = reduced-two _ _ _ (c .before .before .before .before .before .before .before .before .before .before .before .before .before .before .before .before .before .before .pre .1 .0 .long) _ _ _ (c .before .before .before .before .before .before .before .before .before .before .before .before .before .size .ensures) (c .before .before .before .before .before .before .before .before .before .before .before .before .before .before .index .ensures) (c .before .before .before .before .before .before .before .before .before .before .before .before .if1 .left) (c .before .before .before .before .before .before .before .before .before .before .swap-rows2 .ensures) (c .before .before .before .before .before .before .eliminate-two .ensures) (c .before .before .divide-two .ensures)
 
 pub reduce-block-spec : {M : Type 1} → statement M
 reduce-block-spec =

@@ -1,5 +1,5 @@
 -- `solve_rows`: the blocks forwards, each divided as soon as it is eliminated, then backwards; all columns at each step.
-use Rattle.lblt_rows.proofs.Across.{solved-across}
+use Rattle.lblt_sides.proofs.Blocks.{solved}
 use borrow.Author.Needs.{needs}
 use Rattle.lblt_rows.proofs.solve_rows.Statement.{statement}
 use Rattle.lblt_rows.proofs.solve_rows.Tie as tie
@@ -16,7 +16,7 @@ same-length : tie.Need-same-length
 same-length c = search needs
 
 returns : tie.Need-returns
-returns c = solved-across _ _ _ (c .before .before .before .before .before .before .before .before .before .before .before .pre .1 .long) _ (c .before .before .before .before .before .before .before .before .before .before .before .pre .0 .accepted) (c .before .before .before .before .before .before .reduce .ensures) (c .before .before .backward .ensures)
+returns c = solved _ _ _ (c .before .before .before .before .before .before .before .before .before .before .before .pre .1 .long) _ (c .before .before .before .before .before .before .before .before .before .before .before .pre .0 .accepted) (c .before .before .before .before .before .before .reduce .ensures) (c .before .before .backward .ensures)
 
 pub solve-rows-spec : {M : Type 1} → statement M
 solve-rows-spec = tie.close (tie.spec reduce-requires backward-requires same-length returns)

@@ -4,20 +4,20 @@ use Prim.Native.Nat.{_-_}
 use native.Mathlib.Omega.{arith}
 use Rattle.lblt_sides.specs.Columns.{atColumn, eachColumn}
 use lib.ListN.{length-set}
-use Rattle.lblt_rows.specs.Rows.{exchangeRows}
+use Rattle.lblt_column.specs.Column.{swapRows}
 use Rattle.lblt_rows.proofs.Stores.{room, swap-at}
-use Rattle.lblt_rows.proofs.Across.{exchanged-none}
+use Rattle.lblt_sides.proofs.Blocks.{swapped-none}
 use Rattle.lblt_rows.proofs.swap_rows.Statement.{statement}
 use Rattle.lblt_rows.proofs.swap_rows.Tie as tie
 
 abbrev Inv-loop : tie.InvT-loop
-Inv-loop b₀ n columns p q j₀ b j = Turning 0 columns (atColumn n (exchangeRows p q)) b₀ j b
+Inv-loop b₀ n columns p q j₀ b j = Turning 0 columns (atColumn n (λ l. swapRows l p q)) b₀ j b
 
 abbrev μ-loop : tie.MeasureT-loop
 μ-loop b₀ n columns p q j₀ b j = columns - j
 
 returns : tie.Need-returns Inv-loop μ-loop
-returns c = exchanged-none (c .before .args .n) (c .before .args .columns) (c .before .args .b .now) (c .before .pre .1 .0 .long) (c .if1 .taken)
+returns c = swapped-none (c .before .args .n) (c .before .args .columns) (c .before .args .b .now) (c .before .pre .1 .0 .long) (c .if1 .taken)
 
 loop-holds : tie.Need-loop-holds Inv-loop μ-loop
 loop-holds c = turning-none (omega arith)

@@ -1,0 +1,122 @@
+-- The blocks of a record across the columns: the steps one after the other are the block's step on each column.
+--     swapped-none                   a row exchanged with itself
+--     reduced-one, reduced-two       a block eliminated and divided
+--     backed-one, backed-two         a block on the way back
+--     solved                         all blocks, there and back
+use mathlib.Core.List.{List}
+use mathlib.Core.Path.{_≡_, refl, sym, ap, fun-ext, _∙_}
+use Prim.Native.Nat.{ℕ, _+_, _-_, _*_}
+use lib.Ieee.{Float}
+use lib.ListN.{length}
+use Rattle.matrix.specs.Matrix.{Matrix}
+use Rattle.pivots.specs.Words.{indexAt, sizeAt}
+use Rattle.pivots.specs.Rule.{Accepted}
+use Rattle.lblt_column.specs.Blocks.{rowsOf, forwards, backwards}
+use Rattle.lblt_column.specs.Column.{swapRows, eliminateOne, eliminateTwo, forwardBlock, divideOne, divideTwo, divideBlock, reduceBlock, gatherRow, backwardBlock, solveColumn}
+use Rattle.lblt_column.specs.Engine.{Moved}
+use Rattle.lblt_column.proofs.Early.{early}
+use Rattle.lblt_column.proofs.Keeps.{from-keeps, to-keeps, eliminate-one-keeps, eliminate-two-keeps, divide-one-keeps, divide-two-keeps, swap-keeps, gather-keeps, reduce-keeps, backward-keeps}
+use Rattle.lblt_column.proofs.Steps.{one-is, two-is, reads-one, reads-two, swap-none}
+use Rattle.lblt_sides.specs.Columns.{eachColumn}
+use Rattle.lblt_sides.proofs.EachAfter.{Keeping, each-none, each-after}
+
+module _ (n columns : ℕ) (b₀ : List Float) (long : length b₀ ≡ n * columns) where
+  -- two steps, and what they are together
+  after
+      : (f g h : List Float → List Float) → Keeping f → Keeping g → ((l : List Float) → g (f l) ≡ h l)
+      → {b₁ b₂ : List Float} → b₁ ≡ eachColumn n columns f b₀ → b₂ ≡ eachColumn n columns g b₁
+      → b₂ ≡ eachColumn n columns h b₀
+  after f g h kf kg same e₁ e₂ =
+      e₂ ∙ ap (eachColumn n columns g) e₁ ∙ each-after n columns f g kf kg b₀ long ∙ ap (λ (f : List Float → List Float). eachColumn n columns f b₀) (fun-ext same)
+
+  -- a row exchanged with itself
+  pub swapped-none : {p q : ℕ} → p ≡ q → b₀ ≡ eachColumn n columns (λ l. swapRows l p q) b₀
+  swapped-none e = sym (each-none n columns b₀ long) ∙ ap (λ (f : List Float → List Float). eachColumn n columns f b₀) (fun-ext (λ l. swap-none l e))
+
+  module _ (A : Matrix) where
+    -- ---- forwards
+
+    module _ (words : List ℕ) (k : ℕ) {size p : ℕ} (reads : size ≡ sizeAt words k) (index : p ≡ indexAt words k) {b₁ b₂ b₃ : List Float} where
+      pub reduced-one
+          : size ≡ 1 → b₁ ≡ eachColumn n columns (λ l. swapRows l k p) b₀ → b₂ ≡ eachColumn n columns (eliminateOne n A k) b₁ → b₃ ≡ eachColumn n columns (divideOne A k) b₂
+          → Moved (k + rowsOf words k) (k + 1) (eachColumn n columns (reduceBlock n A words k) b₀) b₃
+      unfolding reduceBlock forwardBlock divideBlock
+      reduced-one one swap eliminate divide =
+          record {
+            row = ap (_+_ k) (sym (reads-one words k reads one));
+            column =
+                after (λ l. eliminateOne n A k (swapRows l k p)) (divideOne A k) (reduceBlock n A words k)
+                (λ l. eliminate-one-keeps n A k _ ∙ swap-keeps l k p) (divide-one-keeps A k)
+                (λ l.
+                ap (λ (q : ℕ). divideOne A k (eliminateOne n A k (swapRows l k q))) index
+                ∙ ap (divideOne A k) (one-is words k reads _ one)
+                ∙ one-is words k reads _ one)
+                (after (λ l. swapRows l k p) (eliminateOne n A k) _ (λ l. swap-keeps l k p) (eliminate-one-keeps n A k) (λ l. refl) swap eliminate)
+                divide;
+          }
+
+      pub reduced-two
+          : (size ≡ 1 → ⊥) → b₁ ≡ eachColumn n columns (λ l. swapRows l (k + 1) p) b₀ → b₂ ≡ eachColumn n columns (eliminateTwo n A k) b₁ → b₃ ≡ eachColumn n columns (divideTwo A k) b₂
+          → Moved (k + rowsOf words k) (k + 2) (eachColumn n columns (reduceBlock n A words k) b₀) b₃
+      unfolding reduceBlock forwardBlock divideBlock
+      reduced-two other swap eliminate divide =
+          record {
+            row = ap (_+_ k) (sym (reads-two words k reads other));
+            column =
+                after (λ l. eliminateTwo n A k (swapRows l (k + 1) p)) (divideTwo A k) (reduceBlock n A words k)
+                (λ l. eliminate-two-keeps n A k _ ∙ swap-keeps l (k + 1) p) (divide-two-keeps A k)
+                (λ l.
+                ap (λ (q : ℕ). divideTwo A k (eliminateTwo n A k (swapRows l (k + 1) q))) index
+                ∙ ap (divideTwo A k) (two-is words k reads _ other)
+                ∙ two-is words k reads _ other)
+                (after (λ l. swapRows l (k + 1) p) (eliminateTwo n A k) _ (λ l. swap-keeps l (k + 1) p) (eliminate-two-keeps n A k) (λ l. refl) swap eliminate)
+                divide;
+          }
+
+    -- ---- backwards
+
+    module _ (words : List ℕ) (k : ℕ) {size p : ℕ} (reads : size ≡ sizeAt words (k - 1)) (index : p ≡ indexAt words (k - 1)) {b₁ b₂ : List Float} where
+      pub backed-one
+          : size ≡ 1 → b₁ ≡ eachColumn n columns (gatherRow n A (k - 1) k) b₀ → b₂ ≡ eachColumn n columns (λ l. swapRows l (k - 1) p) b₁
+          → Moved (k - rowsOf words (k - 1)) (k - 1) (eachColumn n columns (backwardBlock n A words k) b₀) b₂
+      unfolding backwardBlock
+      backed-one one gather swap =
+          record {
+            row = ap (_-_ k) (sym (reads-one words (k - 1) reads one));
+            column =
+                after (gatherRow n A (k - 1) k) (λ l. swapRows l (k - 1) p) (backwardBlock n A words k)
+                (gather-keeps n A (k - 1) k) (λ l. swap-keeps l (k - 1) p)
+                (λ l. ap (swapRows (gatherRow n A (k - 1) k l) (k - 1)) index ∙ one-is words (k - 1) reads _ one)
+                gather
+                swap;
+          }
+
+      pub backed-two
+          : {b₃ : List Float} → (size ≡ 1 → ⊥) → b₁ ≡ eachColumn n columns (gatherRow n A (k - 1) k) b₀ → b₂ ≡ eachColumn n columns (gatherRow n A (k - 2) k) b₁
+          → b₃ ≡ eachColumn n columns (λ l. swapRows l (k - 1) p) b₂
+          → Moved (k - rowsOf words (k - 1)) (k - 2) (eachColumn n columns (backwardBlock n A words k) b₀) b₃
+      unfolding backwardBlock
+      backed-two other gather₁ gather₂ swap =
+          record {
+            row = ap (_-_ k) (sym (reads-two words (k - 1) reads other));
+            column =
+                after (λ l. gatherRow n A (k - 2) k (gatherRow n A (k - 1) k l)) (λ l. swapRows l (k - 1) p) (backwardBlock n A words k)
+                (λ l. gather-keeps n A (k - 2) k _ ∙ gather-keeps n A (k - 1) k l) (λ l. swap-keeps l (k - 1) p)
+                (λ l. ap (swapRows (gatherRow n A (k - 2) k (gatherRow n A (k - 1) k l)) (k - 1)) index ∙ two-is words (k - 1) reads _ other)
+                (after (gatherRow n A (k - 1) k) (gatherRow n A (k - 2) k) _ (gather-keeps n A (k - 1) k) (gather-keeps n A (k - 2) k) (λ l. refl) gather₁ gather₂)
+                swap;
+          }
+
+    -- ---- all blocks
+
+    pub solved
+        : {words : List ℕ} {b₁ b₂ : List Float} → Accepted n words
+        → b₁ ≡ eachColumn n columns (forwards n words (reduceBlock n A words)) b₀ → b₂ ≡ eachColumn n columns (backwards n words (backwardBlock n A words)) b₁
+        → b₂ ≡ eachColumn n columns (solveColumn n A words) b₀
+    unfolding solveColumn forwards backwards
+    solved {words} accepted e₁ e₂ =
+        after (forwards n words (reduceBlock n A words)) (backwards n words (backwardBlock n A words)) (solveColumn n A words)
+        (λ l. from-keeps n n words (reduceBlock n A words) 0 l (reduce-keeps n A words))
+        (λ l. to-keeps n words (backwardBlock n A words) n l (backward-keeps n A words))
+        (λ l. ap (backwards n words (backwardBlock n A words)) (sym (early n A accepted l)))
+        e₁ e₂
