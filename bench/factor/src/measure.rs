@@ -47,7 +47,18 @@ fn median(mut times: Vec<f64>) -> f64 {
     times[times.len() / 2]
 }
 
-/// The seconds of `call` over all items, without the time to make or to drop them.
+/// The seconds of `call` over all items where they stand, without the time to make or to drop them.
+pub fn timed_in_place<A>(mut items: Vec<A>, mut call: impl FnMut(&mut A)) -> f64 {
+    let start = Instant::now();
+    for item in &mut items {
+        call(item);
+    }
+    let spent = start.elapsed().as_secs_f64();
+    std::hint::black_box(&items);
+    spent
+}
+
+/// The seconds of `call` over all items, which it takes and gives back, without the time to make or to drop them.
 pub fn timed<A, B>(items: Vec<A>, mut call: impl FnMut(A) -> B) -> f64 {
     let mut kept = Vec::with_capacity(items.len());
     let start = Instant::now();

@@ -11,7 +11,7 @@ use oracle::text::square;
 use oracle::{Dyn, OMatrix};
 use port::Port;
 
-use crate::measure::{Pair, pair, timed};
+use crate::measure::{Pair, pair, timed, timed_in_place};
 
 pub struct Work {
     pub name: &'static str,
@@ -88,15 +88,13 @@ fn solve(n: usize, seconds: f64, columns: usize) -> Pair {
     pair(
         seconds,
         &mut |many| {
-            timed(vec![OMatrix::from_vec(Dyn(n), Dyn(columns), b.clone()); many], |mut b| {
-                black_box(text.solve_mut(&mut b));
-                b
+            timed_in_place(vec![OMatrix::from_vec(Dyn(n), Dyn(columns), b.clone()); many], |b| {
+                black_box(text.solve_mut(b));
             })
         },
         &mut |many| {
-            timed(copies(&b, many), |mut b| {
-                black_box(Port.lblt_solve(&a, &record, &mut b, n, columns));
-                b
+            timed_in_place(copies(&b, many), |b| {
+                black_box(Port.lblt_solve(&a, &record, b, n, columns));
             })
         },
     )

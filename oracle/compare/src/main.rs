@@ -39,6 +39,9 @@ fn main() -> ExitCode {
     cases::largest().iter().for_each(|case| tally.hold(case));
     println!("orders 1,024 and 1,025: {} calls", tally.calls() - before);
     let before = tally.calls();
+    cases::many_columns().iter().for_each(|case| tally.hold(case));
+    println!("solves of many columns: {} calls", tally.calls() - before);
+    let before = tally.calls();
     for seed in first..first + seeds {
         let family = cases::family(seed);
         family.cases.iter().for_each(|case| tally.hold(case));

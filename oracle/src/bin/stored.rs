@@ -192,6 +192,10 @@ fn lblt(w: &mut Writer) {
             w.random(Slice::A, n * n, 1 + n as u64);
             w.shift(Slice::A, n, n, shift);
             lblt_calls(w, n, 2.min(64 / n), |w| w.random(Slice::B, n * 2.min(64 / n), 77));
+            for columns in [4, 7, 64] {
+                w.random(Slice::B, n * columns, 78);
+                w.call(Call::LbltSolve, n, columns, 0);
+            }
         }
     }
     w.sweep(1, &SPECIAL);

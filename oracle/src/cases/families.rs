@@ -81,6 +81,26 @@ fn readers(r: &mut Rng, own: &Case, out: &mut Vec<Case>) {
     out.push(reader(Call::LbltLPermuted));
 }
 
+/// Solves of many columns, by the factor's own record and by any other that keeps the rule, with numbers of all kinds.
+pub fn many_columns() -> Vec<Case> {
+    let r = &mut Rng::new(64);
+    let mut out = vec![];
+    for n in (1..=20).chain([33, 60, 128]) {
+        for columns in [4, 5, 6, 7, 8, 9, 64, 67] {
+            let mut own = Case { record: vec![9; 2 * n + 1], ..Case::new(Call::LbltFactor, n, heavy_or_not(r, n, 0.0)) };
+            Text.lblt_factor(&mut own.a, &mut own.record, n);
+            let mut other = Case { record: sound_record(r, n), a: numbers(r, n * n), ..own.clone() };
+            other.record[2 * n] = 0;
+            for factor in [own, other] {
+                let b = (0..n * columns).map(|_| r.unit()).collect();
+                out.push(Case { call: Call::LbltSolve, x: columns, b, ..factor.clone() });
+                out.push(Case { call: Call::LbltSolve, x: columns, b: numbers(r, n * columns), ..factor });
+            }
+        }
+    }
+    out
+}
+
 /// A record that keeps the rule, whatever the factor would have written.
 fn sound_record(r: &mut Rng, n: usize) -> Vec<u32> {
     let mut out = vec![];

@@ -5,7 +5,7 @@ mod fixed;
 mod matrices;
 mod rng;
 
-pub use families::{Chain, Family, alpha_case, family, largest};
+pub use families::{Chain, Family, alpha_case, family, largest, many_columns};
 pub use fixed::{SPECIAL, refusals, sweep};
 pub use matrices::{fill, filled};
 pub use rng::Rng;
