@@ -172,6 +172,27 @@ static void readers(void)
     l_permuted("a block of two and a row", 3, three, three_record, nine, 0, NUMBERS(1, 4, 0, 0, -2, 1, 0, 1, 0));
 }
 
+/* Many columns at once leave what one column after the other leaves, at orders and counts that lead through each form of the work. */
+static void many_columns(void)
+{
+    enum { LARGEST = 13, MOST = 9 };
+    double a[LARGEST * LARGEST], b[LARGEST * MOST], left[LARGEST * MOST];
+    uint32_t record[2 * LARGEST + 1];
+    uint32_t chance = 1;
+    for (size_t n = 1; n <= LARGEST; n++)
+        for (size_t columns = 4; columns <= MOST; columns++) {
+            for (size_t i = 0; i < n * n; i++)
+                a[i] = (double)((chance = chance * 1664525u + 1013904223u) >> 8) / 16777216.0 - 0.5;
+            for (size_t i = 0; i < n * columns; i++)
+                left[i] = b[i] = (double)((chance = chance * 1664525u + 1013904223u) >> 8) / 16777216.0 - 0.5;
+            answered(urgyelpat_lblt_factor(a, n * n, record, 2 * n + 1, n), 0);
+            for (size_t j = 0; j < columns; j++)
+                answered(urgyelpat_lblt_solve(a, n * n, record, 2 * n + 1, left + j * n, n, n, 1), 0);
+            solve("many columns", n, columns, (numbers){a, n * n}, (words){record, 2 * n + 1}, (numbers){b, n * columns}, 0,
+                  (numbers){left, n * columns});
+        }
+}
+
 /* One broken record for each row, in each way that a record can be broken, and for the mark. */
 static void broken_records(void)
 {
@@ -257,6 +278,7 @@ void lblt_cases(void)
     factors();
     factors_refused();
     readers();
+    many_columns();
     broken_records();
     readers_refused_by_size();
     largest_order();

@@ -5,7 +5,6 @@ use crate::put::put_number_line;
 use crate::put::put_word;
 use answer::Answer;
 use sheet_text::Place;
-use sheet_text::bits_of;
 ghost use Prim.Native.Nat.{_*_, _<_, _≤_};
 ghost use lib.ListN.{length};
 ghost use lib.Ieee.{binary64, toBits};
@@ -61,7 +60,7 @@ fn put_entry(out: &mut [u8], at: usize, p: Place, x: f64) -> usize
     let next = put_word(out, at, b"entry\t");
     let next = put_field(out, next, p.row, b'\t');
     let next = put_field(out, next, p.column, b'\t');
-    put_bits(out, next, bits_of(x))
+    put_bits(out, next, leaf::to_bits(x))
 }
 
 // How many lines were written, and where they end.
@@ -93,7 +92,7 @@ fn put_det(out: &mut [u8], at: usize, det: f64) -> usize
     ensures { λ r. ⌜ Put (now (out .entry)) at (detLine det) r (now (out .exit)) ⌝ }
 {
     let next = put_word(out, at, b"det\t");
-    put_bits(out, next, bits_of(det))
+    put_bits(out, next, leaf::to_bits(det))
 }
 
 // The page of a factored matrix.

@@ -1,7 +1,6 @@
 pub mod Table
 pub mod Steps
 pub mod EntrySteps
-pub mod FloatBits
 pub mod PlaceLaws
 pub mod Entries
 pub mod ReadSteps

@@ -1,13 +1,10 @@
 // The text of a sheet: digits, numbers, lines, and the reader of a whole sheet.
 mod digit;
-mod float;
 mod line;
 mod place;
 mod reader;
 
 pub use digit::digit_value;
-pub use float::bits_of;
-pub use float::float_of;
 pub use line::Bits;
 pub use line::Entry;
 pub use line::EntryLine;

@@ -1,5 +1,4 @@
 // The strict reader: a whole sheet, or its first wrong line.
-use crate::float::float_of;
 use crate::line::Bits;
 use crate::line::EntryLine;
 use crate::line::Number;
@@ -49,7 +48,7 @@ fn store(a: &mut [f64], at: usize, bits: u64)
     ensures { λ _. ⌜ now (a .exit) ≡ set (now (a .entry)) at (ofBits binary64 bits) ⌝ }
 {
     if at < a.len() {
-        a[at] = float_of(bits);
+        a[at] = leaf::from_bits(bits);
     }
 }
 

@@ -7,7 +7,7 @@ use lib.ListN.{length-set}
 use mathlib.Core.Path.{ap, _∙_}
 use lib.Ieee.{Float}
 use Rattle.lblt_column.specs.Column.{divideOne}
-use Rattle.lblt_rows.proofs.Stores.{room, divideBy, divide-at}
+use Rattle.lblt_rows.proofs.Stores.{Room, room, divideBy, divide-at}
 use Rattle.lblt_rows.proofs.divide_one.Statement.{statement}
 use Rattle.lblt_rows.proofs.divide_one.Tie as tie
 use Rattle.matrix.proofs.get.Reads as get-reads
@@ -24,40 +24,30 @@ get-requires c κs = (c .before .before .pre .0 .roomy, (c .before .before .pre 
 loop-holds : tie.Need-loop-holds Inv-loop μ-loop
 loop-holds c = turning-none (omega arith)
 
+-- column j lies within the slice
+here : (c : tie.In-loop Inv-loop μ-loop) → Room (c .before .before .before .before .before .args .y .order) (c .before .loop .j) (c .before .loop .b)
+here c = room (c .before .loop .b) (omega (arith, c .before .before .before .before .before .pre .0 .roomy)) (c .before .before .before .before .before .pre .1 .0) (c .before .loop .inv .long) (c .loop-test .taken)
+
 mul-at : tie.Need-mul-at Inv-loop μ-loop
-mul-at c =
-    let r = room (c .before .loop .b) (omega (arith, c .before .before .before .before .before .pre .0 .roomy)) (c .before .before .before .before .before .pre .1 .0) (c .before .loop .inv .long) (c .loop-test .taken) in
-    omega (arith, r .within, r .small, c .before .before .before .before .before .pre .1 .1)
+mul-at c = omega (arith, here c .within, here c .small, c .before .before .before .before .before .pre .1 .1)
 
 add-b : tie.Need-add-b Inv-loop μ-loop
-add-b c =
-    let r = room (c .before .loop .b) (omega (arith, c .before .before .before .before .before .pre .0 .roomy)) (c .before .before .before .before .before .pre .1 .0) (c .before .loop .inv .long) (c .loop-test .taken) in
-    omega (arith, r .within, r .small, c .before .before .before .before .before .pre .1 .1)
+add-b c = omega (arith, here c .within, here c .small, c .before .before .before .before .before .pre .1 .1)
 
 mul-b : tie.Need-mul-b Inv-loop μ-loop
-mul-b c =
-    let r = room (c .before .loop .b) (omega (arith, c .before .before .before .before .before .pre .0 .roomy)) (c .before .before .before .before .before .pre .1 .0) (c .before .loop .inv .long) (c .loop-test .taken) in
-    omega (arith, r .within, r .small, c .before .before .before .before .before .pre .1 .1)
+mul-b c = omega (arith, here c .within, here c .small, c .before .before .before .before .before .pre .1 .1)
 
 slice-read-b : tie.Need-slice-read-b Inv-loop μ-loop
-slice-read-b c =
-    let r = room (c .before .before .loop .b) (omega (arith, c .before .before .before .before .before .before .pre .0 .roomy)) (c .before .before .before .before .before .before .pre .1 .0) (c .before .before .loop .inv .long) (c .before .loop-test .taken) in
-    omega (arith, r .within, r .small, c .before .before .before .before .before .before .pre .1 .1)
+slice-read-b c = omega (arith, here (c .before) .within, here (c .before) .small, c .before .before .before .before .before .before .pre .1 .1)
 
 add-b-2 : tie.Need-add-b-2 Inv-loop μ-loop
-add-b-2 c =
-    let r = room (c .before .before .loop .b) (omega (arith, c .before .before .before .before .before .before .pre .0 .roomy)) (c .before .before .before .before .before .before .pre .1 .0) (c .before .before .loop .inv .long) (c .before .loop-test .taken) in
-    omega (arith, r .within, r .small, c .before .before .before .before .before .before .pre .1 .1)
+add-b-2 c = omega (arith, here (c .before) .within, here (c .before) .small, c .before .before .before .before .before .before .pre .1 .1)
 
 mul-b-2 : tie.Need-mul-b-2 Inv-loop μ-loop
-mul-b-2 c =
-    let r = room (c .before .before .loop .b) (omega (arith, c .before .before .before .before .before .before .pre .0 .roomy)) (c .before .before .before .before .before .before .pre .1 .0) (c .before .before .loop .inv .long) (c .before .loop-test .taken) in
-    omega (arith, r .within, r .small, c .before .before .before .before .before .before .pre .1 .1)
+mul-b-2 c = omega (arith, here (c .before) .within, here (c .before) .small, c .before .before .before .before .before .before .pre .1 .1)
 
 slice-write-b : tie.Need-slice-write-b Inv-loop μ-loop
-slice-write-b c =
-    let r = room (c .before .before .loop .b) (omega (arith, c .before .before .before .before .before .before .pre .0 .roomy)) (c .before .before .before .before .before .before .pre .1 .0) (c .before .before .loop .inv .long) (c .before .loop-test .taken) in
-    omega (arith, r .within, r .small, c .before .before .before .before .before .before .pre .1 .1)
+slice-write-b c = omega (arith, here (c .before) .within, here (c .before) .small, c .before .before .before .before .before .before .pre .1 .1)
 
 add-j : tie.Need-add-j Inv-loop μ-loop
 add-j c = omega (arith, c .before .before .before .before .before .before .pre .1 .0 .few, c .before .loop-test .taken)

@@ -6,7 +6,7 @@ use Rattle.lblt_sides.specs.Columns.{atColumn, eachColumn}
 use lib.ListN.{length-set}
 use mathlib.Core.Path.{refl, _∙_}
 use Rattle.lblt_column.specs.Column.{divideTwo, blockDeterminant}
-use Rattle.lblt_rows.proofs.Stores.{room, divideTwoBy, divide-two-at}
+use Rattle.lblt_rows.proofs.Stores.{Room, room, divideTwoBy, divide-two-at}
 use Rattle.lblt_rows.proofs.divide_two.Statement.{statement}
 use Rattle.lblt_rows.proofs.divide_two.Tie as tie
 use Rattle.matrix.proofs.get.Reads as get-reads
@@ -38,65 +38,45 @@ get-requires-3 c κs = (c .before .before .before .before .pre .0 .roomy, (c .be
 loop-holds : tie.Need-loop-holds Inv-loop μ-loop
 loop-holds c = turning-none (omega arith)
 
+-- column j lies within the slice
+here : (c : tie.In-loop Inv-loop μ-loop) → Room (c .before .before .before .before .before .before .before .args .y .order) (c .before .loop .j) (c .before .loop .b)
+here c = room (c .before .loop .b) (omega (arith, c .before .before .before .before .before .before .before .pre .0 .roomy)) (c .before .before .before .before .before .before .before .pre .1 .0) (c .before .loop .inv .long) (c .loop-test .taken)
+
 mul-at : tie.Need-mul-at Inv-loop μ-loop
-mul-at c =
-    let r = room (c .before .loop .b) (omega (arith, c .before .before .before .before .before .before .before .pre .0 .roomy)) (c .before .before .before .before .before .before .before .pre .1 .0) (c .before .loop .inv .long) (c .loop-test .taken) in
-    omega (arith, r .within, r .small, c .before .before .before .before .before .before .before .pre .1 .1)
+mul-at c = omega (arith, here c .within, here c .small, c .before .before .before .before .before .before .before .pre .1 .1)
 
 add-at : tie.Need-add-at Inv-loop μ-loop
-add-at c =
-    let r = room (c .before .loop .b) (omega (arith, c .before .before .before .before .before .before .before .pre .0 .roomy)) (c .before .before .before .before .before .before .before .pre .1 .0) (c .before .loop .inv .long) (c .loop-test .taken) in
-    omega (arith, r .within, r .small, c .before .before .before .before .before .before .before .pre .1 .1)
+add-at c = omega (arith, here c .within, here c .small, c .before .before .before .before .before .before .before .pre .1 .1)
 
 mul-b-k : tie.Need-mul-b-k Inv-loop μ-loop
-mul-b-k c =
-    let r = room (c .before .loop .b) (omega (arith, c .before .before .before .before .before .before .before .pre .0 .roomy)) (c .before .before .before .before .before .before .before .pre .1 .0) (c .before .loop .inv .long) (c .loop-test .taken) in
-    omega (arith, r .within, r .small, c .before .before .before .before .before .before .before .pre .1 .1)
+mul-b-k c = omega (arith, here c .within, here c .small, c .before .before .before .before .before .before .before .pre .1 .1)
 
 slice-read-b-k : tie.Need-slice-read-b-k Inv-loop μ-loop
-slice-read-b-k c =
-    let r = room (c .before .before .loop .b) (omega (arith, c .before .before .before .before .before .before .before .before .pre .0 .roomy)) (c .before .before .before .before .before .before .before .before .pre .1 .0) (c .before .before .loop .inv .long) (c .before .loop-test .taken) in
-    omega (arith, r .within, r .small, c .before .before .before .before .before .before .before .before .pre .1 .1)
+slice-read-b-k c = omega (arith, here (c .before) .within, here (c .before) .small, c .before .before .before .before .before .before .before .before .pre .1 .1)
 
 add-b-k1 : tie.Need-add-b-k1 Inv-loop μ-loop
-add-b-k1 c =
-    let r = room (c .before .before .loop .b) (omega (arith, c .before .before .before .before .before .before .before .before .pre .0 .roomy)) (c .before .before .before .before .before .before .before .before .pre .1 .0) (c .before .before .loop .inv .long) (c .before .loop-test .taken) in
-    omega (arith, r .within, r .small, c .before .before .before .before .before .before .before .before .pre .1 .1)
+add-b-k1 c = omega (arith, here (c .before) .within, here (c .before) .small, c .before .before .before .before .before .before .before .before .pre .1 .1)
 
 mul-b-k1 : tie.Need-mul-b-k1 Inv-loop μ-loop
-mul-b-k1 c =
-    let r = room (c .before .before .loop .b) (omega (arith, c .before .before .before .before .before .before .before .before .pre .0 .roomy)) (c .before .before .before .before .before .before .before .before .pre .1 .0) (c .before .before .loop .inv .long) (c .before .loop-test .taken) in
-    omega (arith, r .within, r .small, c .before .before .before .before .before .before .before .before .pre .1 .1)
+mul-b-k1 c = omega (arith, here (c .before) .within, here (c .before) .small, c .before .before .before .before .before .before .before .before .pre .1 .1)
 
 slice-read-b-k1 : tie.Need-slice-read-b-k1 Inv-loop μ-loop
-slice-read-b-k1 c =
-    let r = room (c .before .before .before .loop .b) (omega (arith, c .before .before .before .before .before .before .before .before .before .pre .0 .roomy)) (c .before .before .before .before .before .before .before .before .before .pre .1 .0) (c .before .before .before .loop .inv .long) (c .before .before .loop-test .taken) in
-    omega (arith, r .within, r .small, c .before .before .before .before .before .before .before .before .before .pre .1 .1)
+slice-read-b-k1 c = omega (arith, here (c .before .before) .within, here (c .before .before) .small, c .before .before .before .before .before .before .before .before .before .pre .1 .1)
 
 mul-b : tie.Need-mul-b Inv-loop μ-loop
-mul-b c =
-    let r = room (c .before .before .before .loop .b) (omega (arith, c .before .before .before .before .before .before .before .before .before .pre .0 .roomy)) (c .before .before .before .before .before .before .before .before .before .pre .1 .0) (c .before .before .before .loop .inv .long) (c .before .before .loop-test .taken) in
-    omega (arith, r .within, r .small, c .before .before .before .before .before .before .before .before .before .pre .1 .1)
+mul-b c = omega (arith, here (c .before .before) .within, here (c .before .before) .small, c .before .before .before .before .before .before .before .before .before .pre .1 .1)
 
 slice-write-b : tie.Need-slice-write-b Inv-loop μ-loop
-slice-write-b c =
-    let r = room (c .before .before .before .loop .b) (omega (arith, c .before .before .before .before .before .before .before .before .before .pre .0 .roomy)) (c .before .before .before .before .before .before .before .before .before .pre .1 .0) (c .before .before .before .loop .inv .long) (c .before .before .loop-test .taken) in
-    omega (arith, r .within, r .small, c .before .before .before .before .before .before .before .before .before .pre .1 .1)
+slice-write-b c = omega (arith, here (c .before .before) .within, here (c .before .before) .small, c .before .before .before .before .before .before .before .before .before .pre .1 .1)
 
 add-b : tie.Need-add-b Inv-loop μ-loop
-add-b c =
-    let r = room (c .before .before .before .loop .b) (omega (arith, c .before .before .before .before .before .before .before .before .before .pre .0 .roomy)) (c .before .before .before .before .before .before .before .before .before .pre .1 .0) (c .before .before .before .loop .inv .long) (c .before .before .loop-test .taken) in
-    omega (arith, r .within, r .small, c .before .before .before .before .before .before .before .before .before .pre .1 .1)
+add-b c = omega (arith, here (c .before .before) .within, here (c .before .before) .small, c .before .before .before .before .before .before .before .before .before .pre .1 .1)
 
 mul-b-2 : tie.Need-mul-b-2 Inv-loop μ-loop
-mul-b-2 c =
-    let r = room (c .before .before .before .loop .b) (omega (arith, c .before .before .before .before .before .before .before .before .before .pre .0 .roomy)) (c .before .before .before .before .before .before .before .before .before .pre .1 .0) (c .before .before .before .loop .inv .long) (c .before .before .loop-test .taken) in
-    omega (arith, r .within, r .small, c .before .before .before .before .before .before .before .before .before .pre .1 .1)
+mul-b-2 c = omega (arith, here (c .before .before) .within, here (c .before .before) .small, c .before .before .before .before .before .before .before .before .before .pre .1 .1)
 
 slice-write-b-2 : tie.Need-slice-write-b-2 Inv-loop μ-loop
-slice-write-b-2 c =
-    let r = room (c .before .before .before .loop .b) (omega (arith, c .before .before .before .before .before .before .before .before .before .pre .0 .roomy)) (c .before .before .before .before .before .before .before .before .before .pre .1 .0) (c .before .before .before .loop .inv .long) (c .before .before .loop-test .taken) in
-    simp length-set (omega (arith, r .within, r .small, c .before .before .before .before .before .before .before .before .before .pre .1 .1))
+slice-write-b-2 c = simp length-set (omega (arith, here (c .before .before) .within, here (c .before .before) .small, c .before .before .before .before .before .before .before .before .before .pre .1 .1))
 
 add-j : tie.Need-add-j Inv-loop μ-loop
 add-j c = omega (arith, c .before .before .before .before .before .before .before .before .before .pre .1 .0 .few, c .before .before .loop-test .taken)

@@ -1,4 +1,5 @@
-use Rattle.lblt_rows.proofs.Stores.{room, less-at}
+-- `less_row` takes x times a row from another, one column after the other.
+use Rattle.lblt_rows.proofs.Stores.{Room, room, less-at}
 use lib.ListN.{length-set}
 use Rattle.lblt_column.proofs.Turning.{Turning, turning-none, turning-more, turning-all}
 use Rattle.lblt_sides.specs.Columns.{atColumn, eachColumn}
@@ -14,58 +15,42 @@ Inv-loop b₀ n columns i k x j₀ b j = Turning 0 columns (atColumn n (lessRow 
 abbrev μ-loop : tie.MeasureT-loop
 μ-loop b₀ n columns i k x j₀ b j = columns - j
 
+-- column j lies within the slice
+here : (c : tie.In-loop Inv-loop μ-loop) → Room (c .before .before .args .n) (c .before .loop .j) (c .before .loop .b)
+here c = room (c .before .loop .b) (c .before .before .pre .0) (c .before .before .pre .1 .0) (c .before .loop .inv .long) (c .loop-test .taken)
+
 loop-holds : tie.Need-loop-holds Inv-loop μ-loop
 loop-holds c = turning-none (omega arith)
 
 mul-at : tie.Need-mul-at Inv-loop μ-loop
-mul-at c =
-    let r = room (c .before .loop .b) (c .before .before .pre .0) (c .before .before .pre .1 .0) (c .before .loop .inv .long) (c .loop-test .taken) in
-    omega (arith, r .within, r .small, c .before .before .pre .1 .1)
+mul-at c = omega (arith, here c .within, here c .small, c .before .before .pre .1 .1)
 
 add-b : tie.Need-add-b Inv-loop μ-loop
-add-b c =
-    let r = room (c .before .loop .b) (c .before .before .pre .0) (c .before .before .pre .1 .0) (c .before .loop .inv .long) (c .loop-test .taken) in
-    omega (arith, r .within, r .small, c .before .before .pre .1 .1)
+add-b c = omega (arith, here c .within, here c .small, c .before .before .pre .1 .1)
 
 mul-b : tie.Need-mul-b Inv-loop μ-loop
-mul-b c =
-    let r = room (c .before .loop .b) (c .before .before .pre .0) (c .before .before .pre .1 .0) (c .before .loop .inv .long) (c .loop-test .taken) in
-    omega (arith, r .within, r .small, c .before .before .pre .1 .1)
+mul-b c = omega (arith, here c .within, here c .small, c .before .before .pre .1 .1)
 
 slice-read-b : tie.Need-slice-read-b Inv-loop μ-loop
-slice-read-b c =
-    let r = room (c .before .before .loop .b) (c .before .before .before .pre .0) (c .before .before .before .pre .1 .0) (c .before .before .loop .inv .long) (c .before .loop-test .taken) in
-    omega (arith, r .within, r .small, c .before .before .before .pre .1 .1)
+slice-read-b c = omega (arith, here (c .before) .within, here (c .before) .small, c .before .before .before .pre .1 .1)
 
 add-b-2 : tie.Need-add-b-2 Inv-loop μ-loop
-add-b-2 c =
-    let r = room (c .before .before .loop .b) (c .before .before .before .pre .0) (c .before .before .before .pre .1 .0) (c .before .before .loop .inv .long) (c .before .loop-test .taken) in
-    omega (arith, r .within, r .small, c .before .before .before .pre .1 .1)
+add-b-2 c = omega (arith, here (c .before) .within, here (c .before) .small, c .before .before .before .pre .1 .1)
 
 mul-b-2 : tie.Need-mul-b-2 Inv-loop μ-loop
-mul-b-2 c =
-    let r = room (c .before .before .loop .b) (c .before .before .before .pre .0) (c .before .before .before .pre .1 .0) (c .before .before .loop .inv .long) (c .before .loop-test .taken) in
-    omega (arith, r .within, r .small, c .before .before .before .pre .1 .1)
+mul-b-2 c = omega (arith, here (c .before) .within, here (c .before) .small, c .before .before .before .pre .1 .1)
 
 slice-read-b-2 : tie.Need-slice-read-b-2 Inv-loop μ-loop
-slice-read-b-2 c =
-    let r = room (c .before .before .before .loop .b) (c .before .before .before .before .pre .0) (c .before .before .before .before .pre .1 .0) (c .before .before .before .loop .inv .long) (c .before .before .loop-test .taken) in
-    omega (arith, r .within, r .small, c .before .before .before .before .pre .1 .1)
+slice-read-b-2 c = omega (arith, here (c .before .before) .within, here (c .before .before) .small, c .before .before .before .before .pre .1 .1)
 
 add-b-3 : tie.Need-add-b-3 Inv-loop μ-loop
-add-b-3 c =
-    let r = room (c .before .before .before .loop .b) (c .before .before .before .before .pre .0) (c .before .before .before .before .pre .1 .0) (c .before .before .before .loop .inv .long) (c .before .before .loop-test .taken) in
-    omega (arith, r .within, r .small, c .before .before .before .before .pre .1 .1)
+add-b-3 c = omega (arith, here (c .before .before) .within, here (c .before .before) .small, c .before .before .before .before .pre .1 .1)
 
 mul-b-3 : tie.Need-mul-b-3 Inv-loop μ-loop
-mul-b-3 c =
-    let r = room (c .before .before .before .loop .b) (c .before .before .before .before .pre .0) (c .before .before .before .before .pre .1 .0) (c .before .before .before .loop .inv .long) (c .before .before .loop-test .taken) in
-    omega (arith, r .within, r .small, c .before .before .before .before .pre .1 .1)
+mul-b-3 c = omega (arith, here (c .before .before) .within, here (c .before .before) .small, c .before .before .before .before .pre .1 .1)
 
 slice-write-b : tie.Need-slice-write-b Inv-loop μ-loop
-slice-write-b c =
-    let r = room (c .before .before .before .loop .b) (c .before .before .before .before .pre .0) (c .before .before .before .before .pre .1 .0) (c .before .before .before .loop .inv .long) (c .before .before .loop-test .taken) in
-    omega (arith, r .within, r .small, c .before .before .before .before .pre .1 .1)
+slice-write-b c = omega (arith, here (c .before .before) .within, here (c .before .before) .small, c .before .before .before .before .pre .1 .1)
 
 add-j : tie.Need-add-j Inv-loop μ-loop
 add-j c = omega (arith, c .before .before .before .before .pre .1 .0 .few, c .before .before .loop-test .taken)

@@ -5,7 +5,7 @@ use native.Mathlib.Omega.{arith}
 use Rattle.lblt_sides.specs.Columns.{atColumn, eachColumn}
 use lib.ListN.{length-set}
 use Rattle.lblt_column.specs.Column.{swapRows}
-use Rattle.lblt_rows.proofs.Stores.{room, swap-at}
+use Rattle.lblt_rows.proofs.Stores.{Room, room, swap-at}
 use Rattle.lblt_sides.proofs.Blocks.{swapped-none}
 use Rattle.lblt_rows.proofs.swap_rows.Statement.{statement}
 use Rattle.lblt_rows.proofs.swap_rows.Tie as tie
@@ -22,70 +22,48 @@ returns c = swapped-none (c .before .args .n) (c .before .args .columns) (c .bef
 loop-holds : tie.Need-loop-holds Inv-loop μ-loop
 loop-holds c = turning-none (omega arith)
 
+-- column j lies within the slice
+here : (c : tie.In-loop Inv-loop μ-loop) → Room (c .before .before .before .args .n) (c .before .loop .j) (c .before .loop .b)
+here c = room (c .before .loop .b) (c .before .before .before .pre .0) (c .before .before .before .pre .1 .0) (c .before .loop .inv .long) (c .loop-test .taken)
+
 mul-at : tie.Need-mul-at Inv-loop μ-loop
-mul-at c =
-    let r = room (c .before .loop .b) (c .before .before .before .pre .0) (c .before .before .before .pre .1 .0) (c .before .loop .inv .long) (c .loop-test .taken) in
-    omega (arith, r .within, r .small, c .before .before .before .pre .1 .1)
+mul-at c = omega (arith, here c .within, here c .small, c .before .before .before .pre .1 .1)
 
 add-x : tie.Need-add-x Inv-loop μ-loop
-add-x c =
-    let r = room (c .before .loop .b) (c .before .before .before .pre .0) (c .before .before .before .pre .1 .0) (c .before .loop .inv .long) (c .loop-test .taken) in
-    omega (arith, r .within, r .small, c .before .before .before .pre .1 .1)
+add-x c = omega (arith, here c .within, here c .small, c .before .before .before .pre .1 .1)
 
 mul-x : tie.Need-mul-x Inv-loop μ-loop
-mul-x c =
-    let r = room (c .before .loop .b) (c .before .before .before .pre .0) (c .before .before .before .pre .1 .0) (c .before .loop .inv .long) (c .loop-test .taken) in
-    omega (arith, r .within, r .small, c .before .before .before .pre .1 .1)
+mul-x c = omega (arith, here c .within, here c .small, c .before .before .before .pre .1 .1)
 
 slice-read-x : tie.Need-slice-read-x Inv-loop μ-loop
-slice-read-x c =
-    let r = room (c .before .before .loop .b) (c .before .before .before .before .pre .0) (c .before .before .before .before .pre .1 .0) (c .before .before .loop .inv .long) (c .before .loop-test .taken) in
-    omega (arith, r .within, r .small, c .before .before .before .before .pre .1 .1)
+slice-read-x c = omega (arith, here (c .before) .within, here (c .before) .small, c .before .before .before .before .pre .1 .1)
 
 add-b : tie.Need-add-b Inv-loop μ-loop
-add-b c =
-    let r = room (c .before .before .loop .b) (c .before .before .before .before .pre .0) (c .before .before .before .before .pre .1 .0) (c .before .before .loop .inv .long) (c .before .loop-test .taken) in
-    omega (arith, r .within, r .small, c .before .before .before .before .pre .1 .1)
+add-b c = omega (arith, here (c .before) .within, here (c .before) .small, c .before .before .before .before .pre .1 .1)
 
 mul-b : tie.Need-mul-b Inv-loop μ-loop
-mul-b c =
-    let r = room (c .before .before .loop .b) (c .before .before .before .before .pre .0) (c .before .before .before .before .pre .1 .0) (c .before .before .loop .inv .long) (c .before .loop-test .taken) in
-    omega (arith, r .within, r .small, c .before .before .before .before .pre .1 .1)
+mul-b c = omega (arith, here (c .before) .within, here (c .before) .small, c .before .before .before .before .pre .1 .1)
 
 slice-read-b : tie.Need-slice-read-b Inv-loop μ-loop
-slice-read-b c =
-    let r = room (c .before .before .before .loop .b) (c .before .before .before .before .before .pre .0) (c .before .before .before .before .before .pre .1 .0) (c .before .before .before .loop .inv .long) (c .before .before .loop-test .taken) in
-    omega (arith, r .within, r .small, c .before .before .before .before .before .pre .1 .1)
+slice-read-b c = omega (arith, here (c .before .before) .within, here (c .before .before) .small, c .before .before .before .before .before .pre .1 .1)
 
 add-b-2 : tie.Need-add-b-2 Inv-loop μ-loop
-add-b-2 c =
-    let r = room (c .before .before .before .loop .b) (c .before .before .before .before .before .pre .0) (c .before .before .before .before .before .pre .1 .0) (c .before .before .before .loop .inv .long) (c .before .before .loop-test .taken) in
-    omega (arith, r .within, r .small, c .before .before .before .before .before .pre .1 .1)
+add-b-2 c = omega (arith, here (c .before .before) .within, here (c .before .before) .small, c .before .before .before .before .before .pre .1 .1)
 
 mul-b-2 : tie.Need-mul-b-2 Inv-loop μ-loop
-mul-b-2 c =
-    let r = room (c .before .before .before .loop .b) (c .before .before .before .before .before .pre .0) (c .before .before .before .before .before .pre .1 .0) (c .before .before .before .loop .inv .long) (c .before .before .loop-test .taken) in
-    omega (arith, r .within, r .small, c .before .before .before .before .before .pre .1 .1)
+mul-b-2 c = omega (arith, here (c .before .before) .within, here (c .before .before) .small, c .before .before .before .before .before .pre .1 .1)
 
 slice-write-b : tie.Need-slice-write-b Inv-loop μ-loop
-slice-write-b c =
-    let r = room (c .before .before .before .loop .b) (c .before .before .before .before .before .pre .0) (c .before .before .before .before .before .pre .1 .0) (c .before .before .before .loop .inv .long) (c .before .before .loop-test .taken) in
-    omega (arith, r .within, r .small, c .before .before .before .before .before .pre .1 .1)
+slice-write-b c = omega (arith, here (c .before .before) .within, here (c .before .before) .small, c .before .before .before .before .before .pre .1 .1)
 
 add-b-3 : tie.Need-add-b-3 Inv-loop μ-loop
-add-b-3 c =
-    let r = room (c .before .before .before .loop .b) (c .before .before .before .before .before .pre .0) (c .before .before .before .before .before .pre .1 .0) (c .before .before .before .loop .inv .long) (c .before .before .loop-test .taken) in
-    omega (arith, r .within, r .small, c .before .before .before .before .before .pre .1 .1)
+add-b-3 c = omega (arith, here (c .before .before) .within, here (c .before .before) .small, c .before .before .before .before .before .pre .1 .1)
 
 mul-b-3 : tie.Need-mul-b-3 Inv-loop μ-loop
-mul-b-3 c =
-    let r = room (c .before .before .before .loop .b) (c .before .before .before .before .before .pre .0) (c .before .before .before .before .before .pre .1 .0) (c .before .before .before .loop .inv .long) (c .before .before .loop-test .taken) in
-    omega (arith, r .within, r .small, c .before .before .before .before .before .pre .1 .1)
+mul-b-3 c = omega (arith, here (c .before .before) .within, here (c .before .before) .small, c .before .before .before .before .before .pre .1 .1)
 
 slice-write-b-2 : tie.Need-slice-write-b-2 Inv-loop μ-loop
-slice-write-b-2 c =
-    let r = room (c .before .before .before .loop .b) (c .before .before .before .before .before .pre .0) (c .before .before .before .before .before .pre .1 .0) (c .before .before .before .loop .inv .long) (c .before .before .loop-test .taken) in
-    simp length-set (omega (arith, r .within, r .small, c .before .before .before .before .before .pre .1 .1))
+slice-write-b-2 c = simp length-set (omega (arith, here (c .before .before) .within, here (c .before .before) .small, c .before .before .before .before .before .pre .1 .1))
 
 add-j : tie.Need-add-j Inv-loop μ-loop
 add-j c = omega (arith, c .before .before .before .before .before .pre .1 .0 .few, c .before .before .loop-test .taken)

@@ -12,18 +12,18 @@ slice-aggregate-put-word c = refl
 put-word-requires : tie.Need-put-word-requires
 put-word-requires c κs = c .before .before .before .pre
 
-bits-of-requires : tie.Need-bits-of-requires
-bits-of-requires c κs = search needs
+to-bits-requires : tie.Need-to-bits-requires
+to-bits-requires c κs = search needs
 
 put-bits-requires : tie.Need-put-bits-requires
 put-bits-requires c κs = put-ends (c .before .before .before .before .put-word .ensures)
 
 same-length : tie.Need-same-length
-same-length c = ((put-then (c .before .before .before .before .before .before .before .put-word .ensures) (put-same (ap bitsField (c .before .before .before .bits-of .ensures)) (c .before .before .put-bits .ensures)))) .long
+same-length c = ((put-then (c .before .before .before .before .before .before .before .put-word .ensures) (put-same (ap bitsField (c .before .before .before .to-bits .ensures)) (c .before .before .put-bits .ensures)))) .long
 
 returns : tie.Need-returns
 unfolding detLine
-returns c = (put-then (c .before .before .before .before .before .before .before .put-word .ensures) (put-same (ap bitsField (c .before .before .before .bits-of .ensures)) (c .before .before .put-bits .ensures)))
+returns c = (put-then (c .before .before .before .before .before .before .before .put-word .ensures) (put-same (ap bitsField (c .before .before .before .to-bits .ensures)) (c .before .before .put-bits .ensures)))
 
 pub put-det-spec : {M : Type 1} → statement M
 put-det-spec =
@@ -31,7 +31,7 @@ put-det-spec =
     (tie.spec
     slice-aggregate-put-word
     put-word-requires
-    bits-of-requires
+    to-bits-requires
     put-bits-requires
     same-length
     returns)

@@ -17,18 +17,18 @@ put-field-requires c κs = put-ends (c .before .before .before .put-word .ensure
 put-field-requires-2 : tie.Need-put-field-requires-2
 put-field-requires-2 c κs = put-ends (c .before .before .before .put-field .ensures)
 
-bits-of-requires : tie.Need-bits-of-requires
-bits-of-requires c κs = search needs
+to-bits-requires : tie.Need-to-bits-requires
+to-bits-requires c κs = search needs
 
 put-bits-requires : tie.Need-put-bits-requires
 put-bits-requires c κs = put-ends (c .before .before .before .before .put-field2 .ensures)
 
 same-length : tie.Need-same-length
-same-length c = ((put-then (c .before .before .before .before .before .before .before .before .before .before .before .before .before .before .before .put-word .ensures) (put-then (c .before .before .before .before .before .before .before .before .before .before .before .put-field .ensures) (put-then (c .before .before .before .before .before .before .before .put-field2 .ensures) (put-same (ap bitsField (c .before .before .before .bits-of .ensures)) (c .before .before .put-bits .ensures)))))) .long
+same-length c = ((put-then (c .before .before .before .before .before .before .before .before .before .before .before .before .before .before .before .put-word .ensures) (put-then (c .before .before .before .before .before .before .before .before .before .before .before .put-field .ensures) (put-then (c .before .before .before .before .before .before .before .put-field2 .ensures) (put-same (ap bitsField (c .before .before .before .to-bits .ensures)) (c .before .before .put-bits .ensures)))))) .long
 
 returns : tie.Need-returns
 unfolding entryLine
-returns c = (put-then (c .before .before .before .before .before .before .before .before .before .before .before .before .before .before .before .put-word .ensures) (put-then (c .before .before .before .before .before .before .before .before .before .before .before .put-field .ensures) (put-then (c .before .before .before .before .before .before .before .put-field2 .ensures) (put-same (ap bitsField (c .before .before .before .bits-of .ensures)) (c .before .before .put-bits .ensures)))))
+returns c = (put-then (c .before .before .before .before .before .before .before .before .before .before .before .before .before .before .before .put-word .ensures) (put-then (c .before .before .before .before .before .before .before .before .before .before .before .put-field .ensures) (put-then (c .before .before .before .before .before .before .before .put-field2 .ensures) (put-same (ap bitsField (c .before .before .before .to-bits .ensures)) (c .before .before .put-bits .ensures)))))
 
 pub put-entry-spec : {M : Type 1} → statement M
 put-entry-spec =
@@ -38,7 +38,7 @@ put-entry-spec =
     put-word-requires
     put-field-requires
     put-field-requires-2
-    bits-of-requires
+    to-bits-requires
     put-bits-requires
     same-length
     returns)

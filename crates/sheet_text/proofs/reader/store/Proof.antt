@@ -6,8 +6,8 @@ use denote.Ref.{now}
 use Rattle.sheet_text.proofs.reader.store.Statement.{statement}
 use Rattle.sheet_text.proofs.reader.store.Tie as tie
 
-float-of-requires : tie.Need-float-of-requires
-float-of-requires c κs = search needs
+from-bits-requires : tie.Need-from-bits-requires
+from-bits-requires c κs = search needs
 
 mul-a : tie.Need-mul-a
 mul-a c = search needs
@@ -19,11 +19,11 @@ same-length : tie.Need-same-length
 same-length c = search needs
 
 returns : tie.Need-returns
-returns c = ap (set (now (c .before .before .before .args .a)) (c .before .before .before .args .at)) (c .float-of .ensures)
+returns c = ap (set (now (c .before .before .before .args .a)) (c .before .before .before .args .at)) (c .from-bits .ensures)
 
 returns-2 : tie.Need-returns-2
 returns-2 c = sym (set-out (now (c .before .before .args .a)) (c .before .before .args .at) _ (c .if1 .left))
 
 pub store-spec : {M : Type 1} → statement M
 store-spec =
-    tie.close (tie.spec float-of-requires mul-a slice-write-a same-length returns returns-2)
+    tie.close (tie.spec from-bits-requires mul-a slice-write-a same-length returns returns-2)
