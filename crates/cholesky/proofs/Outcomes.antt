@@ -13,7 +13,7 @@ use Rattle.matrix.specs.Matrix.{Matrix, entry}
 use Rattle.matrix.specs.Loop.{turns, for}
 use Rattle.cholesky.specs.Column.{updated, divided}
 use Rattle.cholesky.specs.Run.{Rule, Outcome, isDone, updates, below, earlier, judged, worked, column, run}
-use Rattle.cholesky.proofs.Parts.{Agree, agree-then, part-agree, updated-agree, entry-agree}
+use Rattle.cholesky.proofs.Parts.{Agree, part-agree, updated-agree, entry-agree}
 
 pub done-is : (r : Answer) → isDone r ≡ true → r ≡ Done
 done-is Done e = refl
@@ -30,9 +30,6 @@ done-is (BadLine k) e = absurd (subst (λ (b : Bool). T (not b)) e tt)
 pub record Like (n : ℕ) (o p : Outcome) : Type 0 where
   pub answer : o .answer ≡ p .answer
   pub cells : Agree n (o .cells) (p .cells)
-
-pub like-then : {n : ℕ} {o p q : Outcome} → Like n o p → Like n p q → Like n o q
-like-then a b = record { answer = a .answer ∙ b .answer; cells = agree-then (a .cells) (b .cells) }
 
 pub updates-agree : {n : ℕ} {M N : Matrix} (r j : ℕ) → j ≤ r → Agree n M N → Agree n (updates r j M) (updates r j N)
 unfolding updates

@@ -64,12 +64,6 @@ pub record Agree (n : ℕ) (M N : Matrix) : Type 0 where
 pub agree-same : {n : ℕ} {M : Matrix} → Agree n M M
 agree-same = record { at = λ i j le lt. refl }
 
-pub agree-then : {n : ℕ} {M N P : Matrix} → Agree n M N → Agree n N P → Agree n M P
-agree-then a b = record { at = λ i j le lt. a .at i j le lt ∙ b .at i j le lt }
-
-pub agree-back : {n : ℕ} {M N : Matrix} → Agree n M N → Agree n N M
-agree-back a = record { at = λ i j le lt. sym (a .at i j le lt) }
-
 pub part-agree : {n : ℕ} {M N : Matrix} (r j : ℕ) (v w : ℕ → Float) → Agree n M N → ((i : ℕ) → r ≤ i → i < n → v i ≡ w i) → Agree n (part r j v M) (part r j w N)
 part-agree {n} {M} {N} r j v w same each = record { at = λ i c le lt. cell i c le lt (where? r j i c) }
   where

@@ -22,7 +22,7 @@ use Rattle.cholesky.specs.Crate.{crateRule}
 use Rattle.cholesky.specs.Leaves.{Leaves, Ends}
 use Rattle.cholesky.specs.Engine.{Judgement, Advanced}
 use Rattle.cholesky.proofs.Turns.{for-one, for-join}
-use Rattle.cholesky.proofs.Parts.{leaves-agree, leaves-none, leaves-as, leaves-then}
+use Rattle.cholesky.proofs.Parts.{leaves-agree, leaves-none, leaves-then}
 use Rattle.cholesky.proofs.Outcomes.{done-is, Like, stays, judged-like, below-agree, columns-like}
 
 -- ---- one column
@@ -68,9 +68,6 @@ module _ (ρ : Rule) (m j : ℕ) (M : Matrix) where
   pub judged-is : m ≤ j → for j (j + 1) (column ρ m) (started M) ≡ judged ρ j (updates j j M)
   unfolding worked
   judged-is le = column-is ∙ rw (le-ltb j m le)
-
-pub ends-as : {y : Layout} {l₀ l : List Float} {r : Answer} {o p : Outcome} → Ends y l₀ l r o → Like (y .order) o p → Ends y l₀ l r p
-ends-as e same = record { answer = e .answer ∙ same .answer; leaves = leaves-as (e .leaves) (same .cells) }
 
 pub advance-earlier : {y : Layout} {l₀ l l' : List Float} (ρ : Rule) (m j : ℕ) → j < m
     → Leaves y l₀ l (updates m j (load (lower y) l₀)) → Leaves y l l' (below m j (load (lower y) l))

@@ -1,7 +1,7 @@
 -- A whole number has one cut root, and `digits` is it.
 use mathlib.Core.Path.{_≡_, subst}
 use Prim.Native.Nat.{ℕ, zero, suc, _+_, _*_, _/_, _^_, _≤_, _<_}
-use native.Mathlib.Nat.{lt-of-not-le, add-mul, mul-add, mul-le-mul, mul-mul-mul-comm, pow-suc}
+use native.Mathlib.Nat.{lt-of-not-le, mul-le-mul, pow-suc}
 use native.Mathlib.Omega.{arith}
 use mathlib.Core.Bool.{Bool, true, false, not, cond}
 use lib.Dec.{T, leb, leb→le, nleb→lt}

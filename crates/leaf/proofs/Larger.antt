@@ -2,8 +2,7 @@
 use mathlib.Core.Path.{_≡_, refl, sym, ap}
 use mathlib.Core.Bool.{Bool, true, false, not, cond, true≢false}
 use lib.Dec.{T}
-use lib.Ieee.{Float, nan, inf, fin, binary64, fits, isNan, lt}
-use lib.Ieee.Fits.{cond-fits}
+use lib.Ieee.{Float, nan, inf, fin, isNan, lt}
 use Rattle.leaf.specs.Maximum.{maximumOf}
 
 pub of-nan : (x y : Float) → x ≡ nan → y ≡ maximumOf x y
@@ -30,7 +29,3 @@ of-rest (inf s) (fin t k d) n h = ap (λ (b : Bool). cond b (fin t k d) (inf s))
 of-rest (fin s m e) nan n h = refl
 of-rest (fin s m e) (inf t) n h = ap (λ (b : Bool). cond b (inf t) (fin s m e)) (sym h)
 of-rest (fin s m e) (fin t k d) n h = ap (λ (b : Bool). cond b (fin t k d) (fin s m e)) (sym h)
-
-pub maximum-fits : (x y : Float) → T (fits binary64 x) → T (fits binary64 y) → T (fits binary64 (maximumOf x y))
-unfolding maximumOf
-maximum-fits x y h k = cond-fits binary64 (isNan x) y _ k (cond-fits binary64 (isNan y) x _ h (cond-fits binary64 (lt x y) y x k h))

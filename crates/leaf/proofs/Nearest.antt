@@ -10,7 +10,6 @@ use lib.Pow.{pow-add, pow-pos, shl-lt}
 use lib.Count.{leadingZeros}
 use lib.Ieee.{Float, nan, inf, fin, binary64, fits, isNan, ofBits, toBits}
 use lib.Ieee.Bits.{ofBits-fits, ofBits-toBits, toBits-ofBits, nanBits-is}
-use lib.Ieee.Fits.{nan-fits}
 use lib.Ieee.Positive.{positive, positive-of-value}
 use Rattle.leaf.specs.Root.{unitsOf, digits, rootOf}
 use Rattle.leaf.specs.Nearest.{Nearest, IsRoot, square}
@@ -130,13 +129,3 @@ root-is-root (fin false (suc m) e) f = root-nearest (fin false (suc m) e) f abov
   where
     above : T (positive (fin false (suc m) e))
     above = lt→ltb 0 (suc m) (zero-lt-suc m)
-
-pub root-fits : (x : Float) → T (fits binary64 x) → T (fits binary64 (rootOf x))
-unfolding rootOf
-root-fits nan f = f
-root-fits (inf true) f = nan-fits binary64
-root-fits (inf false) f = f
-root-fits (fin true zero e) f = f
-root-fits (fin false zero e) f = f
-root-fits (fin true (suc m) e) f = nan-fits binary64
-root-fits (fin false (suc m) e) f = root-nearest (fin false (suc m) e) f (lt→ltb 0 (suc m) (zero-lt-suc m)) .fits

@@ -58,9 +58,3 @@ abs-no-nan (fin s m e) n = tt
 
 pub unsigned-no-nan : (x : Float) → T (fits binary64 x) → T (not (isNan x)) → T (not (nanBits binary64 (toBits binary64 x % 2 ^ 63)))
 unsigned-no-nan x h n = subst (λ (b : Bool). T (not b)) (sym (nanBits-is binary64 (toBits binary64 x % 2 ^ 63) ∙ ap isNan (unsigned x h n))) (abs-no-nan x n)
-
-pub abs-fits : (x : Float) → T (fits binary64 x) → T (fits binary64 (absOf x))
-unfolding absOf
-abs-fits nan h = h
-abs-fits (inf s) h = unfold fits in tt
-abs-fits (fin s m e) h = either-sign s false m e h

@@ -1,7 +1,7 @@
 -- The root worked out digit by digit. After i digits s is the root so far, `rest` what is left above its square, and `left` the digits of n still to come.
 use mathlib.Core.Path.{_≡_, sym, ap, _∙_, subst}
 use Prim.Native.Nat.{ℕ, _+_, _-_, _*_, _/_, _%_, _^_, _≤_, _<_}
-use native.Mathlib.Nat.{zero-add, mul-one, mul-assoc, mul-mul-mul-comm, pow-suc}
+use native.Mathlib.Nat.{zero-add, mul-one, mul-assoc, pow-suc}
 use native.Mathlib.Numerals.{add-one}
 use native.Mathlib.Omega.{arith}
 use lib.Pow.{pow-mono}

@@ -11,8 +11,8 @@ use mathlib.Core.Logic.{_⊎_, inl, inr, ⊎-elim}
 use Prim.Native.Nat.{ℕ, zero, suc, _+_, _≤_, _<_}
 use native.Mathlib.Nat.{not-suc-le-zero, le-of-suc-le-suc, eq-or-lt-of-le}
 use native.Mathlib.Omega.{arith}
-use lib.Dec.{T, eqb, eqb→eq, eqb-refl}
-use lib.ListN.{length, getD, set, length-set}
+use lib.Dec.{T, eqb, eqb→eq}
+use lib.ListN.{getD, set, length-set}
 use lib.Seq.{getD-set-same, getD-set-other, ext-getD}
 use lib.Ieee.{Float, nan}
 use lib.Ieee.Bits.{is-true}
@@ -20,7 +20,7 @@ use lib.Ieee.Fits.{and-l, and-r}
 use borrow.Author.Tests.{eq-eqb, eqb-true, eqb-false}
 use Rattle.matrix.specs.Matrix.{Matrix, entry}
 use Rattle.matrix.specs.Loop.{for}
-use Rattle.matrix.specs.Grid.{Grid, Fair, Sound, load, mask, Free, Kept, Holds}
+use Rattle.matrix.specs.Grid.{Grid, Fair, Sound, load, mask, Free, Holds}
 use Rattle.matrix.proofs.Loops.{for-none, for-more}
 
 -- ---- an entry of a slice

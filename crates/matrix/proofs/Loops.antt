@@ -1,6 +1,6 @@
 -- The laws of loops. A loop's invariant is `Ran lo hi f s₀ i s`: from lo on, up to i, f has turned s₀ into s.
 -- Assumes nothing.
-use mathlib.Core.Path.{_≡_, refl, sym, _∙_, ap, subst}
+use mathlib.Core.Path.{_≡_, refl, sym, _∙_, ap}
 use Prim.Native.Nat.{ℕ, zero, suc, _+_, _-_, _≤_, _<_}
 use native.Mathlib.Omega.{arith}
 use Rattle.matrix.specs.Loop.{turns, for}
@@ -19,13 +19,6 @@ for-more lo i f s from =
     let count : i + 1 - lo ≡ suc (i - lo) = omega arith in
     let last : lo + (i - lo) ≡ i = omega arith in
     ap (turns lo f s) count ∙ ap (λ (k : ℕ). f k (turns lo f s (i - lo))) last
-
--- past its end a loop does nothing
-pub for-past : {S : Type 0} (lo hi : ℕ) (f : ℕ → S → S) (s : S) → hi ≤ lo → for lo hi f s ≡ s
-unfolding for turns
-for-past lo hi f s past =
-    let none : hi - lo ≡ 0 = omega arith in
-    ap (turns lo f s) none
 
 -- two loops whose turns agree
 pub for-same : {S : Type 0} (lo hi : ℕ) (f g : ℕ → S → S) (s : S) → ((i : ℕ) (x : S) → lo ≤ i → i < hi → f i x ≡ g i x) → for lo hi f s ≡ for lo hi g s

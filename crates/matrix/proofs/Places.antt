@@ -1,9 +1,9 @@
 -- Where entries stand: the project's grids are fair, and what engines on plain offsets need of places.
 -- Assumes nothing.
-use mathlib.Core.Path.{_≡_, refl, sym, _∙_, ap, subst}
+use mathlib.Core.Path.{_≡_, refl, sym, _∙_, ap}
 use mathlib.Core.Bool.{_&&_}
 use mathlib.Core.List.{List}
-use Prim.Native.Nat.{ℕ, zero, _+_, _*_, _/_, _%_, _≤_, _<_}
+use Prim.Native.Nat.{ℕ, _+_, _*_, _/_, _%_, _≤_, _<_}
 use native.Mathlib.Nat.{mod-eq-of-lt, add-mul-mod-self-right, add-mul-div-right, div-eq-of-lt, zero-add, mul-le-mul, mul-le-mul-right, suc-mul}
 use native.Mathlib.Numerals.{add-one}
 use native.Mathlib.Omega.{arith}
@@ -12,7 +12,7 @@ use lib.ListN.{length, getD}
 use lib.Ieee.{Float, nan}
 use lib.Ieee.Fits.{and-l, and-r, and-i}
 use Rattle.matrix.specs.declared.Layout.{Layout}
-use Rattle.matrix.specs.Grid.{Grid, Fair, Sound, load, Holds}
+use Rattle.matrix.specs.Grid.{Grid, Fair, Sound, load}
 use Rattle.matrix.specs.Layouts.{Roomy, startOf, sizeOf, inLower, placeIn, lower, inUpper, inSquare, placeSquare, upper, square}
 use Rattle.matrix.proofs.Grids.{load-in}
 
@@ -65,16 +65,6 @@ square-like n g both place size = record {
   row = λ i j r c t u e. digits-row n i j r c (both i j t .0) (both r c u .0) (sym (place i j) ∙ e ∙ place r c);
   column = λ i j r c t u e. digits-column n i j r c (both i j t .0) (both r c u .0) (sym (place i j) ∙ e ∙ place r c);
 }
-
-pub upper-fair : (n : ℕ) → Fair (upper n)
-unfolding upper inUpper placeSquare
-upper-fair n = square-like n (upper n) both (λ i j. refl) refl
-  where
-    both : (i j : ℕ) → T (leb i j && ltb j n) → (i < n) × (j < n)
-    both i j t =
-        let above : i ≤ j = leb→le i j (and-l (leb i j) (ltb j n) t) in
-        let below : j < n = ltb→lt j n (and-r (leb i j) (ltb j n) t) in
-        (omega arith, below)
 
 pub square-fair : (n : ℕ) → Fair (square n)
 unfolding square inSquare placeSquare

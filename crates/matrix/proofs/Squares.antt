@@ -11,7 +11,7 @@ use lib.Dec.{ltb, ltb→lt}
 use lib.Ieee.{Float, nan}
 use lib.Ieee.Fits.{and-l, and-r}
 use Rattle.matrix.specs.Matrix.{Matrix}
-use Rattle.matrix.specs.Grid.{load, mask, Sound, Holds}
+use Rattle.matrix.specs.Grid.{mask, Sound, Holds}
 use Rattle.matrix.specs.Layouts.{inSquare, placeSquare, square, Fills}
 use Rattle.matrix.proofs.Grids.{load-is}
 use Rattle.matrix.proofs.Places.{square-at, square-fair}

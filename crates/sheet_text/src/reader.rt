@@ -11,7 +11,7 @@ ghost use Prim.Native.Nat.{_≤_};
 ghost use lib.ListN.{drop, set};
 ghost use lib.Ieee.{binary64, ofBits};
 ghost use Rattle.sheet_text.specs.Line.{bitsFound};
-ghost use Rattle.sheet_text.specs.Place.{cell, places};
+ghost use Rattle.sheet_text.specs.Place.{places};
 ghost use Rattle.sheet_text.specs.Read.{entryAt, takeEntries, takenBy, wrongAt, closed, verdict, outcome, afterOrder};
 ghost use Rattle.sheet_text.specs.Sheet.{Reads};
 

@@ -15,7 +15,7 @@ use Rattle.matrix.specs.Loop.{for}
 use Rattle.matrix.proofs.Loops.{for-none, for-more, for-same}
 use Rattle.cholesky.specs.Column.{less, updated}
 use Rattle.cholesky.specs.Run.{Rule, Outcome, isDone, updates, below, judged, worked, column, started, run}
-use Rattle.cholesky.proofs.Rows.{updates-in, updates-above, below-in, below-above, entry-same, entry-off, columns-off, judged-passed}
+use Rattle.cholesky.proofs.Rows.{updates-in, below-in, below-above, entry-same, entry-off, columns-off, judged-passed}
 use Rattle.twin_laws.proofs.Products.{neg-exchanges}
 
 -- ---- updates of two rows

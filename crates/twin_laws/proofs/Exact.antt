@@ -1,14 +1,14 @@
 -- Operations that change nothing: rounding a number of the format, x·1, +0 + x, and x − x. Assumes nothing.
 use mathlib.Core.Path.{_≡_, refl, sym, _∙_, ap, subst}
-use mathlib.Core.Bool.{Bool, true, false, not, cond, Bool·beq, _&&_, _||_}
+use mathlib.Core.Bool.{Bool, true, false, cond, _&&_}
 use Prim.Native.Nat.{ℕ, zero, suc, _+_, _-_, _*_, _/_, _%_, _^_, _≤_, _<_}
 use native.Mathlib.Nat.{sub-zero, mul-one, one-mul, mul-comm, mul-assoc, mul-right-comm, zero-mul, zero-add, sub-self, mul-pos, zero-lt-suc, lt-irrefl, eq-of-mul-eq-mul-right, le-refl, lt-of-lt-of-le, lt-of-mul-lt-mul-right, mul-lt-mul-of-pos-right}
 use native.Mathlib.Omega.{arith}
 use lib.IntN.{ℤ, pos, negsuc}
 use lib.Dec.{T, leb, ltb, eqb, ltb→lt, leb→le}
 use lib.Pow.{pow-add, pow-pos, pow-lt}
-use borrow.Author.Tests.{lt-ltb, le-ltb, ltb-true}
-use lib.Ieee.{Float, nan, inf, fin, Format, binary64, prec, emax, low, hid, top, up, down, size, round, sum, add, sub, mul, neg, fits, ofBits, toBits, unlike}
+use borrow.Author.Tests.{lt-ltb, le-ltb}
+use lib.Ieee.{Float, nan, inf, fin, Format, prec, emax, low, hid, top, up, down, size, round, sum, add, sub, mul, neg, fits, ofBits, toBits}
 use lib.Ieee.Bits.{ofBits-toBits}
 use lib.Ieee.Fits.{and-l, and-r, up-pos, down-pos, round-fits}
 use lib.Ieee.Digits.{back}

@@ -1,28 +1,28 @@
 -- LBLT of [x / x x], for every f64 x: the whole answer. Assumes nothing.
-use mathlib.Core.Path.{_≡_, refl, sym, _∙_, ap, subst}
-use mathlib.Core.Bool.{Bool, true, false, cond, not, _&&_, _||_, true≢false}
+use mathlib.Core.Path.{_≡_, refl, _∙_, ap}
+use mathlib.Core.Bool.{Bool, true, false, cond, not, _&&_, true≢false}
 use mathlib.Core.List.{List, [], _∷_}
 use Prim.Native.Nat.{ℕ, zero, suc, _+_, _*_, _≤_, _<_}
-use native.Mathlib.Nat.{zero-mul, le-refl}
+use native.Mathlib.Nat.{zero-mul}
 use native.Mathlib.Omega.{arith}
-use lib.IntN.{ℤ, pos}
+use lib.IntN.{ℤ}
 use lib.Dec.{T, eqb, ltb, lit<, lit≤}
-use borrow.Author.Tests.{le-ltb, eq-eqb}
-use lib.Ieee.{Float, nan, inf, fin, binary64, ofBits, add, mul, div, neg, lt, eq, le, fits, isNan, up, down}
+use borrow.Author.Tests.{le-ltb}
+use lib.Ieee.{Float, nan, inf, fin, binary64, ofBits, mul, lt, eq, fits, isNan, up, down}
 use Rattle.leaf.specs.Abs.{absOf}
 use Rattle.leaf.specs.Maximum.{maximumOf}
-use Rattle.matrix.specs.Matrix.{Matrix, entry}
+use Rattle.matrix.specs.Matrix.{Matrix}
 use Rattle.matrix.specs.Loop.{turns, for}
 use Rattle.pivots.specs.Words.{paired, marked}
-use Rattle.lblt.specs.Rounded.{_⊕_, _⊗_, _⊘_, nought, one, α}
+use Rattle.lblt.specs.Rounded.{_⊗_, _⊘_, nought, one, α}
 use Rattle.lblt.specs.Choice.{columnMax, choiceBy, choose, contest, rowMax}
 use Rattle.lblt.specs.declared.choice.Choice.{Choice}
-use Rattle.lblt.specs.declared.choice.Choice.the-variants.{Null, One, Two}
-use Rattle.lblt.specs.Interchange.{brought1, interchange}
+use Rattle.lblt.specs.declared.choice.Choice.the-variants.{Null, One}
+use Rattle.lblt.specs.Interchange.{brought1}
 use Rattle.lblt.specs.Step.{State, firstMark, pivot1, take, step, run}
 use Rattle.lblt.specs.Update.{update1, eliminate1}
 use Rattle.lblt.specs.Factor.{begun, factored, recorded}
-use Rattle.lblt.proofs.Entries.{Updated1, updated1}
+use Rattle.lblt.proofs.Entries.{updated1}
 use Rattle.twin_laws.proofs.Share.{share-not-above}
 use Rattle.twin_laws.proofs.Lblt.{trail, in-place1}
 

@@ -1,10 +1,10 @@
 -- Laws of products of floats, over the format. Assumes nothing.
-use mathlib.Core.Path.{_≡_, refl, sym, _∙_, ap}
-use mathlib.Core.Bool.{Bool, true, false, not, cond, Bool·beq}
-use Prim.Native.Nat.{ℕ, zero, suc, _*_}
+use mathlib.Core.Path.{_≡_, refl, _∙_, ap}
+use mathlib.Core.Bool.{Bool, true, false, not, cond}
+use Prim.Native.Nat.{_*_}
 use native.Mathlib.Nat.{mul-comm}
 use lib.Dec.{eqb}
-use lib.Ieee.{Float, nan, inf, fin, Format, neg, mul, round, unlike, up, down}
+use lib.Ieee.{Float, nan, inf, fin, Format, neg, mul, unlike, up, down}
 
 unlike-comm : (s t : Bool) → unlike s t ≡ unlike t s
 unlike-comm true true = refl

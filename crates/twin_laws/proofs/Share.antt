@@ -1,14 +1,14 @@
 -- No size is below α times itself, α = 0.6403882032022076. Assumes nothing.
-use mathlib.Core.Path.{_≡_, refl, sym, _∙_, ap, subst}
-use mathlib.Core.Bool.{Bool, true, false, not, cond, Bool·beq, _&&_, _||_}
-use Prim.Native.Nat.{ℕ, zero, suc, _+_, _*_, _≤_, _<_}
+use mathlib.Core.Path.{_≡_, refl, sym, subst}
+use mathlib.Core.Bool.{Bool, true, false, not, _&&_, _||_}
+use Prim.Native.Nat.{ℕ, suc, _+_, _*_}
 use mathlib.Core.Logic.{_⊎_, inl, inr, ⊎-elim}
 use native.Mathlib.Nat.{le-refl, le-of-lt, le-of-eq, zero-lt-suc}
 use native.Mathlib.Omega.{arith}
-use lib.IntN.{ℤ, pos}
+use lib.IntN.{ℤ}
 use lib.Dec.{T, ltb, eqb, ltb→lt, lt→ltb, eqb→eq}
 use borrow.Author.Tests.{le-ltb}
-use lib.Ieee.{Float, nan, inf, fin, Format, binary64, lt, le, eq, mul, fits, ofBits, up, down, below, level}
+use lib.Ieee.{Float, nan, inf, fin, binary64, lt, le, eq, mul, fits, ofBits, up, down, below, level}
 use lib.Ieee.Fits.{and-l, and-r}
 use lib.Ieee.Positive.{positive, mul-mono, cross→le}
 use Rattle.twin_laws.proofs.Exact.{one, one-times}

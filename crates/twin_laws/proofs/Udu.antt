@@ -1,13 +1,12 @@
 -- UDU and twin rows p < q of the upper part P. Assumes nothing.
-use mathlib.Core.Path.{_≡_, refl, sym, _∙_, ap, subst}
+use mathlib.Core.Path.{_≡_, refl, _∙_, ap}
 use mathlib.Core.Bool.{Bool, true, false, cond, _&&_}
-use mathlib.Core.Logic.{⊎-elim}
 use Prim.Native.Nat.{ℕ, zero, suc, _+_, _-_, _≤_, _<_}
 use native.Mathlib.Omega.{arith}
 use lib.IntN.{ℤ}
 use lib.Dec.{T, leb, eqb}
-use borrow.Author.Tests.{eq-eqb, ne-eqb, le-leb, eqb-true, eqb-false}
-use lib.Ieee.{Float, nan, fin, binary64, ofBits, add, sub, mul, div, eq, fits}
+use borrow.Author.Tests.{eq-eqb, ne-eqb, le-leb, eqb-true}
+use lib.Ieee.{Float, fin, binary64, ofBits, add, sub, mul, div, eq, fits}
 use Rattle.matrix.specs.Matrix.{Matrix}
 use Rattle.udu.specs.Columns.{plusZero, one, total, Found, nothing, squared, crossed, diagonal, lastEntry, earlierEntry, entryOf, withDiagonal, withColumn, Run, accepted, refused, judged, column, run}
 use Rattle.answer.specs.declared.Answer.the-variants.{Done, ZeroDiagonal}

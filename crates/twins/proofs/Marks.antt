@@ -11,7 +11,7 @@ use lib.Ieee.{binary64, toBits}
 use borrow.Author.Count.{below-none, below-more}
 use Rattle.matrix.specs.Matrix.{Matrix}
 use Rattle.matrix.proofs.Loops.{for-same}
-use Rattle.twins.specs.Twins.{symmetric, Twins}
+use Rattle.twins.specs.Twins.{Twins}
 use Rattle.twins.specs.First.{Told}
 use Rattle.twins.specs.Mark.{mixed, mixEntry, rowMark, Marked}
 

@@ -1,18 +1,18 @@
 -- Two rows compared entry by entry, by their bits. Assumes nothing.
-use mathlib.Core.Path.{_≡_, sym, _∙_, ap, subst}
-use mathlib.Core.Bool.{Bool, true, false, true≢false}
+use mathlib.Core.Path.{_≡_, sym, _∙_, ap}
+use mathlib.Core.Bool.{true, false, true≢false}
 use mathlib.Core.List.{List}
 use Prim.Native.Nat.{ℕ, _+_, _≤_, _<_}
 use native.Mathlib.Omega.{arith}
 use lib.Dec.{T, leb}
-use lib.ListN.{length, getD}
+use lib.ListN.{getD}
 use lib.Ieee.{Float, nan, binary64, fits, toBits, ofBits}
 use lib.Ieee.Bits.{ofBits-toBits}
 use lib.Ieee.Fits.{cond-fits, nan-fits}
 use borrow.Author.Count.{below-none, below-more}
 use Rattle.matrix.specs.Matrix.{Matrix}
 use Rattle.matrix.specs.Grid.{Grid, load}
-use Rattle.twins.specs.Twins.{symmetric, Twins}
+use Rattle.twins.specs.Twins.{symmetric}
 use Rattle.twins.specs.First.{Told}
 
 -- floats of one format with the same bits are equal

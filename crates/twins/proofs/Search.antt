@@ -2,14 +2,14 @@
 use mathlib.Core.Path.{_≡_, sym, subst}
 use mathlib.Core.Bool.{Bool, true, false}
 use mathlib.Core.Logic.{⊎-elim}
-use Prim.Native.Nat.{ℕ, suc, _+_, _≤_, _<_}
+use Prim.Native.Nat.{ℕ, _+_, _≤_, _<_}
 use native.Mathlib.Nat.{eq-or-lt-of-le}
 use native.Mathlib.Omega.{arith}
 use borrow.Author.Count.{below-none, below-more}
 use Rattle.matrix.specs.Matrix.{Matrix}
 use Rattle.twins.specs.declared.Twin.the-variants.{Nothing, Pair}
 use Rattle.twins.specs.Twins.{Twins}
-use Rattle.twins.specs.First.{NoneBefore, NoneBelow, FirstBefore, FirstPair, First, Told, none, pair}
+use Rattle.twins.specs.First.{NoneBefore, NoneBelow, FirstBefore, First, Told, none, pair}
 
 -- no row before p is q's twin
 pub record Before (n : ℕ) (M : Matrix) (q p : ℕ) : Type 0 where

@@ -1,7 +1,7 @@
 -- The promise of `first_twin` fixes its answer, and its number tells the three kinds of answer apart. Assumes nothing.
 use mathlib.Core.Path.{_≡_, refl, sym, _∙_, ap, subst}
 use mathlib.Core.List.{List}
-use Prim.Native.Nat.{ℕ, _+_, _*_, _/_, _%_, _≤_, _<_}
+use Prim.Native.Nat.{ℕ, _+_, _/_, _%_, _≤_, _<_}
 use native.Mathlib.Decide.{decLe}
 use native.Mathlib.Omega.{arith}
 use lib.Dec.{lit≤}
@@ -14,7 +14,6 @@ use Rattle.answer.specs.Number.{codeOf, placeOf, numberOf}
 use Rattle.matrix.specs.Matrix.{Matrix}
 use Rattle.twins.specs.declared.Twin.{Twin}
 use Rattle.twins.specs.declared.Twin.the-variants.{Nothing, Pair, Refused}
-use Rattle.twins.specs.Twins.{Twins}
 use Rattle.twins.specs.Sizes.{sizes}
 use Rattle.twins.specs.First.{FirstPair, First, FirstTwin, none, pair}
 use Rattle.twins.specs.Number.{twinNumber}

@@ -1,12 +1,12 @@
 // Finds rows of a symmetric matrix that came twice.
 ghost use mathlib.Core.Path.{_≡_};
 ghost use mathlib.Core.Bool.{true, false};
-ghost use Prim.Native.Nat.{ℕ, _≤_, _<_};
-ghost use lib.ListN.{length, getD};
+ghost use Prim.Native.Nat.{_≤_, _<_};
+ghost use lib.ListN.{length};
 ghost use lib.Ieee.{binary64, toBits};
 ghost use Rattle.matrix.specs.Grid.{Sound, load};
 ghost use Rattle.matrix.specs.Layouts.{Roomy, lower};
-ghost use Rattle.twins.specs.Twins.{symmetric, Twins};
+ghost use Rattle.twins.specs.Twins.{symmetric};
 ghost use Rattle.twins.specs.First.{First, FirstBefore, FirstTwin, Told};
 ghost use Rattle.twins.specs.Number.{twinNumber};
 ghost use Rattle.twins.specs.Mark.{mixed, rowMark, Marked};
