@@ -55,7 +55,7 @@ divideTwo A k b =
 unfoldable pub divideBlock : Matrix → List ℕ → ℕ → List Float → List Float
 divideBlock A words k b = bySize words k (divideOne A k b) (divideTwo A k b)
 
--- a block is divided as soon as its rows are eliminated: nothing later reads or writes them
+-- a block eliminated and then divided
 unfoldable pub reduceBlock : ℕ → Matrix → List ℕ → ℕ → List Float → List Float
 reduceBlock n A words k b = divideBlock A words k (forwardBlock n A words k b)
 

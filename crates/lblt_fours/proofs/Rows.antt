@@ -6,13 +6,14 @@ use mathlib.Core.List.{List}
 use mathlib.Core.Path.{_≡_, refl, sym, ap, _∙_}
 use Prim.Native.Nat.{ℕ, zero, suc, _+_, _-_, _*_, _<_, _≤_}
 use native.Mathlib.Omega.{arith}
-use lib.Ieee.{Float, nan}
+use lib.Ieee.{Float}
 use lib.ListN.{length, take, drop, set, length-set}
-use lib.Seq.{getD-take, getD-drop, drop-set-add, drop-set-lt, take-set-lt, take-set-le}
+use lib.Seq.{drop-set-add, drop-set-lt, take-set-lt, take-set-le}
 use Rattle.lblt_column.specs.Column.{at}
 use Rattle.lblt_sides.specs.Columns.{column, eachColumn}
 use Rattle.lblt_sides.proofs.EachColumn.{each-column, each-long}
 use Rattle.lblt_sides.proofs.EachAfter.{Keeping, columns-same, each-none}
+use Rattle.lblt_sides.proofs.Parts.{number-at}
 use Rattle.lblt_fours.specs.declared.Four.{Four}
 use Rattle.lblt_fours.specs.Fours.{rowOf, putRow, pairwise}
 
@@ -21,8 +22,7 @@ use Rattle.lblt_fours.specs.Fours.{rowOf, putRow, pairwise}
 module _ (n : ℕ) (b : List Float) where
   module _ (j p i : ℕ) (place : p ≡ j * n + i) (inside : i < n) where
     read-at : at b p ≡ at (column n j b) i
-    unfolding column
-    read-at = rw place (sym (getD-take n (drop (j * n) b) i nan inside ∙ getD-drop (j * n) b i nan))
+    read-at = rw place (number-at n j b i inside)
 
     write-at : (v : Float) → column n j (set b p v) ≡ set (column n j b) i v
     unfolding column

@@ -1,6 +1,5 @@
 -- Writing into the columns of a slice: number i of column j stands at j·n + i.
 --     Room, room                    column j lies within the slice
---     number-at                     what stands there
 --     store-one, store-two          one number of a column stored, and two
 use mathlib.Core.List.{List, _++_}
 use mathlib.Core.Path.{_≡_, refl, sym, ap, _∙_}
@@ -8,11 +7,11 @@ use Prim.Native.Nat.{ℕ, _+_, _*_, _<_, _≤_}
 use native.Mathlib.Omega.{arith}
 use lib.Ieee.{Float, nan, binary64, sub, mul, div}
 use lib.ListN.{length, getD, set, take, drop, take-append-drop}
-use lib.Seq.{getD-take, getD-drop, take-set-le, drop-set-add, take-set-lt, drop-set-lt}
+use lib.Seq.{take-set-le, drop-set-add, take-set-lt, drop-set-lt}
 use Rattle.lblt_column.specs.Column.{at, swapRows}
 use Rattle.lblt_sides.specs.Columns.{column, atColumn, Lined}
 use Rattle.lblt_rows.specs.Rows.{lessRow}
-use Rattle.lblt_sides.proofs.Parts.{column-within, column-small}
+use Rattle.lblt_sides.proofs.Parts.{column-within, column-small, number-at}
 
 pub record Room (n j : ℕ) (b : List Float) : Type 0 where
   pub within : j * n + n ≤ length b
@@ -34,10 +33,6 @@ divideTwoBy k d11 d22 d21 det b =
     (div binary64 (sub binary64 (mul binary64 (at b (k + 1)) d11) (mul binary64 (at b k) d21)) det)
 
 module _ (n j : ℕ) (b : List Float) where
-  pub number-at : (i : ℕ) → i < n → getD b (j * n + i) nan ≡ at (column n j b) i
-  unfolding column
-  number-at i below = sym (getD-take n (drop (j * n) b) i nan below ∙ getD-drop (j * n) b i nan)
-
   -- a slice is what stands before a column, the column, and what stands behind it
   parts : (l : List Float) → take (j * n) l ++ (take n (drop (j * n) l) ++ drop n (drop (j * n) l)) ≡ l
   parts l = ap (λ (r : List Float). take (j * n) l ++ r) (take-append-drop n (drop (j * n) l)) ∙ take-append-drop (j * n) l
@@ -80,16 +75,16 @@ module _ (n j : ℕ) (b : List Float) where
       : (i k : ℕ) (x : Float) → i < n → k < n
       → set b (j * n + i) (sub binary64 (getD b (j * n + i) nan) (mul binary64 x (getD b (j * n + k) nan))) ≡ atColumn n (lessRow i k x) j b
   unfolding lessRow
-  less-at i k x hi hk = store-one (lessRow i k x) i _ hi (rw (sym (number-at i hi), sym (number-at k hk)) refl)
+  less-at i k x hi hk = store-one (lessRow i k x) i _ hi (rw (sym (number-at n j b i hi), sym (number-at n j b k hk)) refl)
 
   pub swap-at
       : (p q : ℕ) → p < n → q < n
       → set (set b (j * n + p) (getD b (j * n + q) nan)) (j * n + q) (getD b (j * n + p) nan) ≡ atColumn n (λ l. swapRows l p q) j b
   unfolding swapRows
-  swap-at p q hp hq = store-two (λ l. swapRows l p q) p q _ _ hp hq (rw (sym (number-at p hp), sym (number-at q hq)) refl)
+  swap-at p q hp hq = store-two (λ l. swapRows l p q) p q _ _ hp hq (rw (sym (number-at n j b p hp), sym (number-at n j b q hq)) refl)
 
   pub divide-at : (k : ℕ) (d : Float) → k < n → set b (j * n + k) (div binary64 (getD b (j * n + k) nan) d) ≡ atColumn n (divideBy k d) j b
-  divide-at k d h = store-one (divideBy k d) k _ h (rw (sym (number-at k h)) refl)
+  divide-at k d h = store-one (divideBy k d) k _ h (rw (sym (number-at n j b k h)) refl)
 
   pub divide-two-at
       : (k : ℕ) (d11 d22 d21 det : Float) → k + 1 < n
@@ -101,4 +96,4 @@ module _ (n j : ℕ) (b : List Float) where
   divide-two-at k d11 d22 d21 det h =
       let next : j * n + k + 1 ≡ j * n + (k + 1) = omega arith in
       rw next
-      (store-two (divideTwoBy k d11 d22 d21 det) k (k + 1) _ _ (omega arith) h (rw (sym (number-at k (omega arith)), sym (number-at (k + 1) h)) refl))
+      (store-two (divideTwoBy k d11 d22 d21 det) k (k + 1) _ _ (omega arith) h (rw (sym (number-at n j b k (omega arith)), sym (number-at n j b (k + 1) h)) refl))

@@ -1,15 +1,17 @@
 -- One column of a slice, lent and back.
 --     column-within, column-small, column-long     a column lies within the slice and has n numbers
+--     number-at                      number i of column j stands at j·n + i
 --     part-is, put-column            the part that is lent is the column; what comes back is `atColumn`
 use mathlib.Core.List.{List, _++_}
-use mathlib.Core.Path.{_≡_}
+use mathlib.Core.Path.{_≡_, sym, _∙_}
 use Prim.Native.Nat.{ℕ, _+_, _-_, _*_, _<_, _≤_}
 use native.Mathlib.Nat.{mul-le-mul, mul-le-mul-right, suc-mul, mul-comm}
 use native.Mathlib.Numerals.{add-one}
 use native.Mathlib.Omega.{arith}
-use lib.Ieee.{Float}
-use lib.ListN.{length, take, drop, length-drop}
-use lib.Seq.{length-take-le}
+use lib.Ieee.{Float, nan}
+use lib.ListN.{length, getD, take, drop, length-drop}
+use lib.Seq.{length-take-le, getD-take, getD-drop}
+use Rattle.lblt_column.specs.Column.{at}
 use Rattle.lblt_sides.specs.Columns.{column, atColumn}
 use Rattle.lblt_sides.specs.Columns.{Lined}
 
@@ -28,6 +30,11 @@ column-small {n} {columns} small lined j below =
     omega (arith, column-within n columns j below, product-small n columns small (lined .few))
 
 module _ (n j : ℕ) (b : List Float) where
+  -- number i of the column
+  pub number-at : (i : ℕ) → i < n → getD b (j * n + i) nan ≡ at (column n j b) i
+  unfolding column
+  number-at i below = sym (getD-take n (drop (j * n) b) i nan below ∙ getD-drop (j * n) b i nan)
+
   span : j * n + n - j * n ≡ n
   span = omega arith
 
