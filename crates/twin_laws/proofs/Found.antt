@@ -1,4 +1,4 @@
--- A pair that `first_twin` finds meets the hypotheses of the theorems on each factor. Assumes nothing.
+-- A pair that `first_twin` or `first_twin_since` finds meets the hypotheses of the theorems on each factor. Assumes nothing.
 use mathlib.Core.Path.{_≡_, sym, _∙_}
 use Prim.Native.Nat.{ℕ, _≤_, _<_}
 use native.Mathlib.Omega.{arith}
@@ -7,7 +7,7 @@ use Rattle.twins.specs.First.{FirstPair}
 use Rattle.twins.proofs.Clauses.{Lower, lower-of-twins}
 use Rattle.twin_laws.proofs.Lblt.{Paired}
 
-module _ (n : ℕ) (M : Matrix) (p q : ℕ) (found : FirstPair n M p q) where
+module _ (n : ℕ) (M : Matrix) (m p q : ℕ) (found : FirstPair n M m p q) where
   pub found-lower : Lower n M p q
   found-lower = lower-of-twins n M p q (found .apart) (found .within) (found .twins)
 

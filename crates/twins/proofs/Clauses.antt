@@ -12,11 +12,11 @@ pub record Lower (n : ℕ) (M : Matrix) (p q : ℕ) : Type 0 where
   pub diagonal : M q q ≡ M p p
   pub below : (k : ℕ) → q < k → k < n → M k q ≡ M k p
 
-at-lower : (M : Matrix) (i j : ℕ) → j ≤ i → symmetric M i j ≡ M i j
+pub at-lower : (M : Matrix) (i j : ℕ) → j ≤ i → symmetric M i j ≡ M i j
 unfolding symmetric
 at-lower M i j h = rw (le-leb j i h)
 
-at-upper : (M : Matrix) (i j : ℕ) → i < j → symmetric M i j ≡ M j i
+pub at-upper : (M : Matrix) (i j : ℕ) → i < j → symmetric M i j ≡ M j i
 unfolding symmetric
 at-upper M i j h = rw (lt-leb j i h)
 

@@ -1,6 +1,6 @@
+pub mod Clauses
 pub mod Rows
 pub mod Marks
 pub mod Search
 pub mod Sizes
 pub mod Unique
-pub mod Clauses

@@ -1,19 +1,20 @@
--- The marks of rows: twin rows have one mark. Assumes nothing.
-use mathlib.Core.Path.{_≡_, refl, sym, _∙_, ap}
+-- The marks of rows: twin rows have one mark, and column after column brings its entries to the marks. Assumes nothing.
+use mathlib.Core.Path.{_≡_, refl, sym, _∙_, ap, subst}
 use mathlib.Core.Bool.{true, false, true≢false}
 use mathlib.Core.List.{List}
+use mathlib.Core.Logic.{⊎-elim}
 use Prim.Native.Nat.{ℕ, _+_, _≤_, _<_}
-use native.Mathlib.Nat.{ne-of-lt}
+use native.Mathlib.Nat.{ne-of-lt, ne-of-gt, eq-or-lt-of-le}
 use native.Mathlib.Omega.{arith}
-use lib.ListN.{length, getD, set, length-set}
+use lib.ListN.{length, getD, set, replicate, length-set, getD-replicate}
 use lib.Seq.{getD-set-same, getD-set-other}
 use lib.Ieee.{binary64, toBits}
-use borrow.Author.Count.{below-none, below-more}
 use Rattle.matrix.specs.Matrix.{Matrix}
-use Rattle.matrix.proofs.Loops.{for-same}
+use Rattle.matrix.proofs.Loops.{for-none, for-more, for-same}
 use Rattle.twins.specs.Twins.{Twins}
 use Rattle.twins.specs.First.{Told}
-use Rattle.twins.specs.Mark.{mixed, mixEntry, rowMark, Marked}
+use Rattle.twins.specs.Mark.{mixed, mixEntry, rowMark, Cleared, Marked, Brought}
+use Rattle.twins.proofs.Clauses.{at-lower, at-upper}
 
 pub one-mark : (n : ℕ) (M : Matrix) (p q : ℕ) → Twins n M p q → rowMark n M p ≡ rowMark n M q
 unfolding rowMark mixEntry
@@ -27,23 +28,102 @@ marks-differ {n} {M} {marks} {p} {q} marked within differ = record {
   no = λ f twins. differ (marked .each p (within .0) ∙ one-mark n M p q twins ∙ sym (marked .each q (within .1)));
 }
 
--- the first i rows are marked
-pub record Marking (n : ℕ) (M : Matrix) (marks₀ : List ℕ) (i : ℕ) (marks : List ℕ) : Type 0 where
-  pub upto : i ≤ n
-  pub long : length marks ≡ length marks₀
-  pub each : (r : ℕ) → r < i → getD marks r 0 ≡ rowMark n M r
+-- ---- one entry more of a row's mark
 
-pub marking-none : {n : ℕ} {M : Matrix} {marks : List ℕ} → Marking n M marks 0 marks
-marking-none {n} {M} {marks} = record { upto = omega arith; long = refl; each = below-none (λ r. getD marks r 0 ≡ rowMark n M r) }
+mark-none : (M : Matrix) (i : ℕ) → rowMark 0 M i ≡ 0
+unfolding rowMark
+mark-none M i = for-none 0 (mixEntry M i) 0
 
-pub marking-more : {n : ℕ} {M : Matrix} {marks₀ marks : List ℕ} {i mark : ℕ} → n ≤ length marks₀ → Marking n M marks₀ i marks → i < n → mark ≡ rowMark n M i → Marking n M marks₀ (i + 1) (set marks i mark)
-marking-more {n} {M} {marks₀} {marks} {i} {mark} room m below e = record {
-  upto = omega arith;
-  long = length-set marks i mark ∙ m .long;
-  each = below-more (λ r. getD (set marks i mark) r 0 ≡ rowMark n M r) i
-      (λ r h. getD-set-other marks i r mark 0 (ne-of-lt h) ∙ m .each r h)
-      (getD-set-same marks i mark 0 (omega arith) ∙ e);
+-- entry (i, c) of the lower part, at place c of row i
+pub mark-lower : (M : Matrix) (i c : ℕ) {mark bits new : ℕ} → c ≤ i → mark ≡ rowMark c M i → bits ≡ toBits binary64 (M i c) → new ≡ mixed mark bits → new ≡ rowMark (c + 1) M i
+unfolding rowMark mixEntry
+mark-lower M i c {mark} {bits} le is brought e =
+    e
+    ∙ ap (λ (x : ℕ). mixed x bits) is
+    ∙ ap (mixed (rowMark c M i)) (brought ∙ ap (toBits binary64) (sym (at-lower M i c le)))
+    ∙ sym (for-more 0 c (mixEntry M i) 0 (omega arith))
+
+-- and at place i of row c
+pub mark-upper : (M : Matrix) (i c : ℕ) {mark bits new : ℕ} → c < i → mark ≡ rowMark i M c → bits ≡ toBits binary64 (M i c) → new ≡ mixed mark bits → new ≡ rowMark (i + 1) M c
+unfolding rowMark mixEntry
+mark-upper M i c {mark} {bits} lt is brought e =
+    e
+    ∙ ap (λ (x : ℕ). mixed x bits) is
+    ∙ ap (mixed (rowMark i M c)) (brought ∙ ap (toBits binary64) (sym (at-upper M c i lt)))
+    ∙ sym (for-more 0 i (mixEntry M c) 0 (omega arith))
+
+-- ---- the columns
+
+pub cleared : (k n : ℕ) → n ≤ k → Cleared n (replicate k 0)
+cleared k n room i below = getD-replicate k i 0 0 (omega arith)
+
+pub brought-none : {n : ℕ} {M : Matrix} {marks : List ℕ} → Cleared n marks → Brought n M 0 marks
+brought-none {n} {M} {marks} cleared = record {
+  whole = λ i h. absurd (omega arith);
+  begun = λ i from h. cleared i h ∙ sym (mark-none M i);
 }
 
-pub marking-all : {n : ℕ} {M : Matrix} {marks₀ marks : List ℕ} {i : ℕ} → Marking n M marks₀ i marks → n ≤ i → Marked n M marks
-marking-all m past = record { each = λ r h. m .each r (omega arith) }
+pub brought-all : {n : ℕ} {M : Matrix} {marks : List ℕ} {c : ℕ} → Brought n M c marks → n ≤ c → Marked n M marks
+brought-all b past = record { each = λ i h. b .whole i (omega arith) }
+
+-- column c, down to before row i: `own` is the mark of row c
+pub record Bringing (n : ℕ) (M : Matrix) (c : ℕ) (marks₀ : List ℕ) (i own : ℕ) (marks : List ℕ) : Type 0 where
+  pub under : c < i
+  pub upto : i ≤ n
+  pub long : length marks ≡ length marks₀
+  pub whole : (r : ℕ) → r < c → getD marks r 0 ≡ rowMark n M r
+  pub passed : (r : ℕ) → c < r → r < i → getD marks r 0 ≡ rowMark (c + 1) M r
+  pub begun : (r : ℕ) → i ≤ r → r < n → getD marks r 0 ≡ rowMark c M r
+  pub own-is : own ≡ rowMark i M c
+
+pub bringing-first : {n : ℕ} {M : Matrix} {c : ℕ} {marks : List ℕ} {bits own : ℕ} → Brought n M c marks → c < n → bits ≡ toBits binary64 (M c c) → own ≡ mixed (getD marks c 0) bits
+    → Bringing n M c marks (c + 1) own marks
+bringing-first {n} {M} {c} {marks} b below brought e = record {
+  under = omega arith;
+  upto = omega arith;
+  long = refl;
+  whole = b .whole;
+  passed = λ r from to. absurd (omega arith);
+  begun = λ r from h. b .begun r (omega arith) h;
+  own-is = mark-lower M c c (omega arith) (b .begun c (omega arith) below) brought e;
+}
+
+pub bringing-more : {n : ℕ} {M : Matrix} {c : ℕ} {marks₀ marks : List ℕ} {i own bits mark own' : ℕ} → n ≤ length marks₀ → Bringing n M c marks₀ i own marks → i < n
+    → bits ≡ toBits binary64 (M i c) → mark ≡ mixed (getD marks i 0) bits → own' ≡ mixed own bits → Bringing n M c marks₀ (i + 1) own' (set marks i mark)
+bringing-more {n} {M} {c} {marks₀} {marks} {i} {own} {bits} {mark} {own'} room b below brought e e' =
+    let under : c < i = b .under in
+    let long : length marks ≡ length marks₀ = b .long in
+    record {
+      under = omega arith;
+      upto = omega arith;
+      long = length-set marks i mark ∙ long;
+      whole = λ r h. getD-set-other marks i r mark 0 (ne-of-lt (omega arith)) ∙ b .whole r h;
+      passed = λ r from to. ⊎-elim
+          (λ (here : r ≡ i). subst (λ (k : ℕ). getD (set marks i mark) k 0 ≡ rowMark (c + 1) M k) (sym here)
+          (getD-set-same marks i mark 0 (omega arith) ∙ mark-lower M i c (omega arith) (b .begun i (omega arith) below) brought e))
+          (λ (before : r < i). getD-set-other marks i r mark 0 (ne-of-lt before) ∙ b .passed r from before)
+          (eq-or-lt-of-le (omega arith));
+      begun = λ r from h. getD-set-other marks i r mark 0 (ne-of-gt (omega arith)) ∙ b .begun r (omega arith) h;
+      own-is = mark-upper M i c under (b .own-is) brought e';
+    }
+
+pub bringing-all : {n : ℕ} {M : Matrix} {c : ℕ} {marks₀ marks : List ℕ} {i own : ℕ} → n ≤ length marks₀ → Bringing n M c marks₀ i own marks → n ≤ i → Brought n M (c + 1) (set marks c own)
+bringing-all {n} {M} {c} {marks₀} {marks} {i} {own} room b past =
+    let under : c < i = b .under in
+    let upto : i ≤ n = b .upto in
+    let long : length marks ≡ length marks₀ = b .long in
+    let last : i ≡ n = omega arith in
+    record {
+      whole = λ r h. ⊎-elim
+          (λ (here : r ≡ c). subst (λ (k : ℕ). getD (set marks c own) k 0 ≡ rowMark n M k) (sym here)
+          (getD-set-same marks c own 0 (omega arith) ∙ b .own-is ∙ ap (λ (k : ℕ). rowMark k M c) last))
+          (λ (before : r < c). getD-set-other marks c r own 0 (ne-of-lt before) ∙ b .whole r before)
+          (eq-or-lt-of-le (omega arith));
+      begun = λ r from h. getD-set-other marks c r own 0 (ne-of-gt (omega arith)) ∙ b .passed r (omega arith) (omega arith);
+    }
+
+-- the columns before c have brought their entries, to as many marks as there were
+pub record Columns (n : ℕ) (M : Matrix) (marks₀ : List ℕ) (c : ℕ) (marks : List ℕ) : Type 0 where
+  pub upto : c ≤ n
+  pub long : length marks ≡ length marks₀
+  pub brought : Brought n M c marks

@@ -9,7 +9,7 @@ use borrow.Author.Count.{below-none, below-more}
 use Rattle.matrix.specs.Matrix.{Matrix}
 use Rattle.twins.specs.declared.Twin.the-variants.{Nothing, Pair}
 use Rattle.twins.specs.Twins.{Twins}
-use Rattle.twins.specs.First.{NoneBefore, NoneBelow, FirstBefore, First, Told, none, pair}
+use Rattle.twins.specs.First.{NoneBefore, NoneBetween, FirstBefore, First, Told, none, pair}
 
 -- no row before p is q's twin
 pub record Before (n : ℕ) (M : Matrix) (q p : ℕ) : Type 0 where
@@ -29,26 +29,30 @@ before-found b below told is-yes = record { upto = omega arith; twins = λ h. to
 pub before-all : {n : ℕ} {M : Matrix} {q p : ℕ} → Before n M q p → q ≤ p → FirstBefore n M q p
 before-all b past = record { upto = b .upto; twins = λ h. absurd (omega arith); nearest = b .nearest }
 
--- no two of the first q rows are twins
-pub record Below (n : ℕ) (M : Matrix) (q : ℕ) : Type 0 where
+-- no row from m to before q is the twin of a row before it
+pub record Between (n : ℕ) (M : Matrix) (m q : ℕ) : Type 0 where
+  pub since : m ≤ q
   pub upto : q ≤ n
-  pub least : NoneBelow n M q
+  pub least : NoneBetween n M m q
 
-pub below-start : {n : ℕ} {M : Matrix} → Below n M 0
-below-start {n} {M} = record { upto = omega arith; least = λ r s apart h. absurd (omega arith) }
+pub between-start : {n : ℕ} {M : Matrix} {m : ℕ} → m ≤ n → Between n M m m
+between-start le = record { since = omega arith; upto = le; least = λ r s apart from h. absurd (omega arith) }
 
-pub below-next : {n : ℕ} {M : Matrix} {q p : ℕ} → Below n M q → q < n → FirstBefore n M q p → q ≤ p → Below n M (q + 1)
-below-next {n} {M} {q} {p} b within first past = record {
-  upto = omega arith;
-  least = λ r s apart h. ⊎-elim
-      (λ (same : s ≡ q). subst (λ (k : ℕ). r < k → Twins n M r k → ⊥) (sym same) (λ lt. first .nearest r (omega arith)) apart)
-      (λ (lt : s < q). b .least r s apart lt)
-      (eq-or-lt-of-le (omega arith));
-}
+pub between-next : {n : ℕ} {M : Matrix} {m q p : ℕ} → Between n M m q → q < n → FirstBefore n M q p → q ≤ p → Between n M m (q + 1)
+between-next {n} {M} {m} {q} {p} b within first past =
+    let since : m ≤ q = b .since in
+    record {
+      since = omega arith;
+      upto = omega arith;
+      least = λ r s apart from h. ⊎-elim
+          (λ (same : s ≡ q). subst (λ (k : ℕ). r < k → Twins n M r k → ⊥) (sym same) (λ lt. first .nearest r (omega arith)) apart)
+          (λ (lt : s < q). b .least r s apart from lt)
+          (eq-or-lt-of-le (omega arith));
+    }
 
-pub below-found : {n : ℕ} {M : Matrix} {q p : ℕ} → Below n M q → q < n → FirstBefore n M q p → p < q → First n M (Pair p q)
-below-found b within first before =
-    pair (record { apart = before; within = within; twins = first .twins before; least = b .least; nearest = first .nearest })
+pub between-found : {n : ℕ} {M : Matrix} {m q p : ℕ} → Between n M m q → q < n → FirstBefore n M q p → p < q → First n M m (Pair p q)
+between-found b within first before =
+    pair (record { apart = before; since = b .since; within = within; twins = first .twins before; least = b .least; nearest = first .nearest })
 
-pub below-all : {n : ℕ} {M : Matrix} {q : ℕ} → Below n M q → n ≤ q → First n M Nothing
-below-all b past = none (λ r s apart h. b .least r s apart (omega arith))
+pub between-all : {n : ℕ} {M : Matrix} {m q : ℕ} → Between n M m q → n ≤ q → First n M m Nothing
+between-all b past = none (λ r s apart from h. b .least r s apart from (omega arith))

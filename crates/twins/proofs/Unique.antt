@@ -1,4 +1,4 @@
--- The promise of `first_twin` fixes its answer, and its number tells the three kinds of answer apart. Assumes nothing.
+-- The promise of `first_twin_since` fixes its answer, and its number tells the three kinds of answer apart. Assumes nothing.
 use mathlib.Core.Path.{_≡_, refl, sym, _∙_, ap, subst}
 use mathlib.Core.List.{List}
 use Prim.Native.Nat.{ℕ, _+_, _/_, _%_, _≤_, _<_}
@@ -15,48 +15,51 @@ use Rattle.matrix.specs.Matrix.{Matrix}
 use Rattle.twins.specs.declared.Twin.{Twin}
 use Rattle.twins.specs.declared.Twin.the-variants.{Nothing, Pair, Refused}
 use Rattle.twins.specs.Sizes.{sizes}
-use Rattle.twins.specs.First.{FirstPair, First, FirstTwin, none, pair}
+use Rattle.twins.specs.First.{FirstPair, First, FirstTwinSince, FirstTwin, none, pair}
 use Rattle.twins.specs.Number.{twinNumber}
 
 -- no later second row, and no later first row of one second row
-no-later : {n : ℕ} {M : Matrix} {p q r s : ℕ} → FirstPair n M p q → FirstPair n M r s → q < s → ⊥
-no-later f g lt = g .least _ _ (f .apart) lt (f .twins)
+no-later : {n : ℕ} {M : Matrix} {m p q r s : ℕ} → FirstPair n M m p q → FirstPair n M m r s → q < s → ⊥
+no-later f g lt = g .least _ _ (f .apart) (f .since) lt (f .twins)
 
-same-second : {n : ℕ} {M : Matrix} {p q r s : ℕ} → FirstPair n M p q → FirstPair n M r s → q ≡ s
+same-second : {n : ℕ} {M : Matrix} {m p q r s : ℕ} → FirstPair n M m p q → FirstPair n M m r s → q ≡ s
 same-second {q = q} {s = s} f g =
     let under : (q < s) → ⊥ = no-later f g in
     let over : (s < q) → ⊥ = no-later g f in
     omega arith
 
-no-later-first : {n : ℕ} {M : Matrix} {p q r : ℕ} → FirstPair n M p q → FirstPair n M r q → p < r → ⊥
+no-later-first : {n : ℕ} {M : Matrix} {m p q r : ℕ} → FirstPair n M m p q → FirstPair n M m r q → p < r → ⊥
 no-later-first f g lt = g .nearest _ lt (f .twins)
 
-same-first : {n : ℕ} {M : Matrix} {p q r : ℕ} → FirstPair n M p q → FirstPair n M r q → p ≡ r
+same-first : {n : ℕ} {M : Matrix} {m p q r : ℕ} → FirstPair n M m p q → FirstPair n M m r q → p ≡ r
 same-first {p = p} {r = r} f g =
     let under : (p < r) → ⊥ = no-later-first f g in
     let over : (r < p) → ⊥ = no-later-first g f in
     omega arith
 
-pub first-unique : {n : ℕ} {M : Matrix} {t u : Twin} → First n M t → First n M u → t ≡ u
+pub first-unique : {n : ℕ} {M : Matrix} {m : ℕ} {t u : Twin} → First n M m t → First n M m u → t ≡ u
 first-unique (none a) (none b) = refl
-first-unique (none a) (pair g) = absurd (a _ _ (g .apart) (g .within) (g .twins))
-first-unique (pair f) (none b) = absurd (b _ _ (f .apart) (f .within) (f .twins))
-first-unique {n} {M} (pair {p} {q} f) (pair {p = r} {q = s} g) =
+first-unique (none a) (pair g) = absurd (a _ _ (g .apart) (g .since) (g .within) (g .twins))
+first-unique (pair f) (none b) = absurd (b _ _ (f .apart) (f .since) (f .within) (f .twins))
+first-unique {n} {M} {m} (pair {p} {q} f) (pair {p = r} {q = s} g) =
     let second : q ≡ s = same-second f g in
-    let g' : FirstPair n M r q = subst (λ (k : ℕ). FirstPair n M r k) (sym second) g in
+    let g' : FirstPair n M m r q = subst (λ (k : ℕ). FirstPair n M m r k) (sym second) g in
     ap (λ (k : ℕ). Pair k q) (same-first f g') ∙ ap (Pair r) second
 
 -- two answers that meet the promise are equal
-pub first-twin-unique : (l : List Float) (room n : ℕ) {t u : Twin} → FirstTwin l room n t → FirstTwin l room n u → t ≡ u
-first-twin-unique l room n {t} {u} a b = by (decLe (codeOf (sizes room n (length l))) 0)
+pub first-twin-since-unique : (l : List Float) (room m n : ℕ) {t u : Twin} → FirstTwinSince l room m n t → FirstTwinSince l room m n u → t ≡ u
+first-twin-since-unique l room m n {t} {u} a b = by (decLe (codeOf (sizes room m n (length l))) 0)
   where
-    by : Dec (codeOf (sizes room n (length l)) ≤ 0) → t ≡ u
+    by : Dec (codeOf (sizes room m n (length l)) ≤ 0) → t ≡ u
     by (yes zero) =
-        let done : sizes room n (length l) ≡ Done = done-only (sizes room n (length l)) (omega arith) in
+        let done : sizes room m n (length l) ≡ Done = done-only (sizes room m n (length l)) (omega arith) in
         first-unique (a .found done) (b .found done)
     by (no code) =
-        let other : sizes room n (length l) ≡ Done → ⊥ = λ done. code (subst (λ (x : Answer). codeOf x ≤ 0) (sym done) (lit≤ tt)) in
+        let other : sizes room m n (length l) ≡ Done → ⊥ = λ done. code (subst (λ (x : Answer). codeOf x ≤ 0) (sym done) (lit≤ tt)) in
         a .refused other ∙ sym (b .refused other)
+
+pub first-twin-unique : (l : List Float) (room n : ℕ) {t u : Twin} → FirstTwin l room n t → FirstTwin l room n u → t ≡ u
+first-twin-unique l room n = first-twin-since-unique l room 0 n
 
 -- ---- the number
 

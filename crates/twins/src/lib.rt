@@ -1,15 +1,15 @@
 // Finds rows of a symmetric matrix that came twice.
 ghost use mathlib.Core.Path.{_≡_};
 ghost use mathlib.Core.Bool.{true, false};
-ghost use Prim.Native.Nat.{_≤_, _<_};
+ghost use Prim.Native.Nat.{_+_, _≤_, _<_};
 ghost use lib.ListN.{length};
 ghost use lib.Ieee.{binary64, toBits};
 ghost use Rattle.matrix.specs.Grid.{Sound, load};
 ghost use Rattle.matrix.specs.Layouts.{Roomy, lower};
 ghost use Rattle.twins.specs.Twins.{symmetric};
-ghost use Rattle.twins.specs.First.{First, FirstBefore, FirstTwin, Told};
+ghost use Rattle.twins.specs.First.{First, FirstBefore, FirstTwinSince, FirstTwin, Told};
 ghost use Rattle.twins.specs.Number.{twinNumber};
-ghost use Rattle.twins.specs.Mark.{mixed, rowMark, Marked};
+ghost use Rattle.twins.specs.Mark.{mixed, Marked, Brought, Cleared};
 use answer::Answer;
 use matrix::Layout;
 
@@ -32,6 +32,16 @@ impl Twin {
     }
 }
 
+fn lower_bits(y: Layout, a: &[f64], i: usize, j: usize) -> u64
+    requires { ⌜ Roomy y ⌝ }
+    requires { ⌜ Sound (lower y) (now a) ⌝ }
+    requires { ⌜ j ≤ i ⌝ }
+    requires { ⌜ i < y .order ⌝ }
+    ensures { λ r. ⌜ r ≡ toBits binary64 (load (lower y) (now (a .entry)) i j) ⌝ }
+{
+    leaf::to_bits(matrix::get(y, a, i, j))
+}
+
 fn entry_bits(y: Layout, a: &[f64], i: usize, j: usize) -> u64
     requires { ⌜ Roomy y ⌝ }
     requires { ⌜ Sound (lower y) (now a) ⌝ }
@@ -40,9 +50,9 @@ fn entry_bits(y: Layout, a: &[f64], i: usize, j: usize) -> u64
     ensures { λ r. ⌜ r ≡ toBits binary64 (symmetric (load (lower y) (now (a .entry))) i j) ⌝ }
 {
     if j <= i {
-        return leaf::to_bits(matrix::get(y, a, i, j));
+        return lower_bits(y, a, i, j);
     }
-    leaf::to_bits(matrix::get(y, a, j, i))
+    lower_bits(y, a, j, i)
 }
 
 fn mix(mark: u64, bits: u64) -> u64
@@ -52,33 +62,39 @@ fn mix(mark: u64, bits: u64) -> u64
     sum % 0x1_0000_0000 * 4294967118 + sum / 0x1_0000_0000
 }
 
-fn mark_row(y: Layout, a: &[f64], i: usize) -> u64
+// Column c brings entry (i, c) to row i at its place c and to row c at its place i. The rows before c are whole.
+fn mark_column(y: Layout, a: &[f64], marks: &mut [u64], c: usize)
     requires { ⌜ Roomy y ⌝ }
     requires { ⌜ Sound (lower y) (now a) ⌝ }
-    requires { ⌜ i < y .order ⌝ }
-    ensures { λ r. ⌜ r ≡ rowMark (y .order) (load (lower y) (now (a .entry))) i ⌝ }
+    requires { ⌜ y .order ≤ length (now marks) ⌝ }
+    requires { ⌜ c < y .order ⌝ }
+    requires { ⌜ Brought (y .order) (load (lower y) (now a)) c (now marks) ⌝ }
+    ensures { λ _. ⌜ Brought (y .order) (load (lower y) (now (a .entry))) (c + 1) (now (marks .exit)) ⌝ }
 {
     let n = y.order;
-    let mut mark: u64 = 0;
-    let mut k = 0;
-    while k < n {
-        mark = mix(mark, entry_bits(y, a, i, k));
-        k += 1;
+    let mut own = mix(marks[c], lower_bits(y, a, c, c));
+    let mut i = c + 1;
+    while i < n {
+        let bits = lower_bits(y, a, i, c);
+        marks[i] = mix(marks[i], bits);
+        own = mix(own, bits);
+        i += 1;
     }
-    mark
+    marks[c] = own;
 }
 
 fn mark_rows(y: Layout, a: &[f64], marks: &mut [u64])
     requires { ⌜ Roomy y ⌝ }
     requires { ⌜ Sound (lower y) (now a) ⌝ }
     requires { ⌜ y .order ≤ length (now marks) ⌝ }
+    requires { ⌜ Cleared (y .order) (now marks) ⌝ }
     ensures { λ _. ⌜ Marked (y .order) (load (lower y) (now (a .entry))) (now (marks .exit)) ⌝ }
 {
     let n = y.order;
-    let mut i = 0;
-    while i < n {
-        marks[i] = mark_row(y, a, i);
-        i += 1;
+    let mut c = 0;
+    while c < n {
+        mark_column(y, a, marks, c);
+        c += 1;
     }
 }
 
@@ -133,15 +149,17 @@ fn first_before(y: Layout, a: &[f64], marks: &[u64], q: usize) -> usize
     p
 }
 
-fn first_pair(y: Layout, a: &[f64], marks: &mut [u64]) -> Twin
+fn first_pair(y: Layout, a: &[f64], marks: &mut [u64], earlier: usize) -> Twin
     requires { ⌜ Roomy y ⌝ }
     requires { ⌜ Sound (lower y) (now a) ⌝ }
     requires { ⌜ y .order ≤ length (now marks) ⌝ }
-    ensures { λ r. ⌜ First (y .order) (load (lower y) (now (a .entry))) r ⌝ }
+    requires { ⌜ Cleared (y .order) (now marks) ⌝ }
+    requires { ⌜ earlier ≤ y .order ⌝ }
+    ensures { λ r. ⌜ First (y .order) (load (lower y) (now (a .entry))) earlier r ⌝ }
 {
     mark_rows(y, a, marks);
     let n = y.order;
-    let mut q = 0;
+    let mut q = earlier;
     while q < n {
         let p = first_before(y, a, marks, q);
         if p < q {
@@ -152,28 +170,30 @@ fn first_pair(y: Layout, a: &[f64], marks: &mut [u64]) -> Twin
     Twin::Nothing
 }
 
-fn first_of_few(y: Layout, a: &[f64]) -> Twin
+fn first_of_few(y: Layout, a: &[f64], earlier: usize) -> Twin
     requires { ⌜ Roomy y ⌝ }
     requires { ⌜ Sound (lower y) (now a) ⌝ }
     requires { ⌜ y .order ≤ 32 ⌝ }
-    ensures { λ r. ⌜ First (y .order) (load (lower y) (now (a .entry))) r ⌝ }
+    requires { ⌜ earlier ≤ y .order ⌝ }
+    ensures { λ r. ⌜ First (y .order) (load (lower y) (now (a .entry))) earlier r ⌝ }
 {
     let mut marks = [0u64; 32];
-    first_pair(y, a, &mut marks)
+    first_pair(y, a, &mut marks, earlier)
 }
 
-fn first_of_many(y: Layout, a: &[f64]) -> Twin
+fn first_of_many(y: Layout, a: &[f64], earlier: usize) -> Twin
     requires { ⌜ Roomy y ⌝ }
     requires { ⌜ Sound (lower y) (now a) ⌝ }
-    ensures { λ r. ⌜ First (y .order) (load (lower y) (now (a .entry))) r ⌝ }
+    requires { ⌜ earlier ≤ y .order ⌝ }
+    ensures { λ r. ⌜ First (y .order) (load (lower y) (now (a .entry))) earlier r ⌝ }
 {
     let mut marks = [0u64; 1024];
-    first_pair(y, a, &mut marks)
+    first_pair(y, a, &mut marks, earlier)
 }
 
-// The first pair of twin rows of the symmetric matrix of order n whose lower part stands in the room.
-pub fn first_twin(a: &[f64], room: usize, n: usize) -> Twin
-    ensures { λ r. ⌜ FirstTwin (now (a .entry)) room n r ⌝ }
+// The first pair of twin rows, the second of them at or after `earlier`, of the symmetric matrix of order n whose lower part stands in the room.
+pub fn first_twin_since(a: &[f64], room: usize, earlier: usize, n: usize) -> Twin
+    ensures { λ r. ⌜ FirstTwinSince (now (a .entry)) room earlier n r ⌝ }
 {
     if room > 1024 {
         return Twin::Refused(Answer::OutOfRange);
@@ -181,7 +201,13 @@ pub fn first_twin(a: &[f64], room: usize, n: usize) -> Twin
     if n > 1024 {
         return Twin::Refused(Answer::OutOfRange);
     }
+    if earlier > 1024 {
+        return Twin::Refused(Answer::OutOfRange);
+    }
     if n > room {
+        return Twin::Refused(Answer::OrderAboveRoom);
+    }
+    if earlier > n {
         return Twin::Refused(Answer::OrderAboveRoom);
     }
     if a.len() != room * room {
@@ -189,7 +215,14 @@ pub fn first_twin(a: &[f64], room: usize, n: usize) -> Twin
     }
     let y = Layout { order: n, room };
     if n <= 32 {
-        return first_of_few(y, a);
+        return first_of_few(y, a, earlier);
     }
-    first_of_many(y, a)
+    first_of_many(y, a, earlier)
+}
+
+// The first pair of twin rows of all n.
+pub fn first_twin(a: &[f64], room: usize, n: usize) -> Twin
+    ensures { λ r. ⌜ FirstTwin (now (a .entry)) room n r ⌝ }
+{
+    first_twin_since(a, room, 0, n)
 }

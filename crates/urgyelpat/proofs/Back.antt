@@ -82,5 +82,5 @@ twin-back Nothing e small = e
 twin-back (Pair p q) e small = (omega (arith, e, small), omega (arith, e, small))
 twin-back (Refused answer) e small = number-back e small
 
-pub first-twin-back : {room n : ℕ} {a : List Float} {r : ℕ} (c : FirstTwinPair room n a r) → TwinBack (c .below) r
-first-twin-back {room} {n} {a} c = twin-back (c .below) (c .result) (twin-small a room n (c .given))
+pub first-twin-back : {room m n : ℕ} {a : List Float} {r : ℕ} (c : FirstTwinPair room m n a r) → TwinBack (c .below) r
+first-twin-back {room} {m} {n} {a} c = twin-back (c .below) (c .result) (twin-small a room m n (c .given))

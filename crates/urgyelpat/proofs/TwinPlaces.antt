@@ -1,4 +1,4 @@
--- The rows and the places that `first_twin` answers. Assumes nothing.
+-- The rows and the places that `first_twin_since` answers. Assumes nothing.
 use mathlib.Core.Bool.{Bool, true, false, cond, not, _||_}
 use mathlib.Core.List.{List}
 use mathlib.Core.Path.{_≡_, refl, sym, subst, ap}
@@ -17,8 +17,8 @@ use Rattle.matrix.specs.Matrix.{Matrix}
 use Rattle.twins.specs.declared.Twin.{Twin}
 use Rattle.twins.specs.declared.Twin.the-variants.{Nothing, Pair, Refused}
 use Rattle.twins.specs.Sizes.{sizes}
-use Rattle.twins.specs.First.{First, FirstTwin, none, pair}
-use Rattle.urgyelpat.proofs.Within.{Within, within-none, within-test, right-false}
+use Rattle.twins.specs.First.{First, FirstTwinSince, none, pair}
+use Rattle.urgyelpat.proofs.Within.{Within, within-none, within-test, left-false, right-false}
 
 -- the first row of a pair, or the place of a refusal, is at most 1,024
 abbrev pub Small : Twin → Type 0
@@ -26,30 +26,33 @@ Small Nothing = Unit {0}
 Small (Pair p q) = p ≤ 1024
 Small (Refused r) = Within 1024 r
 
-sizes-within : (room n len : ℕ) → Within 1024 (sizes room n len)
-sizes-within room n len =
-    within-test 1024 (ltb 1024 room || ltb 1024 n) _ _ (λ e. within-none 1024)
-    (λ e. within-test 1024 (ltb room n) _ _ (λ f. within-none 1024) (λ f. within-test 1024 (not (eqb len (room * room))) MatrixLength Done (λ g. within-none 1024) (λ g. within-none 1024)))
+sizes-within : (room m n len : ℕ) → Within 1024 (sizes room m n len)
+sizes-within room m n len =
+    within-test 1024 (ltb 1024 room || ltb 1024 n || ltb 1024 m) _ _ (λ e. within-none 1024)
+    (λ e. within-test 1024 (ltb room n || ltb n m) _ _ (λ f. within-none 1024) (λ f. within-test 1024 (not (eqb len (room * room))) MatrixLength Done (λ g. within-none 1024) (λ g. within-none 1024)))
 
 -- a test that gives no code 1
 passes : (t : Bool) (r : Answer) → codeOf (cond t OutOfRange r) ≡ 0 → t ≡ false
 passes true r e = absurd (omega arith)
 passes false r e = refl
 
-order-small : (room n len : ℕ) → sizes room n len ≡ Done → n ≤ 1024
-order-small room n len done = ltb-false 1024 n (right-false (ltb 1024 room) (ltb 1024 n) (passes (ltb 1024 room || ltb 1024 n) _ (ap codeOf done)))
+order-small : (room m n len : ℕ) → sizes room m n len ≡ Done → n ≤ 1024
+order-small room m n len done =
+    ltb-false 1024 n
+    (right-false (ltb 1024 room) (ltb 1024 n)
+    (left-false (ltb 1024 room || ltb 1024 n) (ltb 1024 m) (passes (ltb 1024 room || ltb 1024 n || ltb 1024 m) _ (ap codeOf done))))
 
-first-small : {n : ℕ} {M : Matrix} {t : Twin} → n ≤ 1024 → First n M t → Small t
+first-small : {n : ℕ} {M : Matrix} {m : ℕ} {t : Twin} → n ≤ 1024 → First n M m t → Small t
 first-small small (none a) = tt
 first-small small (pair {p} {q} f) = let rows : p < q = f .apart in let last : q < _ = f .within in omega (arith, rows, last, small)
 
-pub twin-small : (l : List Float) (room n : ℕ) {t : Twin} → FirstTwin l room n t → Small t
-twin-small l room n {t} x = by (decLe (codeOf (sizes room n (length l))) 0)
+pub twin-small : (l : List Float) (room m n : ℕ) {t : Twin} → FirstTwinSince l room m n t → Small t
+twin-small l room m n {t} x = by (decLe (codeOf (sizes room m n (length l))) 0)
   where
-    by : Dec (codeOf (sizes room n (length l)) ≤ 0) → Small t
+    by : Dec (codeOf (sizes room m n (length l)) ≤ 0) → Small t
     by (yes zero) =
-        let done : sizes room n (length l) ≡ Done = done-only (sizes room n (length l)) (omega arith) in
-        first-small (order-small room n (length l) done) (x .found done)
+        let done : sizes room m n (length l) ≡ Done = done-only (sizes room m n (length l)) (omega arith) in
+        first-small (order-small room m n (length l) done) (x .found done)
     by (no code) =
-        let other : sizes room n (length l) ≡ Done → ⊥ = λ done. code (subst (λ (r : Answer). codeOf r ≤ 0) (sym done) (lit≤ tt)) in
-        subst Small (sym (x .refused other)) (sizes-within room n (length l))
+        let other : sizes room m n (length l) ≡ Done → ⊥ = λ done. code (subst (λ (r : Answer). codeOf r ≤ 0) (sym done) (lit≤ tt)) in
+        subst Small (sym (x .refused other)) (sizes-within room m n (length l))

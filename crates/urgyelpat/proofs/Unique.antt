@@ -10,7 +10,7 @@ use Rattle.lblt_solve.proofs.Once.{solved-once, determined-once, filled-once}
 use Rattle.cholesky.proofs.Promises.{extended-unique}
 use Rattle.cholesky.proofs.ReaderPromises.{determined-unique, copied-unique, unpacked-unique}
 use Rattle.udu.proofs.Unique as udu
-use Rattle.twins.proofs.Unique.{first-twin-unique}
+use Rattle.twins.proofs.Unique.{first-twin-since-unique}
 use Rattle.urgyelpat.specs.declared.Determined.{Determined}
 use Rattle.urgyelpat.specs.Passed.{Passed}
 use Rattle.urgyelpat.specs.Calls.{LbltFactor, LbltSolve, LbltDeterminant, LbltD, LbltLPermuted}
@@ -81,5 +81,5 @@ udu-factor-unique x y =
     let same = udu.factored-unique (x .given) (y .given) in
     (passed-same x y (same .answer), same .upper, same .diagonal)
 
-pub first-twin-pair-unique : {room n : ℕ} {a : List Float} {r s : ℕ} → FirstTwinPair room n a r → FirstTwinPair room n a s → r ≡ s
-first-twin-pair-unique {room} {n} {a} p q = passed-same p q (first-twin-unique a room n (p .given) (q .given))
+pub first-twin-pair-unique : {room m n : ℕ} {a : List Float} {r s : ℕ} → FirstTwinPair room m n a r → FirstTwinPair room m n a s → r ≡ s
+first-twin-pair-unique {room} {m} {n} {a} p q = passed-same p q (first-twin-since-unique a room m n (p .given) (q .given))

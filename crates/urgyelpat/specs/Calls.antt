@@ -11,7 +11,7 @@ use Rattle.lblt_solve.specs.Permuted.{lPermutedOf}
 use Rattle.cholesky.specs.Promise.{Extended}
 use Rattle.cholesky.specs.Readers as cholesky
 use Rattle.udu.specs.Promise as udu
-use Rattle.twins.specs.First.{FirstTwin}
+use Rattle.twins.specs.First.{FirstTwinSince}
 use Rattle.twins.specs.Number.{twinNumber}
 use Rattle.urgyelpat.specs.Passed.{Passed, determinedOf}
 use Rattle.urgyelpat.specs.declared.Determined.{Determined}
@@ -52,5 +52,5 @@ CholeskyDeterminant room n a r = Passed determinedOf (cholesky.Determined room n
 abbrev pub UduFactor : ℕ → List Float → List Float → List Float → ℕ → List Float → List Float → Type 0
 UduFactor n p u d r u' d' = Passed numberOf (λ (answer : Answer). udu.Factored p u d n answer u' d') r
 
-abbrev pub FirstTwinPair : ℕ → ℕ → List Float → ℕ → Type 0
-FirstTwinPair room n a r = Passed twinNumber (FirstTwin a room n) r
+abbrev pub FirstTwinPair : ℕ → ℕ → ℕ → List Float → ℕ → Type 0
+FirstTwinPair room earlier n a r = Passed twinNumber (FirstTwinSince a room earlier n) r

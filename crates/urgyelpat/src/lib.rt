@@ -120,7 +120,20 @@ pub extern "C" fn urgyelpat_udu_factor(p: &[f64], u: &mut [f64], d: &mut [f64], 
 // 0 for no twins, (4,096 + q)·4,096 + p for the rows p < q, or a refusal.
 #[no_mangle]
 pub extern "C" fn urgyelpat_first_twin(a: &[f64], room: usize, n: usize) -> u64
-    ensures { λ r. ⌜ FirstTwinPair room n (now (a .entry)) r ⌝ }
+    ensures { λ r. ⌜ FirstTwinPair room 0 n (now (a .entry)) r ⌝ }
 {
     twins::first_twin(a, room, n).number()
+}
+
+// The same of the pairs whose second row is at or after `earlier`.
+#[no_mangle]
+pub extern "C" fn urgyelpat_first_twin_since(
+    a: &[f64],
+    room: usize,
+    earlier: usize,
+    n: usize,
+) -> u64
+    ensures { λ r. ⌜ FirstTwinPair room earlier n (now (a .entry)) r ⌝ }
+{
+    twins::first_twin_since(a, room, earlier, n).number()
 }

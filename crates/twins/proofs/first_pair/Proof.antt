@@ -3,37 +3,37 @@ use Prim.Native.Nat.{_-_}
 use native.Mathlib.Omega.{arith}
 use Rattle.matrix.specs.Grid.{load}
 use Rattle.matrix.specs.Layouts.{lower}
-use Rattle.twins.proofs.Search.{Below, below-start, below-next, below-found, below-all}
+use Rattle.twins.proofs.Search.{Between, between-start, between-next, between-found, between-all}
 use borrow.Author.Needs.{needs}
 use Rattle.twins.proofs.first_pair.Statement.{statement}
 use Rattle.twins.proofs.first_pair.Tie as tie
 
 abbrev Inv-loop : tie.InvT-loop
-Inv-loop y a marks n q₀ q = Below (y .order) (load (lower y) a) q
+Inv-loop y a marks earlier n q₀ q = Between (y .order) (load (lower y) a) earlier q
 
 abbrev μ-loop : tie.MeasureT-loop
-μ-loop y a marks n q₀ q = y .order - q
+μ-loop y a marks earlier n q₀ q = y .order - q
 
 mark-rows-requires : tie.Need-mark-rows-requires Inv-loop μ-loop
 mark-rows-requires c κs = search needs
 
 loop-holds : tie.Need-loop-holds Inv-loop μ-loop
-loop-holds c = below-start
+loop-holds c = between-start (search needs)
 
 first-before-requires : tie.Need-first-before-requires Inv-loop μ-loop
 first-before-requires c κs = (c .before .before .before .before .before .before .before .before .before .pre .0, (c .before .before .before .before .before .before .before .before .before .pre .1 .0, (omega (arith, c .before .before .before .before .before .mark-rows .kept .1 .1 .0), (c .before .before .before .before .before .mark-rows .ensures, search needs))))
 
-cast-t13 : tie.Need-cast-t13 Inv-loop μ-loop
-cast-t13 c = search needs
-
 cast-t14 : tie.Need-cast-t14 Inv-loop μ-loop
 cast-t14 c = search needs
+
+cast-t15 : tie.Need-cast-t15 Inv-loop μ-loop
+cast-t15 c = search needs
 
 same-length : tie.Need-same-length Inv-loop μ-loop
 same-length c = search needs
 
 returns : tie.Need-returns Inv-loop μ-loop
-returns c = below-found (c .before .before .before .before .loop .inv) (search needs) (c .before .first-before .ensures) (search needs)
+returns c = between-found (c .before .before .before .before .loop .inv) (search needs) (c .before .first-before .ensures) (search needs)
 
 add-q : tie.Need-add-q Inv-loop μ-loop
 add-q c = search needs
@@ -42,13 +42,13 @@ loop-less : tie.Need-loop-less Inv-loop μ-loop
 loop-less c = search needs
 
 loop-again : tie.Need-loop-again Inv-loop μ-loop
-loop-again c = below-next (c .before .before .before .before .loop .inv) (search needs) (c .before .first-before .ensures) (search needs)
+loop-again c = between-next (c .before .before .before .before .loop .inv) (search needs) (c .before .first-before .ensures) (search needs)
 
 same-length-2 : tie.Need-same-length-2 Inv-loop μ-loop
 same-length-2 c = search needs
 
 returns-2 : tie.Need-returns-2 Inv-loop μ-loop
-returns-2 c = below-all (c .before .loop .inv) (search needs)
+returns-2 c = between-all (c .before .loop .inv) (search needs)
 
 pub first-pair-spec : {M : Type 1} → statement M
 first-pair-spec =
@@ -59,8 +59,8 @@ first-pair-spec =
     mark-rows-requires
     loop-holds
     first-before-requires
-    cast-t13
     cast-t14
+    cast-t15
     same-length
     returns
     add-q

@@ -1,44 +1,40 @@
 -- `mark_rows` meets its contract. Assumes nothing.
+use mathlib.Core.Path.{refl, _∙_}
 use Prim.Native.Nat.{_-_}
+use native.Mathlib.Omega.{arith}
 use Rattle.matrix.specs.Grid.{load}
 use Rattle.matrix.specs.Layouts.{lower}
-use Rattle.twins.proofs.Marks.{Marking, marking-none, marking-more, marking-all}
+use Rattle.twins.proofs.Marks.{Columns, brought-none, brought-all}
 use borrow.Author.Needs.{needs}
 use Rattle.twins.proofs.mark_rows.Statement.{statement}
 use Rattle.twins.proofs.mark_rows.Tie as tie
 
 abbrev Inv-loop : tie.InvT-loop
-Inv-loop y a marks₀ n i₀ marks i = Marking (y .order) (load (lower y) a) marks₀ i marks
+Inv-loop y a marks₀ n c₀ marks c = Columns (y .order) (load (lower y) a) marks₀ c marks
 
 abbrev μ-loop : tie.MeasureT-loop
-μ-loop y a marks₀ n i₀ marks i = y .order - i
+μ-loop y a marks₀ n c₀ marks c = y .order - c
 
 loop-holds : tie.Need-loop-holds Inv-loop μ-loop
-loop-holds c = marking-none
+loop-holds c = record { upto = omega arith; long = refl; brought = brought-none (c .before .before .pre .1 .1 .1) }
 
-mark-row-requires : tie.Need-mark-row-requires Inv-loop μ-loop
-mark-row-requires c κs = search needs
+mark-column-requires : tie.Need-mark-column-requires Inv-loop μ-loop
+mark-column-requires c κs = (c .before .before .before .before .before .pre .0, (c .before .before .before .before .before .pre .1 .0, (omega (arith, c .before .before .loop .inv .long, c .before .before .before .before .before .pre .1 .1 .0), (c .before .loop-test .taken, c .before .before .loop .inv .brought))))
 
-mul-marks : tie.Need-mul-marks Inv-loop μ-loop
-mul-marks c = search needs
-
-slice-write-marks : tie.Need-slice-write-marks Inv-loop μ-loop
-slice-write-marks c = search needs
-
-add-i : tie.Need-add-i Inv-loop μ-loop
-add-i c = search needs
+add-c : tie.Need-add-c Inv-loop μ-loop
+add-c c = search needs
 
 loop-less : tie.Need-loop-less Inv-loop μ-loop
 loop-less c = search needs
 
 loop-again : tie.Need-loop-again Inv-loop μ-loop
-loop-again c = marking-more (search needs) (c .before .before .loop .inv) (search needs) (c .mark-row .ensures)
+loop-again c = search needs
 
 same-length : tie.Need-same-length Inv-loop μ-loop
 same-length c = search needs
 
 returns : tie.Need-returns Inv-loop μ-loop
-returns c = marking-all (c .before .loop .inv) (search needs)
+returns c = brought-all (c .before .loop .inv .brought) (c .loop-test .left)
 
 pub mark-rows-spec : {M : Type 1} → statement M
 mark-rows-spec =
@@ -47,10 +43,8 @@ mark-rows-spec =
     Inv-loop
     μ-loop
     loop-holds
-    mark-row-requires
-    mul-marks
-    slice-write-marks
-    add-i
+    mark-column-requires
+    add-c
     loop-less
     loop-again
     same-length

@@ -1,0 +1,18 @@
+-- `first_of_many` meets its contract. Assumes nothing.
+use native.Mathlib.Omega.{arith}
+use Rattle.twins.proofs.Marks.{cleared}
+use borrow.Author.Needs.{needs}
+use Rattle.twins.proofs.first_of_many.Statement.{statement}
+use Rattle.twins.proofs.first_of_many.Tie as tie
+
+slice-aggregate-first-pair : tie.Need-slice-aggregate-first-pair
+slice-aggregate-first-pair c = search needs
+
+first-pair-requires : tie.Need-first-pair-requires
+first-pair-requires c κs = (c .before .before .pre .0, (c .before .before .pre .1 .0, (omega (arith, c .before .before .pre .0 .ordered, c .before .before .pre .0 .small), (cleared 1024 _ (omega (arith, c .before .before .pre .0 .ordered, c .before .before .pre .0 .small)), c .before .before .pre .1 .1))))
+
+returns : tie.Need-returns
+returns c = search needs
+
+pub first-of-many-spec : {M : Type 1} → statement M
+first-of-many-spec = tie.close (tie.spec slice-aggregate-first-pair first-pair-requires returns)
