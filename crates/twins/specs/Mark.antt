@@ -8,8 +8,14 @@ use Rattle.matrix.specs.Matrix.{Matrix}
 use Rattle.matrix.specs.Loop.{for}
 use Rattle.twins.specs.Twins.{symmetric}
 
+-- 64 bits turned by 23
+unfoldable pub turned : ℕ → ℕ
+turned x = x % 2 ^ 41 * 2 ^ 23 + x / 2 ^ 41
+
+-- three times the mark, turned, and the bits of one entry more
 unfoldable pub mixed : ℕ → ℕ → ℕ
-mixed mark bits = (mark + bits) % 2 ^ 64 % 2 ^ 32 * 4294967118 + (mark + bits) % 2 ^ 64 / 2 ^ 32
+unfolding turned
+mixed mark bits = (turned (((mark + mark) % 2 ^ 64 + mark) % 2 ^ 64) + bits) % 2 ^ 64
 
 unfoldable pub mixEntry : Matrix → ℕ → ℕ → ℕ → ℕ
 unfolding mixed symmetric

@@ -58,8 +58,10 @@ fn entry_bits(y: Layout, a: &[f64], i: usize, j: usize) -> u64
 fn mix(mark: u64, bits: u64) -> u64
     ensures { λ r. ⌜ r ≡ mixed mark bits ⌝ }
 {
-    let sum = std::num::wrapping_add_u64(mark, bits);
-    sum % 0x1_0000_0000 * 4294967118 + sum / 0x1_0000_0000
+    let twice = std::num::wrapping_add_u64(mark, mark);
+    let thrice = std::num::wrapping_add_u64(twice, mark);
+    let turned = thrice % 0x200_0000_0000 * 0x80_0000 + thrice / 0x200_0000_0000;
+    std::num::wrapping_add_u64(turned, bits)
 }
 
 // Column c brings entry (i, c) to row i at its place c and to row c at its place i. The rows before c are whole.
