@@ -17,7 +17,7 @@ use Rattle.lblt_solve.specs.Diagonal.{determinantOf}
 use Rattle.cholesky.specs.Run.{Outcome, run}
 use Rattle.cholesky.specs.Crate.{crateRule}
 use Rattle.udu.specs.Columns.{Run, run as uduRun}
-use Rattle.udu.specs.Promise.{answerOf, foundOf}
+use Rattle.udu.specs.Promise.{answerOf, foundOf, uduOf as uduPromised}
 
 abbrev pub Rows : Type 0
 Rows = List (List ℕ)
@@ -101,9 +101,16 @@ unfoldable pub diagonalBits : (ℕ → Float) → ℕ → List ℕ
 diagonalBits d zero = []
 diagonalBits d (suc c) = diagonalBits d c ++ (toBits binary64 (d c) ∷ [])
 
+-- the answer, the last column of u, and d
+unfoldable pub runBits : ℕ → Run → List ℕ
+runBits n R = answered (answerOf R) ++ (lastBits (foundOf R .u) (n - 1) n ++ diagonalBits (foundOf R .d) n)
+
 unfoldable pub uduGives : Rows → List ℕ
-uduGives rows =
-    answered (answerOf (uduOf rows)) ++ (lastBits (foundOf (uduOf rows) .u) (length rows - 1) (length rows) ++ diagonalBits (foundOf (uduOf rows) .d) (length rows))
+uduGives rows = runBits (length rows) (uduOf rows)
+
+-- the same by the upper part of a slice of order n, column by column
+unfoldable pub uduOfSlice : ℕ → List ℕ → List ℕ
+uduOfSlice n slice = runBits n (uduPromised n (floats slice))
 
 unfoldable pub rootBits : ℕ → List ℕ
 rootBits b = toBits binary64 (rootOf (ofBits binary64 b)) ∷ []

@@ -1,12 +1,16 @@
--- Twin rows, worked: [x / x x] for x = 1, 2, 3, 7, 49, by each factor.
+-- Twin rows, worked: [x / x x] for x = 1, 2, 3, 7, 49, by each factor; two more by UDU.
 use mathlib.Core.List.{List, [], _∷_}
 use Prim.Native.Nat.{ℕ}
-use Rattle.cases.specs.Read.{Rows, lbltOf, choleskyOf, uduGives}
+use Rattle.cases.specs.Read.{Rows, lbltOf, choleskyOf, uduGives, uduOfSlice}
 use Rattle.cases.specs.Table.{Case, _⇒_}
 
 -- [x / x x]
 abbrev pub twins : ℕ → Rows
 twins x = (x ∷ []) ∷ (x ∷ x ∷ []) ∷ []
+
+-- a slice of order 2, 1 and 0 in column 0, 1 and 1 in column 1: the rows are twins by the upper part, not by the lower
+abbrev pub upperTwins : List ℕ
+upperTwins = 0x3ff0_0000_0000_0000 ∷ 0 ∷ 0x3ff0_0000_0000_0000 ∷ 0x3ff0_0000_0000_0000 ∷ []
 
 -- LBLT: the record, then the factor. Cholesky: the answer, then the factor. UDU: the answer, u(0,1), u(1,1), then d.
 abbrev pub twinTable : List Case
@@ -31,4 +35,8 @@ twinTable =
     ∷ (lbltOf (twins 0x4048_8000_0000_0000) ⇒ 0 ∷ 1 ∷ 1 ∷ 1 ∷ 0 ∷ 0x4048_8000_0000_0000 ∷ 0x3fef_ffff_ffff_ffff ∷ 0x3d00_0000_0000_0000 ∷ [])
     ∷ (choleskyOf (twins 0x4048_8000_0000_0000) ⇒ 7 ∷ 1 ∷ 0x401c_0000_0000_0000 ∷ 0x401c_0000_0000_0000 ∷ 0 ∷ [])
     ∷ (uduGives (twins 0x4048_8000_0000_0000) ⇒ 0 ∷ 0 ∷ 0x3fef_ffff_ffff_ffff ∷ 0x3fef_ffff_ffff_ffff ∷ 0x3d10_0000_0000_0000 ∷ 0x4048_8000_0000_0000 ∷ [])
+    -- x = 0006200000000000, below the normal numbers: (1/x)·x, which is u(0,1), is not 1, and what is left is zero all the same
+    ∷ (uduGives (twins 0x0006_2000_0000_0000) ⇒ 8 ∷ 0 ∷ 0x3fef_ffff_ffff_ffff ∷ 0x3fef_ffff_ffff_ffff ∷ 0 ∷ 0x0006_2000_0000_0000 ∷ [])
+    -- twins by the upper part alone
+    ∷ (uduOfSlice 2 upperTwins ⇒ 8 ∷ 0 ∷ 0x3ff0_0000_0000_0000 ∷ 0x3ff0_0000_0000_0000 ∷ 0 ∷ 0x3ff0_0000_0000_0000 ∷ [])
     ∷ []

@@ -2,6 +2,7 @@ pub mod Products
 pub mod Exact
 pub mod Share
 pub mod Udu
+pub mod UduLastTwo
 pub mod Cholesky
 pub mod Lblt
 pub mod Pair

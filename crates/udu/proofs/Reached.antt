@@ -2,6 +2,7 @@
 --     reached-none          before the last column
 --     reached, stopped      after column j, accepted or refused
 --     columned-all          after the first column
+--     refused-stays         a refusal stands
 -- Assumes nothing.
 use mathlib.Core.Bool.{true, false}
 use mathlib.Core.List.{List}
@@ -46,8 +47,7 @@ columned-all {P} {n} {u} {d} r = record { answer = ap answerOf (sym whole); slic
     whole : run P n n ≡ accepted (r .found)
     whole = ap (run P n) (let all : n ≡ n - 0 = omega arith in all) ∙ r .is
 
--- a refusal stands
-refused-stays : (P : Matrix) (n t s j : ℕ) (F : Found) → run P n t ≡ refused j F → run P n (t + s) ≡ refused j F
+pub refused-stays : (P : Matrix) (n t s j : ℕ) (F : Found) → run P n t ≡ refused j F → run P n (t + s) ≡ refused j F
 unfolding run column
 refused-stays P n t zero j F e = ap (run P n) (let none : t + 0 ≡ t = omega arith in none) ∙ e
 refused-stays P n t (suc s) j F e =

@@ -1,6 +1,6 @@
 -- The promise of `factor` by the ways out of it. Assumes nothing.
 --     refused-high, .. -diagonal    the sizes are wrong: nothing is written
---     factored                      the sizes are right
+--     sized, factored               the sizes are right
 use mathlib.Core.List.{List}
 use mathlib.Core.Path.{_≡_, refl, sym, ap, subst}
 use Prim.Native.Nat.{ℕ, _*_, _≤_, _<_}
@@ -44,7 +44,7 @@ module _ (p u d : List Float) (n : ℕ) where
       refused-diagonal long upper short =
           refused (rw (le-ltb 1024 n low, ne-eqb n 0 some, eq-eqb (length p) (n * n) long, eq-eqb (length u) (n * n) upper, ne-eqb (length d) n short))
 
-      sized : length p ≡ n * n → length u ≡ n * n → length d ≡ n → sizesOf n (length p) (length u) (length d) ≡ right
+      pub sized : length p ≡ n * n → length u ≡ n * n → length d ≡ n → sizesOf n (length p) (length u) (length d) ≡ right
       unfolding sizesOf
       sized long upper short =
           rw (le-ltb 1024 n low, ne-eqb n 0 some, eq-eqb (length p) (n * n) long, eq-eqb (length u) (n * n) upper, eq-eqb (length d) n short)
