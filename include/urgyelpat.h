@@ -5,7 +5,7 @@
  *
  * MATRICES are lent and stand column by column: entry (i, j), row i and column j counted from 0, of an n-by-n matrix is at
  * i + j*n. A Cholesky matrix stands in a room s, at i + j*s; what is outside the first n rows and columns is kept. Of a
- * symmetric matrix LBLT, Cholesky and `urgyelpat_first_twin` look at the entries with i >= j alone, UDU at those with i <= j.
+ * symmetric matrix LBLT, Cholesky and the search for twins look at the entries with i >= j alone, UDU at those with i <= j.
  * The others are neither read nor written, except where a call is said to fill a whole matrix.
  *
  * SLICES. Every slice is a pointer and then its length, counted in numbers and not in bytes. What is asked of a caller:
@@ -25,7 +25,8 @@
  *   0 URGYELPAT_DONE             the result stands in the buffers                              0
  *   1 URGYELPAT_OUT_OF_RANGE     an order, room or column count is above 1024, or UDU has      0
  *                                order 0
- *   2 URGYELPAT_ORDER_ABOVE_ROOM Cholesky: order above room, or earlier order above order      0
+ *   2 URGYELPAT_ORDER_ABOVE_ROOM an order is above its room, or an earlier order above the     0
+ *                                order
  *   3 URGYELPAT_MATRIX_LENGTH    the first matrix has the wrong length                         0
  *   4 URGYELPAT_SLICE_LENGTH     another slice has the wrong length                            0
  *   5 URGYELPAT_BAD_RECORD       the pivot record breaks its rule                              the row, or n for its mark
@@ -120,6 +121,7 @@ URGYELPAT_MUST_USE uint64_t urgyelpat_cholesky_factor(double *a, size_t a_length
 /* Takes the first `earlier` rows as factored and factors the rows earlier to n - 1 in place, so that the batches of a matrix
  * give what one call on the whole gives, to the bit, and are refused at the same row.
  * After 7 at column j (earlier <= j): the rows from `earlier` on are left as by the factor call, the rows before as they were.
+ * A row that came twice is often not refused: ask urgyelpat_first_twin_since first.
  * Answers 0, 1, 2, 3 (a), 7. */
 URGYELPAT_MUST_USE uint64_t urgyelpat_cholesky_extend(double *a, size_t a_length, size_t room, size_t earlier, size_t n);
 
@@ -145,14 +147,22 @@ URGYELPAT_MUST_USE urgyelpat_determined urgyelpat_cholesky_determinant(const dou
 URGYELPAT_MUST_USE uint64_t urgyelpat_udu_factor(const double *p, size_t p_length, double *u, size_t u_length, double *d,
                                                  size_t d_length, size_t n);
 
-/* ---- Twins: a row that came twice ---- */
+/* ---- Twins: a row that came twice ----
+ *
+ * Ask for twins of the rows as they came, in a buffer of their own that is never factored. NEVER ask of a buffer that holds a
+ * factor, even if its last rows are still as they came: there twins are missed, and others invented. */
 
 /* Looks for twin rows p < q among the first n rows of the symmetric matrix whose lower part stands in a (room*room numbers):
  * the same numbers bit for bit, NaN equal to NaN. Finds the pair with the least q, and then the least p. Writes nothing.
  * Answers 0 for no twins, (4096 + q) * 4096 + p for a pair, and refuses by 1, 2, 3 (a). */
 URGYELPAT_MUST_USE uint64_t urgyelpat_first_twin(const double *a, size_t a_length, size_t room, size_t n);
 
-/* Whether an answer of urgyelpat_first_twin is a pair, and if so its rows p and q. */
+/* The same among the pairs with earlier <= q alone: asked before a batch of rows earlier to n - 1 is factored, it finds what
+ * the batch brings, and not again what was kept before it. (urgyelpat_first_twin is this from 0.) Writes nothing.
+ * Answers 0 for no twins, (4096 + q) * 4096 + p for a pair, and refuses by 1, 2, 3 (a). */
+URGYELPAT_MUST_USE uint64_t urgyelpat_first_twin_since(const double *a, size_t a_length, size_t room, size_t earlier, size_t n);
+
+/* Whether an answer of these two is a pair, and if so its rows p and q. */
 static inline int urgyelpat_is_pair(uint64_t answer) { return urgyelpat_code(answer) >= 4096u; }
 static inline uint32_t urgyelpat_twin_p(uint64_t answer) { return urgyelpat_place(answer); }
 static inline uint32_t urgyelpat_twin_q(uint64_t answer) { return urgyelpat_code(answer) - 4096u; }

@@ -1,8 +1,8 @@
-//! Solves a system by LBLT, and grows a Cholesky by a batch that came twice: `cargo run --example solve`.
+//! Solves a system by LBLT, and grows a Cholesky by batches of which one came twice: `cargo run --example solve`.
 
-use urgyelpat::{first_twin, Cholesky, Refusal, LBLT};
+use urgyelpat::{first_twin, BatchRefusal, Cholesky, LBLT};
 
-fn main() -> Result<(), Refusal> {
+fn main() -> Result<(), BatchRefusal> {
     // the symmetric matrix 4 2 / 2 3, column by column; above the diagonal nothing is read
     let matrix = vec![4.0, 2.0, 0.0, 3.0];
     if let Some(twins) = first_twin(&matrix, 2, 2)? {
@@ -14,9 +14,14 @@ fn main() -> Result<(), Refusal> {
 
     let mut batches = Cholesky::default();
     batches.extend(&[4.0])?; // row 0
-    batches.extend(&[2.0, 5.0])?; // row 1, up to its diagonal
-    if let Err(refusal) = batches.extend(&[2.0, 5.0, 5.0]) {
-        println!("refused, code {} at {}: {refusal}", refusal.code(), refusal.place());
+    batches.extend(&[2.0, 3.0])?; // row 1, up to its diagonal
+    let mut batch = vec![2.0, 3.0, 3.0, 2.0, 1.0, 1.0, 10.0]; // row 1 once more, as row 2, and row 3
+    while let Err(refusal) = batches.extend(&batch) {
+        println!("refused: {refusal}");
+        match refusal {
+            BatchRefusal::Twins(twins) => batch = batches.batch_without(&batch, twins.q)?,
+            BatchRefusal::Refused(_) => return Err(refusal),
+        }
     }
     println!("{} rows stand, l = {:?}", batches.order(), batches.l());
     Ok(())

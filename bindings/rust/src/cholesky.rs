@@ -2,7 +2,12 @@
 //!
 //! The matrix stands in a room s: s·s numbers, entry (i, j) at `i + j * s`, of which the first n rows and columns count.
 
+use std::error::Error;
+use std::fmt;
+use std::ops::Range;
+
 use crate::refusal::{done, value, Refusal};
+use crate::twins::{first_twin, first_twin_since, Twins};
 use crate::{ffi, kept, LARGEST};
 
 /// Factors the first n rows and columns of the lower part of `a` (room·room numbers) in place.
@@ -26,6 +31,7 @@ pub fn factor(a: &mut [f64], room: usize, n: usize) -> Result<(), Refusal> {
 ///
 /// The batches of a matrix give what one call on the whole gives, to the bit, and are refused at the same row. Refused as
 /// [`factor`] is, by [`NotPositive`](Refusal::NotPositive) at a column from `earlier` on; the rows before are left alone.
+/// A row that came twice is often not refused: ask [`first_twin_since`] first, of the rows as they came and not of `a`.
 ///
 /// ```
 /// use urgyelpat::{cholesky, Refusal};
@@ -87,10 +93,39 @@ pub fn determinant(a: &[f64], room: usize, n: usize) -> Result<f64, Refusal> {
     value(unsafe { ffi::urgyelpat_cholesky_determinant(a.as_ptr(), a.len(), room, n) })
 }
 
-/// A factored positive matrix that grows by batches of rows.
+/// Why a batch of rows was not taken.
+#[derive(Clone, Copy, Debug, PartialEq, Eq, Hash)]
+pub enum BatchRefusal {
+    /// The batch brings a row that has come already: row q is one of the batch, and row p one before it.
+    Twins(Twins),
+    /// The sizes do not fit, or the rows cannot be factored.
+    Refused(Refusal),
+}
+
+impl From<Refusal> for BatchRefusal {
+    fn from(refusal: Refusal) -> BatchRefusal {
+        BatchRefusal::Refused(refusal)
+    }
+}
+
+impl fmt::Display for BatchRefusal {
+    fn fmt(&self, f: &mut fmt::Formatter<'_>) -> fmt::Result {
+        match *self {
+            BatchRefusal::Twins(Twins { p, q }) => write!(
+                f,
+                "row {q} is row {p} again, number for number: its batch came twice, or its point was entered twice. Leave row {q} out and hand in the rest; insist only if both rows are meant"
+            ),
+            BatchRefusal::Refused(refusal) => refusal.fmt(f),
+        }
+    }
+}
+
+impl Error for BatchRefusal {}
+
+/// A factored positive matrix that grows by batches of rows, and takes no row twice unless the caller insists.
 ///
 /// ```
-/// use urgyelpat::{Cholesky, Refusal};
+/// use urgyelpat::{BatchRefusal, Cholesky, Refusal};
 ///
 /// let mut factor = Cholesky::default();
 /// factor.extend(&[4.0])?; // row 0
@@ -99,13 +134,45 @@ pub fn determinant(a: &[f64], room: usize, n: usize) -> Result<f64, Refusal> {
 /// assert_eq!(factor.determinant(), 64.0);
 ///
 /// // a batch that is refused leaves the factor as it was
-/// assert_eq!(factor.extend(&[6.0, 5.0, 14.0, 14.0]), Err(Refusal::NotPositive { column: 3 }));
+/// let refused = factor.extend(&[6.0, 5.0, 14.0, 13.0]);
+/// assert_eq!(refused, Err(BatchRefusal::Refused(Refusal::NotPositive { column: 3 })));
 /// assert_eq!(factor.order(), 3);
-/// # Ok::<(), Refusal>(())
+/// # Ok::<(), BatchRefusal>(())
+/// ```
+///
+/// # Rows that came twice
+///
+/// The factor does not notice them reliably, and cannot be asked: its rows are not those that came. So the rows are kept as
+/// they came, in as much memory again, and are [asked for twins](first_twin_since) before a batch is factored: rows that are
+/// the same as far as the matrix has come. A batch that brings a twin is refused with the pair, and the caller leaves the row
+/// out or [insists](Cholesky::extend_insisting). A batch that brings several is handed in again until it is taken:
+///
+/// ```
+/// use urgyelpat::{BatchRefusal, Cholesky, Twins};
+///
+/// let mut factor = Cholesky::default();
+/// factor.extend(&[2.0, 1.0, 3.0])?; // rows 0 and 1
+///
+/// let mut batch = vec![2.0, 1.0, 2.0, 1.0, 3.0, 1.0, 3.0]; // the same two once more, as rows 2 and 3
+/// let mut told = vec![];
+/// while let Err(refusal) = factor.extend(&batch) {
+///     match refusal {
+///         BatchRefusal::Twins(twins) => {
+///             told.push(twins);
+///             batch = factor.batch_without(&batch, twins.q)?;
+///         }
+///         BatchRefusal::Refused(_) => return Err(refusal),
+///     }
+/// }
+/// assert_eq!(told, [Twins { p: 0, q: 2 }, Twins { p: 1, q: 2 }]);
+/// assert_eq!((batch.len(), factor.order()), (0, 2));
+/// # Ok::<(), BatchRefusal>(())
 /// ```
 #[derive(Clone, Debug, Default)]
 pub struct Cholesky {
-    buffer: Vec<f64>,
+    /// The rows as they came, in a room like the factor's; never factored.
+    came: Vec<f64>,
+    factor: Vec<f64>,
     room: usize,
     order: usize,
 }
@@ -116,21 +183,42 @@ const OWN: &str = "an own factor's sizes are accepted";
 impl Cholesky {
     /// Factors a matrix of order n, n·n numbers, of which the lower part is read.
     ///
+    /// Refused by [`OutOfRange`](Refusal::OutOfRange) and [`MatrixLength`](Refusal::MatrixLength), with the
+    /// [first twins](first_twin) of the matrix, and by [`NotPositive`](Refusal::NotPositive).
+    ///
+    /// ```
+    /// use urgyelpat::{BatchRefusal, Cholesky, Twins};
+    ///
+    /// assert_eq!(Cholesky::new(vec![4.0, 2.0, 0.0, 5.0], 2)?.l(), [2.0, 1.0, 0.0, 2.0]);
+    /// let refused = Cholesky::new(vec![2.0, 2.0, 0.0, 2.0], 2);
+    /// assert_eq!(refused.unwrap_err(), BatchRefusal::Twins(Twins { p: 0, q: 1 }));
+    /// # Ok::<(), BatchRefusal>(())
+    /// ```
+    pub fn new(matrix: Vec<f64>, n: usize) -> Result<Cholesky, BatchRefusal> {
+        match first_twin(&matrix, n, n)? {
+            Some(twins) => Err(BatchRefusal::Twins(twins)),
+            None => Ok(Cholesky::new_insisting(matrix, n)?),
+        }
+    }
+
+    /// [`new`](Cholesky::new) for a matrix that may have twins: they are not looked for.
+    ///
     /// Refused by [`OutOfRange`](Refusal::OutOfRange), [`MatrixLength`](Refusal::MatrixLength) and
-    /// [`NotPositive`](Refusal::NotPositive).
+    /// [`NotPositive`](Refusal::NotPositive), which meets some twins and lets others through.
     ///
     /// ```
     /// use urgyelpat::{Cholesky, Refusal};
     ///
-    /// assert_eq!(Cholesky::new(vec![4.0, 2.0, 0.0, 5.0], 2)?.l(), [2.0, 1.0, 0.0, 2.0]);
-    /// let twins = Cholesky::new(vec![1.0, 1.0, 0.0, 1.0], 2);
-    /// assert_eq!(twins.unwrap_err(), Refusal::NotPositive { column: 1 });
-    /// # Ok::<(), Refusal>(())
+    /// let refused = Cholesky::new_insisting(vec![1.0, 1.0, 0.0, 1.0], 2);
+    /// assert_eq!(refused.unwrap_err(), Refusal::NotPositive { column: 1 });
+    /// assert!(Cholesky::new_insisting(vec![2.0, 2.0, 0.0, 2.0], 2).is_ok());
     /// ```
-    pub fn new(mut matrix: Vec<f64>, n: usize) -> Result<Cholesky, Refusal> {
-        factor(&mut matrix, n, n)?;
+    pub fn new_insisting(matrix: Vec<f64>, n: usize) -> Result<Cholesky, Refusal> {
+        let mut factored = matrix.clone();
+        factor(&mut factored, n, n)?;
         Ok(Cholesky {
-            buffer: matrix,
+            came: matrix,
+            factor: factored,
             room: n,
             order: n,
         })
@@ -140,7 +228,12 @@ impl Cholesky {
     pub fn with_room(room: usize) -> Result<Cholesky, Refusal> {
         let mut buffer = vec![0.0; kept(room) * kept(room)];
         factor(&mut buffer, room, 0)?;
-        Ok(Cholesky { buffer, room, order: 0 })
+        Ok(Cholesky {
+            came: buffer.clone(),
+            factor: buffer,
+            room,
+            order: 0,
+        })
     }
 
     /// The number of rows.
@@ -155,23 +248,93 @@ impl Cholesky {
 
     /// Adds a batch of rows, end to end, each up to its diagonal: row i has i + 1 numbers. Takes more room where it must.
     ///
-    /// The factor is then the one that [`new`](Cholesky::new) gives for the whole matrix, to the bit. Refused by
-    /// [`OutOfRange`](Refusal::OutOfRange), by [`SliceLength`](Refusal::SliceLength) if the last row is not whole, and by
-    /// [`NotPositive`](Refusal::NotPositive); the factor is then as it was, without any row of the batch.
-    pub fn extend(&mut self, rows: &[f64]) -> Result<(), Refusal> {
+    /// The factor is then the one that a single call gives for the whole matrix, to the bit. Refused by
+    /// [`OutOfRange`](Refusal::OutOfRange), by [`SliceLength`](Refusal::SliceLength) if the last row is not whole, with the
+    /// [first twins](first_twin_since) that the batch brings, and by [`NotPositive`](Refusal::NotPositive). The factor and the
+    /// rows are then as they were, without any row of the batch, and only the room may be larger.
+    ///
+    /// ```
+    /// use urgyelpat::{BatchRefusal, Cholesky, Twins};
+    ///
+    /// let mut factor = Cholesky::default();
+    /// factor.extend(&[2.0])?;
+    /// assert_eq!(factor.extend(&[2.0, 2.0]), Err(BatchRefusal::Twins(Twins { p: 0, q: 1 })));
+    /// factor.extend(&[1.0, 3.0])?;
+    /// assert_eq!(factor.order(), 2);
+    /// # Ok::<(), BatchRefusal>(())
+    /// ```
+    pub fn extend(&mut self, rows: &[f64]) -> Result<(), BatchRefusal> {
+        let n = self.place(rows)?;
+        match first_twin_since(&self.came, self.room, self.order, n)? {
+            Some(twins) => Err(BatchRefusal::Twins(twins)),
+            None => Ok(self.factor_up_to(n)?),
+        }
+    }
+
+    /// [`extend`](Cholesky::extend) for a batch that may bring twins: they are not looked for, and a pair that was taken is
+    /// not told with later batches.
+    ///
+    /// Refused by [`OutOfRange`](Refusal::OutOfRange), [`SliceLength`](Refusal::SliceLength) and
+    /// [`NotPositive`](Refusal::NotPositive), which meets some twins and lets others through.
+    ///
+    /// ```
+    /// let mut factor = urgyelpat::Cholesky::default();
+    /// factor.extend(&[2.0])?;
+    /// factor.extend_insisting(&[2.0, 2.0])?; // row 0 again
+    /// factor.extend(&[1.0, 1.0, 3.0])?;
+    /// assert_eq!(factor.order(), 3);
+    /// # Ok::<(), urgyelpat::BatchRefusal>(())
+    /// ```
+    pub fn extend_insisting(&mut self, rows: &[f64]) -> Result<(), Refusal> {
+        let n = self.place(rows)?;
+        self.factor_up_to(n)
+    }
+
+    /// A batch for [`extend`](Cholesky::extend) without its row q: row q is left out, and so is entry q of each row after it.
+    /// Rows are counted in the whole matrix, as in [`Twins`]; those after q have one index less.
+    ///
+    /// Refused by [`OutOfRange`](Refusal::OutOfRange) as the batch itself is, and by [`SliceLength`](Refusal::SliceLength) if
+    /// its last row is not whole or row q is none of its rows.
+    ///
+    /// ```
+    /// use urgyelpat::{Cholesky, Refusal};
+    ///
+    /// let mut factor = Cholesky::default();
+    /// factor.extend(&[4.0])?;
+    /// let batch = [2.0, 5.0, 6.0, 7.0, 14.0]; // rows 1 and 2
+    /// assert_eq!(factor.batch_without(&batch, 1)?, [6.0, 14.0]);
+    /// assert_eq!(factor.batch_without(&batch, 2)?, [2.0, 5.0]);
+    /// assert_eq!(factor.batch_without(&batch, 0), Err(Refusal::SliceLength));
+    /// # Ok::<(), urgyelpat::BatchRefusal>(())
+    /// ```
+    pub fn batch_without(&self, rows: &[f64], q: usize) -> Result<Vec<f64>, Refusal> {
+        let n = self.order_with(rows.len())?;
+        if !(self.order..n).contains(&q) {
+            return Err(Refusal::SliceLength);
+        }
+        let left = each_row(rows, self.order..n).filter(|&(i, _)| i != q);
+        let entries = left.flat_map(|(_, row)| row.iter().enumerate().filter(|&(j, _)| j != q));
+        Ok(entries.map(|(_, entry)| *entry).collect())
+    }
+
+    /// Writes a batch behind the rows that stand, and gives the order with it.
+    fn place(&mut self, rows: &[f64]) -> Result<usize, Refusal> {
         let n = self.order_with(rows.len())?;
         if n > self.room {
             self.set_room(n.max(2 * self.room).min(LARGEST));
         }
-        let mut rest = rows;
-        for i in self.order..n {
-            let (row, later) = rest.split_at(i + 1);
+        for (i, row) in each_row(rows, self.order..n) {
             for (j, entry) in row.iter().enumerate() {
-                self.buffer[i + j * self.room] = *entry;
+                self.came[i + j * self.room] = *entry;
+                self.factor[i + j * self.room] = *entry;
             }
-            rest = later;
         }
-        extend(&mut self.buffer, self.room, self.order, n)?;
+        Ok(n)
+    }
+
+    /// Factors the batch that was placed, which makes the order n.
+    fn factor_up_to(&mut self, n: usize) -> Result<(), Refusal> {
+        extend(&mut self.factor, self.room, self.order, n)?;
         self.order = n;
         Ok(())
     }
@@ -190,21 +353,17 @@ impl Cholesky {
         Ok(n)
     }
 
-    /// Moves the factor into another room, which is at least its order.
+    /// Moves the rows and the factor into another room, which is at least the order.
     fn set_room(&mut self, room: usize) {
-        let mut buffer = vec![0.0; room * room];
-        for j in 0..self.order {
-            let (from, to) = (j * self.room, j * room);
-            buffer[to..to + self.order].copy_from_slice(&self.buffer[from..from + self.order]);
-        }
-        self.buffer = buffer;
+        self.came = moved(&self.came, self.order, self.room, room);
+        self.factor = moved(&self.factor, self.order, self.room, room);
         self.room = room;
     }
 
     /// The factor L, n·n numbers, zero above the diagonal.
     pub fn l(&self) -> Vec<f64> {
         let mut filled = vec![0.0; self.order * self.order];
-        l(&self.buffer, &mut filled, self.room, self.order).expect(OWN);
+        l(&self.factor, &mut filled, self.room, self.order).expect(OWN);
         filled
     }
 
@@ -213,18 +372,40 @@ impl Cholesky {
     /// ```
     /// let factor = urgyelpat::Cholesky::new(vec![4.0, 2.0, 7.0, 5.0], 2)?;
     /// assert_eq!(factor.unpack(), [2.0, 1.0, 0.0, 2.0]);
-    /// # Ok::<(), urgyelpat::Refusal>(())
+    /// # Ok::<(), urgyelpat::BatchRefusal>(())
     /// ```
-    pub fn unpack(mut self) -> Vec<f64> {
-        if self.room != self.order {
-            self.set_room(self.order);
-        }
-        unpack(&mut self.buffer, self.room, self.order).expect(OWN);
-        self.buffer
+    pub fn unpack(self) -> Vec<f64> {
+        let n = self.order;
+        let mut l = if self.room == n {
+            self.factor
+        } else {
+            moved(&self.factor, n, self.room, n)
+        };
+        unpack(&mut l, n, n).expect(OWN);
+        l
     }
 
     /// The determinant of the factored matrix; 1 for order 0.
     pub fn determinant(&self) -> f64 {
-        determinant(&self.buffer, self.room, self.order).expect(OWN)
+        determinant(&self.factor, self.room, self.order).expect(OWN)
     }
+}
+
+/// The rows of a batch, each with its index, which are these.
+fn each_row(batch: &[f64], indices: Range<usize>) -> impl Iterator<Item = (usize, &[f64])> {
+    let mut rest = batch;
+    indices.map(move |i| {
+        let (row, later) = rest.split_at(i + 1);
+        rest = later;
+        (i, row)
+    })
+}
+
+/// The first n rows and columns of a buffer of one room, in a buffer of another.
+fn moved(buffer: &[f64], n: usize, room: usize, other: usize) -> Vec<f64> {
+    let mut there = vec![0.0; other * other];
+    for j in 0..n {
+        there[j * other..j * other + n].copy_from_slice(&buffer[j * room..j * room + n]);
+    }
+    there
 }

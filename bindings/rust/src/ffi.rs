@@ -66,4 +66,5 @@ extern "C" {
         n: usize,
     ) -> u64;
     pub fn urgyelpat_first_twin(a: *const f64, a_length: usize, room: usize, n: usize) -> u64;
+    pub fn urgyelpat_first_twin_since(a: *const f64, a_length: usize, room: usize, earlier: usize, n: usize) -> u64;
 }

@@ -18,13 +18,13 @@
 //!
 //! - [`LBLT`], [`Cholesky`] and [`UDU`] own their numbers and carry nalgebra's names.
 //! - The modules [`lblt`], [`cholesky`] and [`udu`] have a function for each call of the library, over slices that the caller
-//!   lends. They take no memory. [`first_twin`] is one of them.
+//!   lends. They take no memory. [`first_twin`] and [`first_twin_since`] are two of them.
 //!
 //! # Matrices
 //!
 //! A matrix stands column by column: entry (i, j) of an n-by-n matrix is at `i + j * n`. In a Cholesky room s it is at
-//! `i + j * s`, and what is outside the first n rows and columns is kept. Of a symmetric matrix LBLT, Cholesky and
-//! [`first_twin`] look at the entries with i ≥ j alone, UDU at those with i ≤ j. Orders, rooms and column counts go up to
+//! `i + j * s`, and what is outside the first n rows and columns is kept. Of a symmetric matrix LBLT, Cholesky and the search
+//! for twins look at the entries with i ≥ j alone, UDU at those with i ≤ j. Orders, rooms and column counts go up to
 //! [`LARGEST`]. Every `f64` is a content, infinities and NaN too; which NaN a result holds is not promised.
 //!
 //! # Where it runs
@@ -43,10 +43,10 @@ pub mod udu;
 
 mod twins;
 
-pub use cholesky::Cholesky;
+pub use cholesky::{BatchRefusal, Cholesky};
 pub use lblt::LBLT;
 pub use refusal::Refusal;
-pub use twins::{first_twin, Twins};
+pub use twins::{first_twin, first_twin_since, Twins};
 pub use udu::UDU;
 
 /// The largest order, room and column count.

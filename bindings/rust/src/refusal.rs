@@ -12,7 +12,7 @@ use crate::ffi::Determined;
 pub enum Refusal {
     /// Code 1: an order, room or column count is above [`LARGEST`](crate::LARGEST), or UDU has order 0.
     OutOfRange,
-    /// Code 2: Cholesky's order is above its room, or the earlier order above the order.
+    /// Code 2: an order is above its room, or the earlier order above the order.
     OrderAboveRoom,
     /// Code 3: the first matrix has the wrong length.
     MatrixLength,

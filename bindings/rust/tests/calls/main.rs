@@ -1,5 +1,6 @@
 //! The crate's calls through liburgyelpat.a.
 
+mod batches;
 mod cholesky;
 mod lblt;
 mod numbers;

@@ -34,6 +34,20 @@ impl Numbers {
     }
 }
 
+/// Rows `from..to` of the lower part of a matrix of order n, each up to its diagonal, end to end.
+pub fn rows(a: &[f64], n: usize, from: usize, to: usize) -> Vec<f64> {
+    (from..to).flat_map(|i| (0..=i).map(move |j| a[i + j * n])).collect()
+}
+
+/// Makes row and column q of a symmetric matrix those of row p.
+pub fn repeat_row(a: &mut [f64], n: usize, p: usize, q: usize) {
+    for k in (0..n).filter(|&k| k != q) {
+        a[q + k * n] = a[p + k * n];
+        a[k + q * n] = a[p + k * n];
+    }
+    a[q + q * n] = a[p + p * n];
+}
+
 /// a·b for matrices of order n.
 pub fn product(a: &[f64], b: &[f64], n: usize) -> Vec<f64> {
     let entry = |i, j| (0..n).map(|k| a[i + k * n] * b[k + j * n]).sum();
