@@ -59,13 +59,20 @@ module _ (n : ℕ) (row column : ℕ) where
   unfolding update2
   update2-earlier k M before = for-still (λ (N : Matrix). N row column) (k + 2) n (rank2 n k (blockAt M k)) M (λ j N low high. rank2-earlier k (blockAt M k) j N before low)
 
+  module _ (k p : ℕ) (M : Matrix) (before : column < k) where
+    pub pivot1-earlier : k ≤ p → pivot1 n k p M row column ≡ M row column
+    unfolding pivot1
+    pivot1-earlier upto = updated1 n k (brought1 n k p M) .earlier row column before ∙ brought1-earlier k p M before upto
+
+    pub pivot2-earlier : k < p → pivot2 n k p M row column ≡ M row column
+    unfolding pivot2
+    pivot2-earlier upto = update2-earlier k (brought2 n k p M) before ∙ brought2-earlier k p M before upto
+
   take-earlier : (S : State) (c : Choice) → column < S .row → Within n (S .row) c → take n S c .matrix row column ≡ S .matrix row column
-  unfolding take pivot1 pivot2 Within
+  unfolding take Within
   take-earlier S Null before range = refl
-  take-earlier S (One p) before range =
-      updated1 n (S .row) (brought1 n (S .row) p (S .matrix)) .earlier row column before ∙ brought1-earlier (S .row) p (S .matrix) before (range .0)
-  take-earlier S (Two p) before range =
-      update2-earlier (S .row) (brought2 n (S .row) p (S .matrix)) before ∙ brought2-earlier (S .row) p (S .matrix) before (range .0)
+  take-earlier S (One p) before range = pivot1-earlier (S .row) p (S .matrix) before (range .0)
+  take-earlier S (Two p) before range = pivot2-earlier (S .row) p (S .matrix) before (range .0)
 
   pub step-earlier : (S : State) → S .row < n → column < S .row → step n S .matrix row column ≡ S .matrix row column
   unfolding step

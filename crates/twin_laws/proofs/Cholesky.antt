@@ -12,29 +12,41 @@ use Rattle.answer.specs.declared.Answer.{Answer}
 use Rattle.answer.specs.declared.Answer.the-variants.{Done}
 use Rattle.matrix.specs.Matrix.{Matrix, entry}
 use Rattle.matrix.specs.Loop.{for}
-use Rattle.matrix.proofs.Loops.{for-none, for-more, for-same}
+use Rattle.matrix.proofs.Loops.{for-more, for-same}
 use Rattle.cholesky.specs.Column.{less, updated}
 use Rattle.cholesky.specs.Run.{Rule, Outcome, isDone, updates, below, judged, worked, column, started, run}
+use Rattle.cholesky.proofs.Turns.{for-join}
+use Rattle.cholesky.proofs.Batch.{done-before}
 use Rattle.cholesky.proofs.Rows.{updates-in, below-in, below-above, entry-same, entry-off, columns-off, judged-passed}
 use Rattle.twin_laws.proofs.Products.{neg-exchanges}
 
 -- ---- updates of two rows
 
--- two chains of updates with equal starts and equal terms
-pub chain : (M N : Matrix) (i j r c k : ℕ) → M i j ≡ N r c → ((t : ℕ) → t < k → mul binary64 (neg (M j t)) (M i t) ≡ mul binary64 (neg (N c t)) (N r t)) → updated M j k i ≡ updated N c k r
-unfolding updated less
-chain M N i j r c k start terms =
-    for-same 0 k (less M i j) (less N r c) (M i j) (λ t x from below. ap (add binary64 x) (terms t below)) ∙ ap (for 0 k (less N r c)) start
+-- entry (i, j) of A, less what the first k columns of L take from it: a(i,j) + (−l(j,t))·l(i,t), t rising
+abbrev pub reduced : Matrix → Matrix → ℕ → ℕ → ℕ → Float
+reduced A L i j k = for 0 k (less L i j) (A i j)
 
--- what is left of a twin's diagonal: v + (−(v / root v))·(v / root v)
-unfoldable pub remainder : Rule → Float → Float
-remainder ρ v = add binary64 v (mul binary64 (neg (div binary64 v (ρ .root v))) (div binary64 v (ρ .root v)))
+-- equal starts and equal terms
+pub reduced-same : (A M B N : Matrix) (i j r c k : ℕ) → A i j ≡ B r c → ((t : ℕ) → t < k → mul binary64 (neg (M j t)) (M i t) ≡ mul binary64 (neg (N c t)) (N r t))
+    → reduced A M i j k ≡ reduced B N r c k
+unfolding less
+reduced-same A M B N i j r c k start terms =
+    for-same 0 k (less M i j) (less N r c) (A i j) (λ t x from below. ap (add binary64 x) (terms t below)) ∙ ap (for 0 k (less N r c)) start
+
+-- the same where the start stands in the matrix itself
+chain : (M N : Matrix) (i j r c k : ℕ) → M i j ≡ N r c → ((t : ℕ) → t < k → mul binary64 (neg (M j t)) (M i t) ≡ mul binary64 (neg (N c t)) (N r t)) → updated M j k i ≡ updated N c k r
+unfolding updated
+chain M N i j r c k start terms = reduced-same M M N N i j r c k start terms
+
+-- what column p leaves of x in row q, if v is the first twin's updated diagonal: x + (−(x / root v))·(v / root v)
+unfoldable pub remainder : Rule → Float → Float → Float
+remainder ρ v x = add binary64 x (mul binary64 (neg (div binary64 x (ρ .root v))) (div binary64 v (ρ .root v)))
 
 -- the answer to a diagonal x at column j
 abbrev pub ruled : Rule → Float → ℕ → Answer
 ruled ρ x j = cond (isDone (ρ .verdict x j)) Done (ρ .verdict x j)
 
-judged-answer : (ρ : Rule) (j : ℕ) (U : Matrix) → judged ρ j U .answer ≡ ruled ρ (U j j) j
+pub judged-answer : (ρ : Rule) (j : ℕ) (U : Matrix) → judged ρ j U .answer ≡ ruled ρ (U j j) j
 unfolding judged
 judged-answer ρ j U = pick (isDone (ρ .verdict (U j j) j))
   where
@@ -54,14 +66,14 @@ module _ (ρ : Rule) (A : Matrix) where
   unfolding run
   step j = for-more 0 j (column ρ 0) (started A) (omega arith)
 
+  -- the first j columns, and then those up to k
+  pub onward : (j k : ℕ) → j ≤ k → for j k (column ρ 0) (run ρ 0 j A) ≡ run ρ 0 k A
+  unfolding run
+  onward j k upto = for-join 0 j k (column ρ 0) (started A) (omega arith) upto
+
   -- the columns before an accepted one are accepted
-  pub accepted-before : (j : ℕ) → Accepted (j + 1) → Accepted j
-  unfolding column
-  accepted-before j done = by (isDone (run ρ 0 j A .answer)) refl (subst (λ (o : Outcome). isDone (o .answer) ≡ true) (step j) done)
-    where
-      by : (b : Bool) → isDone (run ρ 0 j A .answer) ≡ b → isDone (cond {A = Outcome} b (worked ρ 0 j (run ρ 0 j A .cells)) (run ρ 0 j A) .answer) ≡ true → Accepted j
-      by true e h = e
-      by false e h = h
+  pub accepted-before : (j k : ℕ) → j ≤ k → Accepted k → Accepted j
+  accepted-before j k upto done = done-before ρ 0 j k (run ρ 0 j A) (ap (λ (o : Outcome). isDone (o .answer)) (onward j k upto) ∙ done)
 
   -- the updated column j
   abbrev pub Updated : ℕ → ℕ → Float
@@ -72,10 +84,17 @@ module _ (ρ : Rule) (A : Matrix) where
   unfolding column worked
   judges j done = step j ∙ simp (done, le-ltb j 0 (omega arith))
 
+  -- a refused column: its diagonal stays updated
+  pub refused-diagonal : (j : ℕ) → Accepted j → isDone (ρ .verdict (Updated j j) j) ≡ false → After (j + 1) j j ≡ Updated j j
+  unfolding judged
+  refused-diagonal j done refused =
+      let here = updates-in j j (After j) j (omega arith) in
+      ap (λ (o : Outcome). o .cells j j) (judges j done) ∙ rw (ap (λ (x : Float). isDone (ρ .verdict x j)) here ∙ refused) here
+
   -- an accepted column
   passed : (j : ℕ) → Accepted (j + 1) → After (j + 1) ≡ below (j + 1) j (entry (updates j j (After j)) j j (ρ .root (updates j j (After j) j j)))
   passed j done =
-      let is = judges j (accepted-before j done) in
+      let is = judges j (accepted-before j (j + 1) (omega arith) done) in
       ap (λ (o : Outcome). o .cells) is ∙ judged-passed ρ j (updates j j (After j)) (subst (λ (o : Outcome). isDone (o .answer) ≡ true) is done)
 
   pub diagonal-of : (j : ℕ) → Accepted (j + 1) → After (j + 1) j j ≡ ρ .root (Updated j j)
@@ -94,13 +113,12 @@ module _ (ρ : Rule) (A : Matrix) where
       ∙ ap (λ (x : Float). div binary64 x (E j j)) (entry-off U j (ρ .root (U j j)) i j (inl (λ e. omega arith)) ∙ updates-in j j (After j) i (omega arith))
       ∙ ap (div binary64 (Updated j i)) (entry-same U j (ρ .root (U j j)) ∙ ap (ρ .root) (updates-in j j (After j) j (omega arith)))
 
-  -- column j leaves what stands left of it, and the columns before c leave column c
-  pub left-of : (j i c : ℕ) → c < j → After (j + 1) i c ≡ After j i c
-  unfolding run
-  left-of j i c h = ap (λ (o : Outcome). o .cells i c) (step j) ∙ one
-    where
-      one : column ρ 0 j (run ρ 0 j A) .cells i c ≡ After j i c
-      one = ap (λ (o : Outcome). o .cells i c) (sym (for-more j j (column ρ 0) (run ρ 0 j A) (omega arith) ∙ ap (column ρ 0 j) (for-none j (column ρ 0) (run ρ 0 j A)))) ∙ columns-off ρ i c 0 j (j + 1) (run ρ 0 j A) (λ k from to. inr (λ e. omega arith))
+  -- the columns from j on leave what stands left of them, and the columns before c leave column c
+  pub stands : (j k i c : ℕ) → c < j → j ≤ k → After k i c ≡ After j i c
+  stands j k i c h upto = ap (λ (o : Outcome). o .cells i c) (sym (onward j k upto)) ∙ columns-off ρ i c 0 j k (run ρ 0 j A) (λ t from to. inr (λ e. omega arith))
+
+  left-of : (j i c : ℕ) → c < j → After (j + 1) i c ≡ After j i c
+  left-of j i c h = stands j (j + 1) i c h (omega arith)
 
   pub right-of : (j i c : ℕ) → j ≤ c → After j i c ≡ A i c
   unfolding run
@@ -136,7 +154,7 @@ module _ (ρ : Rule) (A : Matrix) where
     alike-upto (suc j) h done =
         let next : j + 1 ≡ suc j = add-one j in
         let done' : Accepted (j + 1) = subst Accepted (sym next) done in
-        subst Alike next (alike-more j (omega arith) done' (alike-upto j (omega arith) (accepted-before j done')))
+        subst Alike next (alike-more j (omega arith) done' (alike-upto j (omega arith) (accepted-before j (j + 1) (omega arith) done')))
 
     module _ (done : Accepted (p + 1)) where
       -- the updated diagonal at p
@@ -144,7 +162,7 @@ module _ (ρ : Rule) (A : Matrix) where
       v = Updated p p
 
       alike : Alike p
-      alike = alike-upto p (omega arith) (accepted-before p done)
+      alike = alike-upto p (omega arith) (accepted-before p (p + 1) (omega arith) done)
 
       -- l(q,k) = l(p,k) for k < p
       pub twin-left : (k : ℕ) → k < p → After (p + 1) q k ≡ After (p + 1) p k
@@ -172,7 +190,7 @@ module _ (ρ : Rule) (A : Matrix) where
       chain-more M j k i = for-more 0 k (less M i j) (M i j) (omega arith)
 
       -- the diagonal at q after the columns up to p
-      pub twin-rest : updated (After (p + 1)) q (p + 1) q ≡ remainder ρ v
+      pub twin-rest : updated (After (p + 1)) q (p + 1) q ≡ remainder ρ v v
       unfolding Alike remainder
       twin-rest =
           chain-more (After (p + 1)) q p q
@@ -182,18 +200,20 @@ module _ (ρ : Rule) (A : Matrix) where
           (λ t below. ap (λ (x : Float). mul binary64 (neg x) x) (left-of p q t below ∙ alike t below)))
           ∙ ap (λ (x : Float). add binary64 v (mul binary64 (neg x) x)) twin-beside
 
-      -- adjacent twins: whether row q is refused, and by which test, depends on v alone
-      pub twin-refused : q ≡ p + 1 → run ρ 0 (q + 1) A .answer ≡ ruled ρ (remainder ρ v) q
+      -- adjacent twins: row q's updated diagonal, and so whether it is refused and by which test, depends on v alone
+      pub twin-next : q ≡ p + 1 → Updated q q ≡ remainder ρ v v
+      twin-next next = subst (λ (k : ℕ). updated (After k) q k q ≡ remainder ρ v v) (sym next) twin-rest
+
+      pub twin-refused : q ≡ p + 1 → run ρ 0 (q + 1) A .answer ≡ ruled ρ (remainder ρ v v) q
       twin-refused next =
           let before : Accepted q = subst Accepted (sym next) done in
           ap (λ (o : Outcome). o .answer) (judges q before)
           ∙ judged-answer ρ q (updates q q (After q))
-          ∙ ap (λ (x : Float). ruled ρ x q) (updates-in q q (After q) q (omega arith) ∙ subst (λ (k : ℕ). updated (After k) q k q ≡ remainder ρ v) (sym next) twin-rest)
+          ∙ ap (λ (x : Float). ruled ρ x q) (updates-in q q (After q) q (omega arith) ∙ twin-next next)
 
-      -- what row q of column k, p < k < q, holds after the columns up to p: x + (−(x / root v))·(v / root v), x row k of column p
-      pub twin-between : (k : ℕ) → p < k → k < q → A q k ≡ A k p
-          → updated (After (p + 1)) k (p + 1) q ≡ add binary64 (Updated p k) (mul binary64 (neg (div binary64 (Updated p k) (ρ .root v))) (div binary64 v (ρ .root v)))
-      unfolding Alike
+      -- what row q of column k, p < k < q, holds after the columns up to p, from row k of the updated column p
+      pub twin-between : (k : ℕ) → p < k → k < q → A q k ≡ A k p → updated (After (p + 1)) k (p + 1) q ≡ remainder ρ v (Updated p k)
+      unfolding Alike remainder
       twin-between k after before mirrored =
           chain-more (After (p + 1)) k p q
           ∙ ap (λ (x : Float). add binary64 x (mul binary64 (neg (After (p + 1) k p)) (After (p + 1) q p)))

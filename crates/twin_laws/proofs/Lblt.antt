@@ -1,14 +1,14 @@
 -- LBLT and twin rows p < q. Assumes nothing.
-use mathlib.Core.Path.{_≡_, refl, sym, _∙_, ap, subst}
-use mathlib.Core.Bool.{Bool, true, false, cond}
-use mathlib.Core.Logic.{_⊎_, inl, inr, ⊎-elim}
+use mathlib.Core.Path.{_≡_, refl, sym, _∙_, ap, ap₂, subst}
+use mathlib.Core.Bool.{Bool, cond}
+use mathlib.Core.Logic.{⊎-elim}
 use Prim.Native.Nat.{ℕ, _+_, _≤_, _<_}
 use native.Mathlib.Decide.{decLt}
+use native.Mathlib.Nat.{eq-or-lt-of-le}
 use native.Mathlib.Omega.{arith}
-use lib.Dec.{eqb}
 use lib.Ieee.{Float, neg}
-use borrow.Author.Tests.{eq-eqb, eqb-true, eqb-false}
-use Rattle.matrix.specs.Matrix.{Matrix, entry, exchange}
+use borrow.Author.Tests.{eq-eqb}
+use Rattle.matrix.specs.Matrix.{Matrix, entry}
 use Rattle.matrix.specs.Loop.{for}
 use Rattle.lblt.specs.Rounded.{_⊕_, _⊖_, _⊗_, _⊘_, one}
 use Rattle.lblt.specs.declared.rank2.Block.{Block}
@@ -16,7 +16,11 @@ use Rattle.lblt.specs.Interchange.{interchange, brought1, brought2}
 use Rattle.lblt.specs.Step.{pivot1, pivot2}
 use Rattle.lblt.specs.Update.{update1, blockAt, work1, work2, rank2At, rank2By, rank2, update2}
 use Rattle.lblt.proofs.Loops.{for-still, for-at}
-use Rattle.lblt.proofs.Entries.{Updated1, updated1, entry-here, entry-row, entry-column, column-other, row-other, row-here}
+use Rattle.lblt.proofs.Entries.{Updated1, updated1, entry-here, entry-column, column-other, row-other, row-here}
+use Rattle.lblt.proofs.Earlier.{pivot1-earlier, pivot2-earlier}
+use Rattle.twins.specs.Twins.{symmetric}
+use Rattle.twins.proofs.Clauses.{at-lower, at-upper}
+use Rattle.twin_laws.proofs.Interchanges.{entry-skip, flip, renamed, renamed-first, renamed-other, by-name, Renaming, brought1-renamed, brought2-renamed}
 
 -- rows p and q are the same up to p, on the diagonal and below q; for q = p + 1 that is all of both rows
 pub record Paired (n : ℕ) (M : Matrix) (p q : ℕ) : Type 0 where
@@ -24,21 +28,29 @@ pub record Paired (n : ℕ) (M : Matrix) (p q : ℕ) : Type 0 where
   pub diagonal : M q q ≡ M p p
   pub below : (r : ℕ) → q < r → r < n → M r q ≡ M r p
 
--- where column c stands to a pivot at k of size 2
-data Where (c k : ℕ) : Type 0 where
-  is-before : c < k → Where c k
-  is-first : c ≡ k → Where c k
-  is-second : c ≡ k + 1 → Where c k
-  is-after : k + 1 < c → Where c k
+-- ---- rows of the symmetric matrix
 
-where-is : (c k : ℕ) → Where c k
-where-is c k = pick (decLt c k) (decLt k c) (decLt (k + 1) c)
-  where
-    pick : Dec (c < k) → Dec (k < c) → Dec (k + 1 < c) → Where c k
-    pick (yes lt) d e = is-before lt
-    pick (no nlt) d (yes gt) = is-after gt
-    pick (no nlt) (no ngt) (no far) = is-first (omega arith)
-    pick (no nlt) (yes gt) (no far) = is-second (omega arith)
+-- rows p and q agree in column c
+abbrev pub Alike : Matrix → ℕ → ℕ → ℕ → Type 0
+Alike M p q c = symmetric M q c ≡ symmetric M p c
+
+-- column c is not between rows p and q
+pub data Outside (p q c : ℕ) : Type 0 where
+  left : c ≤ p → c ≤ q → Outside p q c
+  right : p ≤ c → q ≤ c → Outside p q c
+
+module _ (M : Matrix) (p q c : ℕ) where
+  left-is : c ≤ p → c ≤ q → Alike M p q c → M q c ≡ M p c
+  left-is h h' alike = sym (at-lower M q c h') ∙ alike ∙ at-lower M p c h
+
+  is-left : c ≤ p → c ≤ q → M q c ≡ M p c → Alike M p q c
+  is-left h h' same = at-lower M q c h' ∙ same ∙ sym (at-lower M p c h)
+
+  right-is : p ≤ c → q ≤ c → Alike M p q c → M c q ≡ M c p
+  right-is h h' alike = sym (at-lower M c q h') ∙ flip M c q ∙ alike ∙ flip M p c ∙ at-lower M c p h
+
+  is-right : p ≤ c → q ≤ c → M c q ≡ M c p → Alike M p q c
+  is-right h h' same = flip M q c ∙ at-lower M c q h' ∙ same ∙ sym (at-lower M c p h) ∙ flip M c p
 
 -- ---- a pivot of size 1 in its place
 
@@ -50,47 +62,33 @@ in-place1 n k M = ap (λ (b : Bool). update1 n k (cond b M (interchange n k k M)
 unfoldable pub trail : Float → Float → Float → Float → Float
 trail v a b c = a ⊕ b ⊗ neg (one ⊘ v) ⊗ c
 
-module _ (n k p q : ℕ) (M : Matrix) (above : k < p) (apart : p < q) (within : q < n) (pair : Paired n M p q) where
-  paired1 : Paired n (update1 n k M) p q
-  paired1 = record {
-    left = λ c h. ⊎-elim
-        (λ (here : c ≡ k). subst (λ (c : ℕ). update1 n k M q c ≡ update1 n k M p c) (sym here)
-        (U .column q (omega arith) within ∙ ap (λ (x : Float). x ⊗ (one ⊘ M k k)) (pair .left k (omega arith)) ∙ sym (U .column p above (omega arith))))
-        (λ rest. ⊎-elim
-        (λ (before : c < k). U .earlier q c before ∙ pair .left c h ∙ sym (U .earlier p c before))
-        (λ (after : k < c).
-        U .trailing q c after (omega arith) within
-        ∙ ap (λ (x : Float). x ⊕ M q k ⊗ neg (one ⊘ M k k) ⊗ M c k) (pair .left c h)
-        ∙ ap (λ (x : Float). M p c ⊕ x ⊗ neg (one ⊘ M k k) ⊗ M c k) (pair .left k (omega arith))
-        ∙ sym (U .trailing p c after h (omega arith)))
-        rest)
-        (order c k);
-    diagonal =
-        U .trailing q q (omega arith) (omega arith) within
-        ∙ ap (λ (x : Float). x ⊕ M q k ⊗ neg (one ⊘ M k k) ⊗ M q k) (pair .diagonal)
-        ∙ ap (λ (x : Float). M p p ⊕ x ⊗ neg (one ⊘ M k k) ⊗ x) (pair .left k (omega arith))
-        ∙ sym (U .trailing p p above (omega arith) (omega arith));
-    below = λ r h h'.
-        U .trailing r q (omega arith) (omega arith) h'
-        ∙ ap (λ (x : Float). x ⊕ M r k ⊗ neg (one ⊘ M k k) ⊗ M q k) (pair .below r h h')
-        ∙ ap (λ (x : Float). M r p ⊕ M r k ⊗ neg (one ⊘ M k k) ⊗ x) (pair .left k (omega arith))
-        ∙ sym (U .trailing r p above (omega arith) h');
-  }
-    where
-      U : Updated1 n k M (update1 n k M)
-      U = updated1 n k M
+-- rows that agree in the pivot's column and in column c
+alike-updated1 : (n k p q c : ℕ) (M : Matrix) → k < p → k < q → p < n → q < n → k ≤ c → c < n → Outside p q c → Alike M p q k → Alike M p q c → Alike (update1 n k M) p q c
+alike-updated1 n k p q c M after after' within within' from upto outside pivot here = ⊎-elim at-k (λ lt. trailing lt outside) (eq-or-lt-of-le from)
+  where
+    U : Updated1 n k M (update1 n k M)
+    U = updated1 n k M
 
-      order : (a b : ℕ) → (a ≡ b) ⊎ ((a < b) ⊎ (b < a))
-      order a b = pick (decLt a b) (decLt b a)
-        where
-          pick : Dec (a < b) → Dec (b < a) → (a ≡ b) ⊎ ((a < b) ⊎ (b < a))
-          pick (yes lt) d = inr (inl lt)
-          pick (no nlt) (yes gt) = inr (inr gt)
-          pick (no nlt) (no ngt) = inl (omega arith)
+    column : M q k ≡ M p k
+    column = left-is M p q k (omega arith) (omega arith) pivot
 
-  -- a pivot of size 1 above the pair keeps it
-  pub pair-kept1 : Paired n (pivot1 n k k M) p q
-  pair-kept1 = subst (λ (N : Matrix). Paired n N p q) (sym (in-place1 n k M)) paired1
+    at-k : k ≡ c → Alike (update1 n k M) p q c
+    at-k e =
+        subst (Alike (update1 n k M) p q) e
+        (is-left (update1 n k M) p q k (omega arith) (omega arith)
+        (U .column q after' within' ∙ ap (λ (x : Float). x ⊗ (one ⊘ M k k)) column ∙ sym (U .column p after within)))
+
+    trailing : k < c → Outside p q c → Alike (update1 n k M) p q c
+    trailing lt (left h h') =
+        is-left (update1 n k M) p q c h h'
+        (U .trailing q c lt h' within'
+        ∙ ap₂ (λ (x y : Float). x ⊕ y ⊗ neg (one ⊘ M k k) ⊗ M c k) (left-is M p q c h h' here) column
+        ∙ sym (U .trailing p c lt h within))
+    trailing lt (right h h') =
+        is-right (update1 n k M) p q c h h'
+        (U .trailing c q after' h' upto
+        ∙ ap₂ (λ (x y : Float). x ⊕ M c k ⊗ neg (one ⊘ M k k) ⊗ y) (right-is M p q c h h' here) column
+        ∙ sym (U .trailing c p after h upto))
 
 -- ---- the pair's first row is a pivot of size 1 in its place
 
@@ -113,11 +111,7 @@ module _ (n p q : ℕ) (M : Matrix) (apart : p < q) (within : q < n) (pair : Pai
       ∙ ap (λ (x : Float). x ⊕ M r p ⊗ neg (one ⊘ M p p) ⊗ M q p) (pair .below r h h')
       ∙ ap (λ (x : Float). M r p ⊕ M r p ⊗ neg (one ⊘ M p p) ⊗ x) (pair .left p (omega arith))
 
--- ---- a pivot of size 2 in its place
-
-in-place2 : (n k : ℕ) (M : Matrix) → pivot2 n k (k + 1) M ≡ update2 n k M
-unfolding pivot2 brought2
-in-place2 n k M = ap (λ (b : Bool). update2 n k (cond b M (exchange (interchange n (k + 1) (k + 1) M) (k + 1) k (k + 1) k))) (eq-eqb (k + 1) (k + 1) refl)
+-- ---- a pivot of size 2 in its place, entry by entry
 
 -- w1 and w2 of row j
 first : Matrix → ℕ → ℕ → Float
@@ -126,80 +120,52 @@ first M k j = work1 (blockAt M k) (M j k) (M j (k + 1))
 second : Matrix → ℕ → ℕ → Float
 second M k j = work2 (blockAt M k) (M j k) (M j (k + 1))
 
--- the update by a pivot of size 2, entry by entry
 record Updated2 (n k : ℕ) (M N : Matrix) : Type 0 where
   trailing : (i j : ℕ) → k + 1 < j → j ≤ i → i < n → N i j ≡ M i j ⊖ M i k ⊗ first M k j ⊖ M i (k + 1) ⊗ second M k j
   column : (j : ℕ) → k + 1 < j → j < n → N j k ≡ first M k j
   next : (j : ℕ) → k + 1 < j → j < n → N j (k + 1) ≡ second M k j
-  earlier : (i j : ℕ) → j < k → N i j ≡ M i j
-
-entry-skip : (M : Matrix) (i j : ℕ) (v : Float) (r c : ℕ) → (r ≡ i → c ≡ j → ⊥) → entry M i j v r c ≡ M r c
-entry-skip M i j v r c apart = pick (eqb r i) refl
-  where
-    pick : (b : Bool) → eqb r i ≡ b → entry M i j v r c ≡ M r c
-    pick true e = entry-column M i j v r c (apart (eqb-true r i e))
-    pick false e = entry-row M i j v r c (eqb-false r i e)
 
 module _ (n k : ℕ) (b : Block) where
   abbrev new : ℕ → Float → Float → ℕ → Matrix → Float
   new j w1 w2 i M = M i j ⊖ M i k ⊗ w1 ⊖ M i (k + 1) ⊗ w2
 
+  abbrev w1 : ℕ → Matrix → Float
+  w1 j M = work1 b (M j k) (M j (k + 1))
+
+  abbrev w2 : ℕ → Matrix → Float
+  w2 j M = work2 b (M j k) (M j (k + 1))
+
+  -- column j updated down to row r
+  abbrev down : ℕ → ℕ → Matrix → Matrix
+  down j r M = for j r (rank2At k j (w1 j M) (w2 j M)) M
+
   -- column j, row j of columns k and k + 1, and nothing else
   other : (j : ℕ) (M : Matrix) (r c : ℕ) → (c ≡ j → ⊥) → (c ≡ k → r ≡ j → ⊥) → (c ≡ k + 1 → r ≡ j → ⊥) → rank2 n k b j M r c ≡ M r c
   unfolding rank2 rank2By rank2At
   other j M r c column first second =
-      entry-skip (entry X j k w1) j (k + 1) w2 r c (λ e f. second f e)
-      ∙ entry-skip X j k w1 r c (λ e f. first f e)
-      ∙ column-other j (new j w1 w2) j n M r c column
-    where
-      w1 : Float
-      w1 = work1 b (M j k) (M j (k + 1))
+      entry-skip (entry (down j n M) j k (w1 j M)) j (k + 1) (w2 j M) r c (λ e f. second f e)
+      ∙ entry-skip (down j n M) j k (w1 j M) r c (λ e f. first f e)
+      ∙ column-other j (new j (w1 j M) (w2 j M)) j n M r c column
 
-      w2 : Float
-      w2 = work2 b (M j k) (M j (k + 1))
-
-      X : Matrix
-      X = for j n (rank2At k j w1 w2) M
-
-  here : (j : ℕ) (M : Matrix) (r : ℕ) → k + 1 < j → j ≤ r → r < n
-      → rank2 n k b j M r j ≡ new j (work1 b (M j k) (M j (k + 1))) (work2 b (M j k) (M j (k + 1))) r M
+  here : (j : ℕ) (M : Matrix) (r : ℕ) → k + 1 < j → j ≤ r → r < n → rank2 n k b j M r j ≡ new j (w1 j M) (w2 j M) r M
   unfolding rank2 rank2By rank2At
   here j M r after from upto =
-      entry-column (entry X j k w1) j (k + 1) w2 r j (λ e. omega arith)
-      ∙ entry-column X j k w1 r j (λ e. omega arith)
-      ∙ row-here j (new j w1 w2) j n M r from upto
-      ∙ ap (λ (x : Float). x ⊖ Y r k ⊗ w1 ⊖ Y r (k + 1) ⊗ w2) (row-other j (new j w1 w2) j r M r j (λ i low high e. omega arith))
-      ∙ ap (λ (x : Float). M r j ⊖ x ⊗ w1 ⊖ Y r (k + 1) ⊗ w2) (column-other j (new j w1 w2) j r M r k (λ e. omega arith))
-      ∙ ap (λ (x : Float). M r j ⊖ M r k ⊗ w1 ⊖ x ⊗ w2) (column-other j (new j w1 w2) j r M r (k + 1) (λ e. omega arith))
-    where
-      w1 : Float
-      w1 = work1 b (M j k) (M j (k + 1))
+      let value = new j (w1 j M) (w2 j M) in
+      let Y = down j r M in
+      entry-column (entry (down j n M) j k (w1 j M)) j (k + 1) (w2 j M) r j (omega arith)
+      ∙ entry-column (down j n M) j k (w1 j M) r j (omega arith)
+      ∙ row-here j value j n M r from upto
+      ∙ ap (λ (x : Float). x ⊖ Y r k ⊗ w1 j M ⊖ Y r (k + 1) ⊗ w2 j M) (row-other j value j r M r j (omega arith))
+      ∙ ap (λ (x : Float). M r j ⊖ x ⊗ w1 j M ⊖ Y r (k + 1) ⊗ w2 j M) (column-other j value j r M r k (omega arith))
+      ∙ ap (λ (x : Float). M r j ⊖ M r k ⊗ w1 j M ⊖ x ⊗ w2 j M) (column-other j value j r M r (k + 1) (omega arith))
 
-      w2 : Float
-      w2 = work2 b (M j k) (M j (k + 1))
-
-      X : Matrix
-      X = for j n (rank2At k j w1 w2) M
-
-      Y : Matrix
-      Y = for j r (rank2At k j w1 w2) M
-
-  row-first : (j : ℕ) (M : Matrix) → rank2 n k b j M j k ≡ work1 b (M j k) (M j (k + 1))
+  row-first : (j : ℕ) (M : Matrix) → rank2 n k b j M j k ≡ w1 j M
   unfolding rank2 rank2By
-  row-first j M =
-      entry-column (entry (for j n (rank2At k j w1 w2) M) j k w1) j (k + 1) w2 j k (λ e. omega arith)
-      ∙ entry-here (for j n (rank2At k j w1 w2) M) j k w1
-    where
-      w1 : Float
-      w1 = work1 b (M j k) (M j (k + 1))
+  row-first j M = entry-column (entry (down j n M) j k (w1 j M)) j (k + 1) (w2 j M) j k (omega arith) ∙ entry-here (down j n M) j k (w1 j M)
 
-      w2 : Float
-      w2 = work2 b (M j k) (M j (k + 1))
-
-  row-second : (j : ℕ) (M : Matrix) → rank2 n k b j M j (k + 1) ≡ work2 b (M j k) (M j (k + 1))
+  row-second : (j : ℕ) (M : Matrix) → rank2 n k b j M j (k + 1) ≡ w2 j M
   unfolding rank2 rank2By
-  row-second j M =
-      entry-here (entry (for j n (rank2At k j (work1 b (M j k) (M j (k + 1))) (work2 b (M j k) (M j (k + 1)))) M) j k (work1 b (M j k) (M j (k + 1)))) j (k + 1) (work2 b (M j k) (M j (k + 1)))
+  row-second j M = entry-here (entry (down j n M) j k (w1 j M)) j (k + 1) (w2 j M)
 
   -- columns lo to hi
   others : (lo hi : ℕ) (M : Matrix) (r c : ℕ) → ((j : ℕ) → lo ≤ j → j < hi → (c ≡ j → ⊥) × ((c ≡ k → r ≡ j → ⊥) × (c ≡ k + 1 → r ≡ j → ⊥))) → for lo hi (rank2 n k b) M r c ≡ M r c
@@ -207,88 +173,176 @@ module _ (n k : ℕ) (b : Block) where
       for-still (λ (N : Matrix). N r c) lo hi (rank2 n k b) M
       (λ j N from upto. other j N r c (apart j from upto .0) (apart j from upto .1 .0) (apart j from upto .1 .1))
 
-  -- before column j is reached, row r from j on is as it was
-  unreached : (j : ℕ) (M : Matrix) (r c : ℕ) → k + 1 < j → j ≤ r → (c ≡ j) ⊎ (c < k + 2) → for (k + 2) j (rank2 n k b) M r c ≡ M r c
-  unreached j M r c after from where? = others (k + 2) j M r c (λ i low high. (⊎-elim (λ e f. omega arith) (λ e f. omega arith) where?, ((λ e f. omega arith), (λ e f. omega arith))))
-
 updated2 : (n k : ℕ) (M : Matrix) → Updated2 n k M (update2 n k M)
 unfolding update2 first second
 updated2 n k M = record {
   trailing = λ i j after from upto.
       ap (λ (N : Matrix). N i j) (for-at (k + 2) n j (rank2 n k b) M (omega arith) (omega arith))
-      ∙ others n k b (j + 1) n (rank2 n k b j (X j)) i j (λ c low high. ((λ e. omega arith), ((λ e f. omega arith), (λ e f. omega arith))))
+      ∙ others n k b (j + 1) n (rank2 n k b j (X j)) i j (omega arith)
       ∙ here n k b j (X j) i after from upto
-      ∙ ap (λ (x : Float). x ⊖ X j i k ⊗ work1 b (X j j k) (X j j (k + 1)) ⊖ X j i (k + 1) ⊗ work2 b (X j j k) (X j j (k + 1))) (still j i j after from (inl refl))
-      ∙ ap (λ (x : Float). M i j ⊖ x ⊗ work1 b (X j j k) (X j j (k + 1)) ⊖ X j i (k + 1) ⊗ work2 b (X j j k) (X j j (k + 1))) (still j i k after from (inr (omega arith)))
-      ∙ ap (λ (x : Float). M i j ⊖ M i k ⊗ work1 b (X j j k) (X j j (k + 1)) ⊖ x ⊗ work2 b (X j j k) (X j j (k + 1))) (still j i (k + 1) after from (inr (omega arith)))
-      ∙ ap (λ (x : Float). M i j ⊖ M i k ⊗ work1 b x (X j j (k + 1)) ⊖ M i (k + 1) ⊗ work2 b x (X j j (k + 1))) (still j j k after (omega arith) (inr (omega arith)))
-      ∙ ap (λ (x : Float). M i j ⊖ M i k ⊗ work1 b (M j k) x ⊖ M i (k + 1) ⊗ work2 b (M j k) x) (still j j (k + 1) after (omega arith) (inr (omega arith)));
+      ∙ ap (λ (x : Float). x ⊖ X j i k ⊗ w1 n k b j (X j) ⊖ X j i (k + 1) ⊗ w2 n k b j (X j)) (others n k b (k + 2) j M i j (omega arith))
+      ∙ ap₂ (λ (x y : Float). M i j ⊖ x ⊗ w1 n k b j (X j) ⊖ y ⊗ w2 n k b j (X j)) (still j i k from (omega arith)) (still j i (k + 1) from (omega arith))
+      ∙ ap₂ (λ (x y : Float). M i j ⊖ M i k ⊗ work1 b x y ⊖ M i (k + 1) ⊗ work2 b x y) (still j j k (omega arith) (omega arith)) (still j j (k + 1) (omega arith) (omega arith));
   column = λ j after upto.
       ap (λ (N : Matrix). N j k) (for-at (k + 2) n j (rank2 n k b) M (omega arith) upto)
-      ∙ others n k b (j + 1) n (rank2 n k b j (X j)) j k (λ c low high. ((λ e. omega arith), ((λ e f. omega arith), (λ e f. omega arith))))
+      ∙ others n k b (j + 1) n (rank2 n k b j (X j)) j k (omega arith)
       ∙ row-first n k b j (X j)
-      ∙ ap (λ (x : Float). work1 b x (X j j (k + 1))) (still j j k after (omega arith) (inr (omega arith)))
-      ∙ ap (work1 b (M j k)) (still j j (k + 1) after (omega arith) (inr (omega arith)));
+      ∙ ap₂ (work1 b) (still j j k (omega arith) (omega arith)) (still j j (k + 1) (omega arith) (omega arith));
   next = λ j after upto.
       ap (λ (N : Matrix). N j (k + 1)) (for-at (k + 2) n j (rank2 n k b) M (omega arith) upto)
-      ∙ others n k b (j + 1) n (rank2 n k b j (X j)) j (k + 1) (λ c low high. ((λ e. omega arith), ((λ e f. omega arith), (λ e f. omega arith))))
+      ∙ others n k b (j + 1) n (rank2 n k b j (X j)) j (k + 1) (omega arith)
       ∙ row-second n k b j (X j)
-      ∙ ap (λ (x : Float). work2 b x (X j j (k + 1))) (still j j k after (omega arith) (inr (omega arith)))
-      ∙ ap (work2 b (M j k)) (still j j (k + 1) after (omega arith) (inr (omega arith)));
-  earlier = λ i j before. others n k b (k + 2) n M i j (λ c low high. ((λ e. omega arith), ((λ e f. omega arith), (λ e f. omega arith))));
+      ∙ ap₂ (work2 b) (still j j k (omega arith) (omega arith)) (still j j (k + 1) (omega arith) (omega arith));
 }
   where
     b : Block
     b = blockAt M k
 
+    -- before column j is reached, its row and those below are as they were
     X : ℕ → Matrix
     X j = for (k + 2) j (rank2 n k b) M
 
-    still : (j r c : ℕ) → k + 1 < j → j ≤ r → (c ≡ j) ⊎ (c < k + 2) → X j r c ≡ M r c
-    still j r c after from where? = unreached n k b j M r c after from where?
+    still : (j r c : ℕ) → j ≤ r → c < k + 2 → X j r c ≡ M r c
+    still j r c from early = others n k b (k + 2) j M r c (omega arith)
 
-module _ (n k p q : ℕ) (M : Matrix) (above : k + 1 < p) (apart : p < q) (within : q < n) (pair : Paired n M p q) where
-  first-same : first M k q ≡ first M k p
-  unfolding first
-  first-same = ap (λ (x : Float). work1 (blockAt M k) x (M q (k + 1))) (pair .left k (omega arith)) ∙ ap (work1 (blockAt M k) (M p k)) (pair .left (k + 1) (omega arith))
+-- rows that agree in the pivots' columns and in column c
+alike-updated2 : (n k p q c : ℕ) (M : Matrix) → k + 1 < p → k + 1 < q → p < n → q < n → k ≤ c → c < n → Outside p q c
+    → Alike M p q k → Alike M p q (k + 1) → Alike M p q c → Alike (update2 n k M) p q c
+unfolding first second
+alike-updated2 n k p q c M after after' within within' from upto outside pivot pivot' here =
+    ⊎-elim at-k (λ (lt : k < c). ⊎-elim at-next (λ lt. trailing lt outside) (eq-or-lt-of-le (omega arith))) (eq-or-lt-of-le from)
+  where
+    U : Updated2 n k M (update2 n k M)
+    U = updated2 n k M
 
-  second-same : second M k q ≡ second M k p
-  unfolding second
-  second-same = ap (λ (x : Float). work2 (blockAt M k) x (M q (k + 1))) (pair .left k (omega arith)) ∙ ap (work2 (blockAt M k) (M p k)) (pair .left (k + 1) (omega arith))
+    column : M q k ≡ M p k
+    column = left-is M p q k (omega arith) (omega arith) pivot
 
-  -- x − y·w1 − z·w2 at column j
-  by : ℕ → Float → Float → Float → Float
-  by j x y z = x ⊖ y ⊗ first M k j ⊖ z ⊗ second M k j
+    next : M q (k + 1) ≡ M p (k + 1)
+    next = left-is M p q (k + 1) (omega arith) (omega arith) pivot'
 
-  -- rows p and q of column j, from j on
-  rows-same : (j : ℕ) → M q j ≡ M p j → by j (M q j) (M q k) (M q (k + 1)) ≡ by j (M p j) (M p k) (M p (k + 1))
-  unfolding by
-  rows-same j e = rw (e, pair .left k (omega arith), pair .left (k + 1) (omega arith))
+    first-same : first M k q ≡ first M k p
+    first-same = ap₂ (work1 (blockAt M k)) column next
 
-  U : Updated2 n k M (update2 n k M)
-  U = updated2 n k M
+    second-same : second M k q ≡ second M k p
+    second-same = ap₂ (work2 (blockAt M k)) column next
 
-  left2 : (c : ℕ) → c ≤ p → Where c k → update2 n k M q c ≡ update2 n k M p c
-  unfolding by
-  left2 c h (is-before lt) = U .earlier q c lt ∙ pair .left c h ∙ sym (U .earlier p c lt)
-  left2 c h (is-first e) = subst (λ (c : ℕ). update2 n k M q c ≡ update2 n k M p c) (sym e) (U .column q (omega arith) within ∙ first-same ∙ sym (U .column p above (omega arith)))
-  left2 c h (is-second e) = subst (λ (c : ℕ). update2 n k M q c ≡ update2 n k M p c) (sym e) (U .next q (omega arith) within ∙ second-same ∙ sym (U .next p above (omega arith)))
-  left2 c h (is-after lt) = U .trailing q c lt (omega arith) within ∙ rows-same c (pair .left c h) ∙ sym (U .trailing p c lt h (omega arith))
+    at-k : k ≡ c → Alike (update2 n k M) p q c
+    at-k e =
+        subst (Alike (update2 n k M) p q) e
+        (is-left (update2 n k M) p q k (omega arith) (omega arith) (U .column q after' within' ∙ first-same ∙ sym (U .column p after within)))
 
-  -- a pivot of size 2 above the pair keeps it
-  pub pair-kept2 : Paired n (pivot2 n k (k + 1) M) p q
-  unfolding by
-  pair-kept2 = subst (λ (N : Matrix). Paired n N p q) (sym (in-place2 n k M)) (record {
-    left = λ c h. left2 c h (where-is c k);
-    diagonal =
-        U .trailing q q (omega arith) (omega arith) within
-        ∙ ap (λ (x : Float). x ⊖ M q k ⊗ first M k q ⊖ M q (k + 1) ⊗ second M k q) (pair .diagonal)
-        ∙ rw (first-same, second-same, pair .left k (omega arith), pair .left (k + 1) (omega arith)) refl
-        ∙ sym (U .trailing p p above (omega arith) (omega arith));
-    below = λ r h h'.
-        U .trailing r q (omega arith) (omega arith) h'
-        ∙ ap (λ (x : Float). x ⊖ M r k ⊗ first M k q ⊖ M r (k + 1) ⊗ second M k q) (pair .below r h h')
-        ∙ ap (λ (x : Float). M r p ⊖ M r k ⊗ x ⊖ M r (k + 1) ⊗ second M k q) first-same
-        ∙ ap (λ (x : Float). M r p ⊖ M r k ⊗ first M k p ⊖ M r (k + 1) ⊗ x) second-same
-        ∙ sym (U .trailing r p above (omega arith) h');
-  })
+    at-next : k + 1 ≡ c → Alike (update2 n k M) p q c
+    at-next e =
+        subst (Alike (update2 n k M) p q) e
+        (is-left (update2 n k M) p q (k + 1) (omega arith) (omega arith) (U .next q after' within' ∙ second-same ∙ sym (U .next p after within)))
+
+    trailing : k + 1 < c → Outside p q c → Alike (update2 n k M) p q c
+    trailing lt (left h h') =
+        is-left (update2 n k M) p q c h h'
+        (U .trailing q c lt h' within'
+        ∙ ap₂ (λ (x y : Float). x ⊖ y ⊗ first M k c ⊖ M q (k + 1) ⊗ second M k c) (left-is M p q c h h' here) column
+        ∙ ap (λ (x : Float). M p c ⊖ M p k ⊗ first M k c ⊖ x ⊗ second M k c) next
+        ∙ sym (U .trailing p c lt h within))
+    trailing lt (right h h') =
+        is-right (update2 n k M) p q c h h'
+        (U .trailing c q after' h' upto
+        ∙ ap₂ (λ (x y : Float). x ⊖ M c k ⊗ y ⊖ M c (k + 1) ⊗ second M k q) (right-is M p q c h h' here) first-same
+        ∙ ap (λ (x : Float). M c p ⊖ M c k ⊗ first M k p ⊖ M c (k + 1) ⊗ x) second-same
+        ∙ sym (U .trailing c p after h upto))
+
+-- ---- a pivot brought from row s
+
+-- rows p and q of N stood at p and q renamed
+brought : {k n t s : ℕ} {M N : Matrix} → Renaming k n t s M N → (p q c : ℕ) → k ≤ p → p < n → k ≤ q → q < n → k ≤ c → c < n
+    → Alike M (renamed t s p) (renamed t s q) (renamed t s c) → Alike N p q c
+brought R p q c a b a' b' a'' b'' alike = R .at q c a' b' a'' b'' ∙ alike ∙ sym (R .at p c a b a'' b'')
+
+-- Rows p and q behind the pivot, wherever they stood before it, agree in column c, from k on and not between them,
+-- if they agreed in the pivot's column, or its two, and in the column that became c.
+module _ (n k s p q c : ℕ) (M : Matrix) (within : p < n) (within' : q < n) (from : k ≤ c) (upto : c < n) (outside : Outside p q c) where
+  pub alike-kept1 : k ≤ s → k < p → k < q
+      → Alike M (renamed k s p) (renamed k s q) s
+      → Alike M (renamed k s p) (renamed k s q) (renamed k s c)
+      → Alike (pivot1 n k s M) p q c
+  unfolding pivot1
+  alike-kept1 target after after' pivot here =
+      let R = brought1-renamed n k s M target in
+      alike-updated1 n k p q c (brought1 n k s M) after after' within within' from upto outside
+      (brought R p q k (omega arith) within (omega arith) within' (omega arith) (omega arith) (rw (renamed-first k s) pivot))
+      (brought R p q c (omega arith) within (omega arith) within' from upto here)
+
+  pub alike-kept2 : k < s → k + 1 < p → k + 1 < q
+      → Alike M (renamed (k + 1) s p) (renamed (k + 1) s q) k
+      → Alike M (renamed (k + 1) s p) (renamed (k + 1) s q) s
+      → Alike M (renamed (k + 1) s p) (renamed (k + 1) s q) (renamed (k + 1) s c)
+      → Alike (pivot2 n k s M) p q c
+  unfolding pivot2
+  alike-kept2 target after after' pivot pivot' here =
+      let R = brought2-renamed n k s M target in
+      alike-updated2 n k p q c (brought2 n k s M) after after' within within' from upto outside
+      (brought R p q k (omega arith) within (omega arith) within' (omega arith) (omega arith) (rw (renamed-other (k + 1) s k (omega arith) (omega arith)) pivot))
+      (brought R p q (k + 1) (omega arith) within (omega arith) within' (omega arith) (omega arith) (rw (renamed-first (k + 1) s) pivot'))
+      (brought R p q c (omega arith) within (omega arith) within' from upto here)
+
+-- ---- a pair that stays where it is
+
+paired-of : (n p q : ℕ) (M : Matrix) → p < q → q < n → ((c : ℕ) → c < n → Outside p q c → Alike M p q c) → Paired n M p q
+paired-of n p q M apart within alike = record {
+  left = λ c h. left-is M p q c h (omega arith) (alike c (omega arith) (left h (omega arith)));
+  diagonal =
+      right-is M p q q (omega arith) (omega arith) (alike q within (right (omega arith) (omega arith)))
+      ∙ left-is M p q p (omega arith) (omega arith) (alike p (omega arith) (left (omega arith) (omega arith)));
+  below = λ r h h'. right-is M p q r (omega arith) (omega arith) (alike r h' (right (omega arith) (omega arith)));
+}
+
+module _ (n p q : ℕ) (M : Matrix) (apart : p < q) (within : q < n) (pair : Paired n M p q) where
+  alike-of : (c : ℕ) → c < n → Outside p q c → Alike M p q c
+  alike-of c upto (left h h') = is-left M p q c h h' (pair .left c h)
+  alike-of c upto (right h h') =
+      is-right M p q c h h'
+      (⊎-elim
+      (λ (e : q ≡ c). subst (λ (c : ℕ). M c q ≡ M c p) e (pair .diagonal ∙ sym (pair .left p (omega arith))))
+      (λ (lt : q < c). pair .below c lt upto)
+      (eq-or-lt-of-le h'))
+
+  -- the columns before k are as they were
+  paired-from : (k : ℕ) (N : Matrix) → k ≤ p → ((i c : ℕ) → c < k → N i c ≡ M i c) → ((c : ℕ) → k ≤ c → c < n → Outside p q c → Alike N p q c) → Paired n N p q
+  paired-from k N above earlier later = paired-of n p q N apart within (λ c upto outside. at c upto outside (decLt c k))
+    where
+      at : (c : ℕ) → c < n → Outside p q c → Dec (c < k) → Alike N p q c
+      at c upto outside (yes lt) = is-left N p q c (omega arith) (omega arith) (earlier q c lt ∙ pair .left c (omega arith) ∙ sym (earlier p c lt))
+      at c upto outside (no nlt) = later c (omega arith) upto outside
+
+  -- A pivot from row s, neither twin, keeps the pair, bit for bit. Where s stands between the twins, they have to agree in its column.
+  module _ (k s : ℕ) (inside : s < n) (not-first : s ≡ p → ⊥) (not-second : s ≡ q → ⊥) (between : p < s → s < q → M q s ≡ M s p) where
+    pivot-alike : Alike M p q s
+    pivot-alike = pick (decLt s p) (decLt s q)
+      where
+        pick : Dec (s < p) → Dec (s < q) → Alike M p q s
+        pick (yes lt) d = alike-of s inside (left (omega arith) (omega arith))
+        pick (no nlt) (yes lt) = at-lower M q s (omega arith) ∙ between (omega arith) lt ∙ sym (at-upper M p s (omega arith))
+        pick (no nlt) (no nlt') = alike-of s inside (right (omega arith) (omega arith))
+
+    -- rows p and q are not renamed
+    unmoved : (t c : ℕ) → t < p → Alike M p q c → Alike M (renamed t s p) (renamed t s q) c
+    unmoved t c above alike = rw (renamed-other t s p (omega arith) (omega arith), renamed-other t s q (omega arith) (omega arith)) alike
+
+    unmoved-at : (t c : ℕ) → t < p → c < n → Outside p q c → Alike M (renamed t s p) (renamed t s q) (renamed t s c)
+    unmoved-at t c above upto outside =
+        unmoved t (renamed t s c) above
+        (by-name t s (Alike M p q) c (λ e. pivot-alike) (λ e. alike-of t (omega arith) (left (omega arith) (omega arith))) (λ not-t not-s. alike-of c upto outside))
+
+    pub pair-kept1 : k ≤ s → k < p → Paired n (pivot1 n k s M) p q
+    pair-kept1 target above =
+        paired-from k (pivot1 n k s M) (omega arith) (λ i c before. pivot1-earlier n i c k s M before target)
+        (λ c from upto outside.
+        alike-kept1 n k s p q c M (omega arith) within from upto outside target above (omega arith) (unmoved k s above pivot-alike) (unmoved-at k c above upto outside))
+
+    pub pair-kept2 : k < s → k + 1 < p → Paired n (pivot2 n k s M) p q
+    pair-kept2 target above =
+        let early : Alike M p q k = alike-of k (omega arith) (left (omega arith) (omega arith)) in
+        paired-from k (pivot2 n k s M) (omega arith) (λ i c before. pivot2-earlier n i c k s M before target)
+        (λ c from upto outside.
+        alike-kept2 n k s p q c M (omega arith) within from upto outside target above (omega arith) (unmoved (k + 1) k above early) (unmoved (k + 1) s above pivot-alike)
+        (unmoved-at (k + 1) c above upto outside))

@@ -4,6 +4,8 @@ pub mod Share
 pub mod Udu
 pub mod UduLastTwo
 pub mod Cholesky
+pub mod Across
+pub mod Interchanges
 pub mod Lblt
 pub mod Pair
 pub mod Found

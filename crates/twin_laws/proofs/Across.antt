@@ -1,0 +1,202 @@
+-- Row q of a batch is the twin of row p of an earlier batch: what `cholesky::extend` answers and leaves. Assumes nothing.
+use mathlib.Core.Path.{_≡_, refl, sym, _∙_, ap, ap₂, subst}
+use mathlib.Core.Bool.{Bool, true, false, cond}
+use mathlib.Core.List.{List}
+use Prim.Native.Nat.{ℕ, _+_, _≤_, _<_}
+use native.Mathlib.Omega.{arith}
+use borrow.Author.Tests.{le-ltb}
+use lib.ListN.{length}
+use lib.Ieee.{Float, binary64, mul, div, neg, lt}
+use Rattle.answer.specs.declared.Answer.{Answer}
+use Rattle.answer.specs.declared.Answer.the-variants.{Done, NotPositive}
+use Rattle.leaf.specs.Root.{rootOf}
+use Rattle.matrix.specs.Matrix.{Matrix}
+use Rattle.matrix.specs.Loop.{for}
+use Rattle.matrix.specs.Grid.{load}
+use Rattle.matrix.specs.Layouts.{lower}
+use Rattle.cholesky.specs.Column.{updated}
+use Rattle.cholesky.specs.Run.{Outcome, isDone, updates, worked, column, run}
+use Rattle.cholesky.specs.Crate.{zero, positive, crateRule}
+use Rattle.cholesky.specs.Leaves.{Ends}
+use Rattle.cholesky.specs.Promise.{in-room, Fitting, Extended}
+use Rattle.cholesky.specs.Batches.{Batches, more}
+use Rattle.cholesky.proofs.Parts.{leaves-agree}
+use Rattle.cholesky.proofs.Outcomes.{stays}
+use Rattle.cholesky.proofs.Demand3.{batches-run}
+use Rattle.lblt.proofs.Loops.{for-keeps}
+use Rattle.twins.specs.Twins.{Twins}
+use Rattle.twins.proofs.Clauses.{Lower, lower-of-twins}
+use Rattle.twin_laws.proofs.Cholesky.{reduced, reduced-same, remainder, ruled, judged-answer, After, Accepted, Updated, onward, accepted-before, stands, right-of, diagonal-of, refused-diagonal, twin-left, twin-diagonal, twin-beside, twin-rest, twin-next, twin-refused, twin-between}
+
+-- ---- what is said of the call
+
+-- done, or refused at one of the rows m to n
+pub data Answers (m n : ℕ) (r : Answer) : Type 0 where
+  done : r ≡ Done → Answers m n r
+  refused : (j : ℕ) → m ≤ j → j < n → r ≡ NotPositive j → Answers m n r
+
+-- A is the matrix as it was handed in, L what stands in the buffer after the call
+module _ (A L : Matrix) (p : ℕ) where
+  -- row p's diagonal before its root was taken
+  abbrev pub v : Float
+  v = reduced A L p p p
+
+  -- what column p leaves of the twin's diagonal: v + (−(v / root v))·(v / root v)
+  abbrev pub crumb : Float
+  crumb = remainder crateRule v v
+
+  module _ (q m n : ℕ) (r : Answer) where
+    -- rows m to n answered r, p < m ≤ q < n: whatever r is
+    pub record Across : Type 0 where
+      pub answer : Answers m n r
+      -- rows p and q, up to column p
+      pub left : (c : ℕ) → c < p → L q c ≡ L p c
+      pub diagonal : L p p ≡ rootOf v
+      pub beside : L q p ≡ div binary64 v (rootOf v)
+      -- what the columns up to p leave of row q's diagonal, and of its entries between the twins
+      pub rest : reduced A L q q (p + 1) ≡ crumb
+      pub between : (j : ℕ) → p < j → j < q → reduced A L q j (p + 1) ≡ remainder crateRule v (reduced A L j p p)
+
+    -- q = p + 1: the crumb decides
+    pub record Neighbours : Type 0 where
+      -- not above zero: row q is refused, and the crumb stays on its diagonal
+      pub refused : lt zero crumb ≡ false → r ≡ NotPositive q
+      pub leaves : lt zero crumb ≡ false → L q q ≡ crumb
+      -- above zero: row q is accepted, and the crumb's root stands there
+      pub accepted : lt zero crumb ≡ true → Answers (q + 1) n r
+      pub root : lt zero crumb ≡ true → L q q ≡ rootOf crumb
+
+-- ---- the answer of some columns
+
+ruled-is : (x : Float) (j : ℕ) → ruled crateRule x j ≡ cond (lt zero x) Done (NotPositive j)
+unfolding positive
+ruled-is x j = pick (lt zero x)
+  where
+    pick : (b : Bool) → cond (isDone (cond b Done (NotPositive j))) Done (cond b Done (NotPositive j)) ≡ cond b Done (NotPositive j)
+    pick true = refl
+    pick false = refl
+
+module _ (lo hi : ℕ) where
+  one-answers : (j : ℕ) → lo ≤ j → j < hi → (b : Bool) → Answers lo hi (cond b Done (NotPositive j))
+  one-answers j from upto true = done refl
+  one-answers j from upto false = refused j from upto refl
+
+  answers : (o : Outcome) → o .answer ≡ Done → Answers lo hi (for lo hi (column crateRule 0) o .answer)
+  unfolding column worked
+  answers o start = for-keeps (λ (x : Outcome). Answers lo hi (x .answer)) lo hi (column crateRule 0) o (done start) (λ j x from upto h. more-answers j x from upto h (isDone (x .answer)))
+    where
+      more-answers : (j : ℕ) (x : Outcome) → lo ≤ j → j < hi → Answers lo hi (x .answer) → (b : Bool) → Answers lo hi (cond {A = Outcome} b (worked crateRule 0 j (x .cells)) x .answer)
+      more-answers j x from upto h true =
+          let U = updates j j (x .cells) in
+          rw (le-ltb j 0 (omega arith)) (subst (Answers lo hi) (sym (judged-answer crateRule j U ∙ ruled-is (U j j) j)) (one-answers j from upto (lt zero (U j j))))
+      more-answers j x from upto h false = h
+
+-- ---- the call
+
+-- l₀ holds the rows as they were handed in. Batches up to row m were accepted and left l; then a call on rows m to n left l' and answered r.
+module _ (room m n p q : ℕ) (l₀ l l' : List Float) (r : Answer)
+    (fits : Fitting room 0 n (length l₀))
+    (before : Batches room l₀ m l Done)
+    (call : Extended room m n l l' r)
+    (earlier : p < m)
+    (later : m ≤ q)
+    (within : q < n)
+    (twins : Twins n (load (lower (in-room room n)) l₀) p q) where
+  abbrev A : Matrix
+  A = load (lower (in-room room n)) l₀
+
+  abbrev L : Matrix
+  L = load (lower (in-room room n)) l'
+
+  given : Lower n A p q
+  given = lower-of-twins n A p q (omega arith) within twins
+
+  ends : Ends (in-room room n) l₀ l' r (run crateRule 0 n A)
+  ends = batches-run room n l₀ fits (more before (omega arith) call) (omega arith)
+
+  before-done : run crateRule 0 m A .answer ≡ Done
+  before-done = sym (batches-run room n l₀ fits before (omega arith) .answer)
+
+  accepted-p : Accepted crateRule A (p + 1)
+  accepted-p = accepted-before crateRule A (p + 1) m (omega arith) (ap isDone before-done)
+
+  -- the entries of finished columns are the run's
+  cell : (k i c : ℕ) → c < k → k ≤ n → c ≤ i → i < n → L i c ≡ After crateRule A k i c
+  cell k i c left upto low under = leaves-agree (ends .leaves) .at i c low under ∙ stands crateRule A k n i c left upto
+
+  chained : (k i j : ℕ) → k ≤ j → j ≤ i → i < n → reduced A L i j k ≡ updated (After crateRule A k) j k i
+  unfolding updated
+  chained k i j upto low under =
+      reduced-same A L (After crateRule A k) (After crateRule A k) i j i j k
+      (sym (right-of crateRule A k i j upto))
+      (λ t lt. ap₂ (λ (x y : Float). mul binary64 (neg x) y) (cell k j t lt (omega arith) (omega arith) (omega arith)) (cell k i t lt (omega arith) (omega arith) (omega arith)))
+
+  v-is : Updated crateRule A p p ≡ v A L p
+  v-is = sym (chained p p p (omega arith) (omega arith) (omega arith))
+
+  pub across : Across A L p q m n r
+  across = record {
+    answer = subst (Answers m n) (ap (λ (o : Outcome). o .answer) (onward crateRule A m n (omega arith)) ∙ sym (ends .answer)) (answers m n (run crateRule 0 m A) before-done);
+    left = λ c h.
+        cell (p + 1) q c (omega arith) (omega arith) (omega arith) within
+        ∙ twin-left crateRule A p q apart (given .left) (given .diagonal) accepted-p c h
+        ∙ sym (cell (p + 1) p c (omega arith) (omega arith) (omega arith) (omega arith));
+    diagonal =
+        cell (p + 1) p p (omega arith) (omega arith) (omega arith) (omega arith)
+        ∙ twin-diagonal crateRule A p q apart (given .left) (given .diagonal) accepted-p
+        ∙ ap rootOf v-is;
+    beside =
+        cell (p + 1) q p (omega arith) (omega arith) (omega arith) within
+        ∙ twin-beside crateRule A p q apart (given .left) (given .diagonal) accepted-p
+        ∙ ap (λ (x : Float). div binary64 x (rootOf x)) v-is;
+    rest =
+        chained (p + 1) q q (omega arith) (omega arith) within
+        ∙ twin-rest crateRule A p q apart (given .left) (given .diagonal) accepted-p
+        ∙ ap (λ (x : Float). remainder crateRule x x) v-is;
+    between = λ j h h'.
+        chained (p + 1) q j (omega arith) (omega arith) within
+        ∙ twin-between crateRule A p q apart (given .left) (given .diagonal) accepted-p j h h' (given .between j h h')
+        ∙ ap₂ (remainder crateRule) v-is (sym (chained p j p (omega arith) (omega arith) (omega arith)));
+  }
+    where
+      apart : p < q
+      apart = omega arith
+
+  -- ---- neighbours
+
+  module _ (next : q ≡ p + 1) where
+    accepted-q : Accepted crateRule A q
+    accepted-q = subst (Accepted crateRule A) (sym next) accepted-p
+
+    crumb-is : Updated crateRule A q q ≡ crumb A L p
+    crumb-is = twin-next crateRule A p q (omega arith) (given .left) (given .diagonal) accepted-p next ∙ ap (λ (x : Float). remainder crateRule x x) v-is
+
+    answer-q : run crateRule 0 (q + 1) A .answer ≡ cond (lt zero (crumb A L p)) Done (NotPositive q)
+    answer-q =
+        twin-refused crateRule A p q (omega arith) (given .left) (given .diagonal) accepted-p next
+        ∙ ap (λ (x : Float). ruled crateRule (remainder crateRule x x) q) v-is
+        ∙ ruled-is (crumb A L p) q
+
+    refused-q : lt zero (crumb A L p) ≡ false → run crateRule 0 (q + 1) A .answer ≡ NotPositive q
+    refused-q none = answer-q ∙ rw none
+
+    done-q : lt zero (crumb A L p) ≡ true → run crateRule 0 (q + 1) A .answer ≡ Done
+    done-q some = answer-q ∙ rw some
+
+    onwards : for (q + 1) n (column crateRule 0) (run crateRule 0 (q + 1) A) ≡ run crateRule 0 n A
+    onwards = onward crateRule A (q + 1) n (omega arith)
+
+    diagonal-q : L q q ≡ After crateRule A (q + 1) q q
+    diagonal-q = cell (q + 1) q q (omega arith) (omega arith) (omega arith) within
+
+    pub neighbours : Neighbours A L p q m n r
+    unfolding positive
+    neighbours = record {
+      refused = λ none.
+          ends .answer
+          ∙ ap (λ (o : Outcome). o .answer) (sym onwards ∙ stays crateRule 0 (q + 1) n (run crateRule 0 (q + 1) A) (ap isDone (refused-q none)))
+          ∙ refused-q none;
+      leaves = λ none. diagonal-q ∙ refused-diagonal crateRule A q accepted-q (ap (λ (x : Float). isDone (positive x q)) crumb-is ∙ rw none) ∙ crumb-is;
+      accepted = λ some. subst (Answers (q + 1) n) (ap (λ (o : Outcome). o .answer) onwards ∙ sym (ends .answer)) (answers (q + 1) n (run crateRule 0 (q + 1) A) (done-q some));
+      root = λ some. diagonal-q ∙ diagonal-of crateRule A q (ap isDone (done-q some)) ∙ ap rootOf crumb-is;
+    }
