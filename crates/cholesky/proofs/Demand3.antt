@@ -15,7 +15,7 @@ use Rattle.matrix.specs.Grid.{load, Free}
 use Rattle.matrix.specs.Layouts.{startOf, placeIn, sizeOf, lower}
 use Rattle.matrix.proofs.Loops.{for-none}
 use Rattle.matrix.proofs.Grids.{load-in, load-is}
-use Rattle.matrix.proofs.Places.{digits-row, in-lower, lower-at}
+use Rattle.matrix.proofs.Places.{digits-row, in-lower, lower-at, lower-across}
 use Rattle.cholesky.specs.Run.{Outcome, isDone, column, started, run}
 use Rattle.cholesky.specs.Crate.{crateRule}
 use Rattle.cholesky.specs.Leaves.{Ends}
@@ -29,11 +29,6 @@ use Rattle.cholesky.proofs.Promises.{room-sound, checked-fitting}
 use Rattle.cholesky.proofs.Batch.{batch-like}
 
 -- ---- one slice at two orders
-
--- an entry stands at one place in every order
-across : (room c d : ℕ) (l : List Float) (i j : ℕ) → j ≤ i → i < c → i < d → load (lower (in-room room c)) l i j ≡ load (lower (in-room room d)) l i j
-unfolding startOf
-across room c d l i j le here there = lower-at (in-room room c) l i j le here ∙ sym (lower-at (in-room room d) l i j le there)
 
 free-before : (room m n p : ℕ) → m ≤ n → Free (lower (in-room room n)) p → Free (lower (in-room room m)) p
 unfolding startOf placeIn lower
@@ -86,7 +81,7 @@ module _ (room n : ℕ) (l₀ : List Float) (fits : Fitting room 0 n (length l�
       fit = let inside = fits .inside in record { small = fits .small; inside = omega arith; rising = rising; long = long }
 
       before : (i c : ℕ) → c ≤ i → i < m → load (lower (in-room room k)) l i c ≡ for 0 m (column crateRule 0) (started given) .cells i c
-      before i c le lt = across room k m l i c le (omega arith) lt ∙ leaves-agree (so .leaves) .at i c le lt
+      before i c le lt = lower-across room k m l i c le (omega arith) lt ∙ leaves-agree (so .leaves) .at i c le lt
 
       after : (i c : ℕ) → c ≤ i → m ≤ i → i < k → load (lower (in-room room k)) l i c ≡ given i c
       after i c le from lt =
@@ -94,7 +89,7 @@ module _ (room n : ℕ) (l₀ : List Float) (fits : Fitting room 0 n (length l�
           lower-at (in-room room k) l i c le lt
           ∙ so .leaves .holds .kept (i + startOf (in-room room k) c) (unfold startOf in free-after room m i c (omega arith) (omega arith) from)
           ∙ sym (lower-at (in-room room k) l₀ i c le lt)
-          ∙ across room k n l₀ i c le lt (omega arith)
+          ∙ lower-across room k n l₀ i c le lt (omega arith)
 
       like : Like k (run crateRule m k (load (lower (in-room room k)) l)) (run crateRule 0 k given)
       like = batch-like crateRule m k given (load (lower (in-room room k)) l) rising (sym (so .answer)) before after
@@ -140,5 +135,5 @@ module _ (room n : ℕ) (l₀ : List Float) (fits : Fitting room 0 n (length l�
         at = λ i j le lt.
             sym (longer-row c upto i j lt)
             ∙ sym (leaves-agree (call .leaves fits) .at i j le (omega arith))
-            ∙ across room n c whole i j le (omega arith) lt;
+            ∙ lower-across room n c whole i j le (omega arith) lt;
       }

@@ -88,6 +88,12 @@ pub lower-at : (y : Layout) (l : List Float) (i j : ℕ) → j ≤ i → i < y .
 unfolding lower placeIn
 lower-at y l i j le lt = load-in (lower y) l i j (in-lower y i j le lt)
 
+-- an entry stands at one place in every order
+pub lower-across : (room c d : ℕ) (l : List Float) (i j : ℕ) → j ≤ i → i < c → i < d
+    → load (lower (record { order = c; room = room })) l i j ≡ load (lower (record { order = d; room = room })) l i j
+unfolding startOf
+lower-across room c d l i j le here there = lower-at (record { order = c; room = room }) l i j le here ∙ sym (lower-at (record { order = d; room = room }) l i j le there)
+
 pub upper-at : (n : ℕ) (l : List Float) (i j : ℕ) → i ≤ j → j < n → load (upper n) l i j ≡ getD l (i + j * n) nan
 unfolding upper placeSquare
 upper-at n l i j le lt = load-in (upper n) l i j (in-upper n i j le lt)

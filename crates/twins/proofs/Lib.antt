@@ -4,3 +4,4 @@ pub mod Marks
 pub mod Search
 pub mod Sizes
 pub mod Unique
+pub mod Batches

@@ -2,14 +2,12 @@
 use mathlib.Core.Path.{_≡_, refl, sym, _∙_, ap, subst}
 use mathlib.Core.List.{List}
 use Prim.Native.Nat.{ℕ, _+_, _/_, _%_, _≤_, _<_}
-use native.Mathlib.Decide.{decLe}
 use native.Mathlib.Omega.{arith}
-use lib.Dec.{lit≤}
 use lib.ListN.{length}
 use lib.Ieee.{Float}
 use Rattle.answer.specs.declared.Answer.{Answer}
 use Rattle.answer.specs.declared.Answer.the-variants.{Done}
-use Rattle.answer.proofs.Back.{done-only}
+use Rattle.answer.proofs.Back.{is-done}
 use Rattle.answer.specs.Number.{codeOf, placeOf, numberOf}
 use Rattle.matrix.specs.Matrix.{Matrix}
 use Rattle.twins.specs.declared.Twin.{Twin}
@@ -48,15 +46,11 @@ first-unique {n} {M} {m} (pair {p} {q} f) (pair {p = r} {q = s} g) =
 
 -- two answers that meet the promise are equal
 pub first-twin-since-unique : (l : List Float) (room m n : ℕ) {t u : Twin} → FirstTwinSince l room m n t → FirstTwinSince l room m n u → t ≡ u
-first-twin-since-unique l room m n {t} {u} a b = by (decLe (codeOf (sizes room m n (length l))) 0)
+first-twin-since-unique l room m n {t} {u} a b = by (is-done (sizes room m n (length l)))
   where
-    by : Dec (codeOf (sizes room m n (length l)) ≤ 0) → t ≡ u
-    by (yes zero) =
-        let done : sizes room m n (length l) ≡ Done = done-only (sizes room m n (length l)) (omega arith) in
-        first-unique (a .found done) (b .found done)
-    by (no code) =
-        let other : sizes room m n (length l) ≡ Done → ⊥ = λ done. code (subst (λ (x : Answer). codeOf x ≤ 0) (sym done) (lit≤ tt)) in
-        a .refused other ∙ sym (b .refused other)
+    by : Dec (sizes room m n (length l) ≡ Done) → t ≡ u
+    by (yes done) = first-unique (a .found done) (b .found done)
+    by (no other) = a .refused other ∙ sym (b .refused other)
 
 pub first-twin-unique : (l : List Float) (room n : ℕ) {t u : Twin} → FirstTwin l room n t → FirstTwin l room n u → t ≡ u
 first-twin-unique l room n = first-twin-since-unique l room 0 n

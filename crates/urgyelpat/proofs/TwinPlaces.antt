@@ -3,16 +3,15 @@ use mathlib.Core.Bool.{Bool, true, false, cond, not, _||_}
 use mathlib.Core.List.{List}
 use mathlib.Core.Path.{_≡_, refl, sym, subst, ap}
 use Prim.Native.Nat.{ℕ, _*_, _≤_, _<_}
-use native.Mathlib.Decide.{decLe}
 use native.Mathlib.Omega.{arith}
 use borrow.Author.Tests.{ltb-false}
-use lib.Dec.{ltb, eqb, lit≤}
+use lib.Dec.{ltb, eqb}
 use lib.ListN.{length}
 use lib.Ieee.{Float}
 use Rattle.answer.specs.declared.Answer.{Answer}
 use Rattle.answer.specs.declared.Answer.the-variants.{Done, OutOfRange, MatrixLength}
 use Rattle.answer.specs.Number.{codeOf}
-use Rattle.answer.proofs.Back.{done-only}
+use Rattle.answer.proofs.Back.{is-done}
 use Rattle.matrix.specs.Matrix.{Matrix}
 use Rattle.twins.specs.declared.Twin.{Twin}
 use Rattle.twins.specs.declared.Twin.the-variants.{Nothing, Pair, Refused}
@@ -47,12 +46,8 @@ first-small small (none a) = tt
 first-small small (pair {p} {q} f) = let rows : p < q = f .apart in let last : q < _ = f .within in omega (arith, rows, last, small)
 
 pub twin-small : (l : List Float) (room m n : ℕ) {t : Twin} → FirstTwinSince l room m n t → Small t
-twin-small l room m n {t} x = by (decLe (codeOf (sizes room m n (length l))) 0)
+twin-small l room m n {t} x = by (is-done (sizes room m n (length l)))
   where
-    by : Dec (codeOf (sizes room m n (length l)) ≤ 0) → Small t
-    by (yes zero) =
-        let done : sizes room m n (length l) ≡ Done = done-only (sizes room m n (length l)) (omega arith) in
-        first-small (order-small room m n (length l) done) (x .found done)
-    by (no code) =
-        let other : sizes room m n (length l) ≡ Done → ⊥ = λ done. code (subst (λ (r : Answer). codeOf r ≤ 0) (sym done) (lit≤ tt)) in
-        subst Small (sym (x .refused other)) (sizes-within room m n (length l))
+    by : Dec (sizes room m n (length l) ≡ Done) → Small t
+    by (yes done) = first-small (order-small room m n (length l) done) (x .found done)
+    by (no other) = subst Small (sym (x .refused other)) (sizes-within room m n (length l))
