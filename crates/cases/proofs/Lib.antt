@@ -1,2 +1,2 @@
 pub mod Computed
-pub mod UpperTwins
+pub mod TwinAnswers

@@ -1,4 +1,4 @@
--- Twin rows, worked: [x / x x] for x = 1, 2, 3, 7, 49, by each factor; two more by UDU.
+-- Twin rows, worked: [x / x x] for x = 1, 2, 3, 7, 49, by each factor; a first batch by Cholesky; two more by UDU.
 use mathlib.Core.List.{List, [], _∷_}
 use Prim.Native.Nat.{ℕ}
 use Rattle.cases.specs.Read.{Rows, lbltOf, choleskyOf, uduGives, uduOfSlice}
@@ -11,6 +11,20 @@ twins x = (x ∷ []) ∷ (x ∷ x ∷ []) ∷ []
 -- a slice of order 2, 1 and 0 in column 0, 1 and 1 in column 1: the rows are twins by the upper part, not by the lower
 abbrev pub upperTwins : List ℕ
 upperTwins = 0x3ff0_0000_0000_0000 ∷ 0 ∷ 0x3ff0_0000_0000_0000 ∷ 0x3ff0_0000_0000_0000 ∷ []
+
+-- slices of room 2: the rows 2 and then 2, 2, as they came; the rows 4 and then 2, 2
+abbrev pub cameTwice : List ℕ
+cameTwice = 0x4000_0000_0000_0000 ∷ 0x4000_0000_0000_0000 ∷ 0 ∷ 0x4000_0000_0000_0000 ∷ []
+
+abbrev pub cameOnce : List ℕ
+cameOnce = 0x4010_0000_0000_0000 ∷ 0x4000_0000_0000_0000 ∷ 0 ∷ 0x4000_0000_0000_0000 ∷ []
+
+-- the same with row 0 factored: √2 for 2; 2 for 4, so that the numbers are those of the rows that came twice
+abbrev pub factoredTwice : List ℕ
+factoredTwice = 0x3ff6_a09e_667f_3bcd ∷ 0x4000_0000_0000_0000 ∷ 0 ∷ 0x4000_0000_0000_0000 ∷ []
+
+abbrev pub factoredOnce : List ℕ
+factoredOnce = cameTwice
 
 -- LBLT: the record, then the factor. Cholesky: the answer, then the factor. UDU: the answer, u(0,1), u(1,1), then d.
 abbrev pub twinTable : List Case
@@ -37,6 +51,9 @@ twinTable =
     ∷ (uduGives (twins 0x4048_8000_0000_0000) ⇒ 0 ∷ 0 ∷ 0x3fef_ffff_ffff_ffff ∷ 0x3fef_ffff_ffff_ffff ∷ 0x3d10_0000_0000_0000 ∷ 0x4048_8000_0000_0000 ∷ [])
     -- x = 0006200000000000, below the normal numbers: (1/x)·x, which is u(0,1), is not 1, and what is left is zero all the same
     ∷ (uduGives (twins 0x0006_2000_0000_0000) ⇒ 8 ∷ 0 ∷ 0x3fef_ffff_ffff_ffff ∷ 0x3fef_ffff_ffff_ffff ∷ 0 ∷ 0x0006_2000_0000_0000 ∷ [])
+    -- row 0 factored, of 2 and of 4
+    ∷ (choleskyOf ((0x4000_0000_0000_0000 ∷ []) ∷ []) ⇒ 0 ∷ 0 ∷ 0x3ff6_a09e_667f_3bcd ∷ [])
+    ∷ (choleskyOf ((0x4010_0000_0000_0000 ∷ []) ∷ []) ⇒ 0 ∷ 0 ∷ 0x4000_0000_0000_0000 ∷ [])
     -- twins by the upper part alone
     ∷ (uduOfSlice 2 upperTwins ⇒ 8 ∷ 0 ∷ 0x3ff0_0000_0000_0000 ∷ 0x3ff0_0000_0000_0000 ∷ 0 ∷ 0x3ff0_0000_0000_0000 ∷ [])
     ∷ []
