@@ -1,4 +1,4 @@
--- 65,536 bytes are enough: the first so many of the input decide, and every response has room in so many.
+-- 65,536 bytes are enough: the first so many of the input decide, and every response and every warning has room in so many.
 use mathlib.Core.Path.{_≡_, sym, ap, _∙_, subst}
 use mathlib.Core.List.{List, _++_, append-assoc}
 use mathlib.Core.Logic.{_⊎_, inl, inr}
@@ -21,8 +21,12 @@ use Rattle.sheet_text.proofs.PlaceLaws.{lt-or-ge}
 use Rattle.sheet_text.proofs.NumberLaws.{eq-or-ne}
 use Rattle.sheet_text.proofs.SheetLaws.{length-lines}
 use Rattle.sheet_text.proofs.Lengths.{few-places, sheet-length, lines-length}
-use Rattle.sheet_page.proofs.PageLength.{ShortRow, page-length, refusal-length}
+use Rattle.sheet_page.proofs.PutLaws.{put-whole}
+use Rattle.sheet_page.proofs.PageLength.{ShortRow, page-length, refusal-length, twin-length}
 use Rattle.sheet.specs.Respond.{pageFrom, emptyWords, numbersOf, factorPage, Response, factors, refuses, Responds}
+use Rattle.sheet.specs.Warn.{Warning, names-twins, no-twins, no-sheet, Warns}
+use Rattle.sheet.proofs.Twins.{of-rows}
+use Rattle.sheet.proofs.Answers.{numbers-length}
 
 -- ---- the input
 fewer : (n : ℕ) (bits : List ℕ) → IsSheet n bits → (k : ℕ) → length (join (take k (sheetLines n bits))) ≤ 60338
@@ -65,26 +69,34 @@ module _ (size : ℕ) (large : 60338 < size) (s : List ℕ) where
         };
       }
 
-  -- the response to the first bytes is the response to all of them
-  pub cut-decides : (text : List ℕ) → Response (take size s) text → Response s text
-  cut-decides text response = go (lt-or-ge size (length s)) response
+  -- the first bytes are a sheet, or have their first wrong line, as all of them
+  sheet-cut : {n : ℕ} {bits : List ℕ} → IsSheet n bits → take size s ≡ sheetOf n bits → s ≡ sheetOf n bits
+  sheet-cut {n} {bits} h same = go (lt-or-ge size (length s))
     where
-      long : size < length s → length (take size s) ≡ size
-      long h = length-take-le size s (omega arith)
+      go : (size < length s) ⊎ (length s ≤ size) → s ≡ sheetOf n bits
+      go (inl long) = absurd (omega (arith, length-take-le size s (omega arith), ap length same, sheet-length n bits h))
+      go (inr short) = sym (take-all size s short) ∙ same
 
-      cut : size < length s → Response (take size s) text → Response s text
-      cut h (factors n bits k same e) = absurd (omega (arith, long h, ap length same, sheet-length n bits k))
-      cut h (refuses line f e) =
-          refuses line
-          (record {
-            no-sheet = λ n bits k same. omega (arith, ap length same, sheet-length n bits k);
-            before = begins-whole (line - 1) (f .before);
-            here = λ b. f .here (begins-cut line b);
-          }) e
+  wrong-cut : {line : ℕ} → FirstWrong (take size s) line → FirstWrong s line
+  wrong-cut {line} f = go (lt-or-ge size (length s))
+    where
+      go : (size < length s) ⊎ (length s ≤ size) → FirstWrong s line
+      go (inl long) = record {
+        no-sheet = λ n bits h same. omega (arith, ap length same, sheet-length n bits h);
+        before = begins-whole (line - 1) (f .before);
+        here = λ b. f .here (begins-cut line b);
+      }
+      go (inr short) = subst (λ (t : List ℕ). FirstWrong t line) (take-all size s short) f
 
-      go : (size < length s) ⊎ (length s ≤ size) → Response (take size s) text → Response s text
-      go (inl h) r = cut h r
-      go (inr h) r = subst (λ (t : List ℕ). Response t text) (take-all size s h) r
+  -- the response to the first bytes is the response to all of them, and so is the warning
+  pub cut-decides : (text : List ℕ) → Response (take size s) text → Response s text
+  cut-decides text (factors n bits h same e) = factors n bits h (sheet-cut h same) e
+  cut-decides text (refuses line f e) = refuses line (wrong-cut f) e
+
+  pub cut-warns : (text : List ℕ) → Warning (take size s) text → Warning s text
+  cut-warns text (names-twins n bits p q h same first e) = names-twins n bits p q h (sheet-cut h same) first e
+  cut-warns text (no-twins n bits h same first e) = no-twins n bits h (sheet-cut h same) first e
+  cut-warns text (no-sheet line f e) = no-sheet line (wrong-cut f) e
 
 -- ---- the output
 rows-short : (n : ℕ) (words : List ℕ) → n ≤ 64 → (k : ℕ) → Upto n words k → (r : ℕ) → r < k → ShortRow words r
@@ -142,10 +154,21 @@ response-fits s text (factors n bits h same e) =
     omega (arith, ap length e, page-fits n (load (lower (full n)) (numbersOf n bits)) (take (wordsOf n) emptyWords) (h .most) (words-sized n (h .most)))
 response-fits s text (refuses line f e) = omega (arith, ap length e, refusal-length (BadLine line) (omega arith) (line-small s line f))
 
+pub warning-fits : (s text : List ℕ) → Warning s text → length text ≤ 11
+warning-fits s text (names-twins n bits p q h same first e) =
+    let small = h .most in
+    let rows = of-rows (numbersOf n bits) n small (numbers-length n bits small) first in
+    omega (arith, ap length e, twin-length p q (omega (arith, rows .0)) (omega (arith, rows .1)))
+warning-fits s text (no-twins n bits h same first e) = omega (arith, ap length e)
+warning-fits s text (no-sheet line f e) = omega (arith, ap length e)
+
 -- ---- the program: read into 65,536 bytes, written from 65,536 bytes
 pub written-out : (s o : List ℕ) (r : ℕ) (o′ : List ℕ) → length o ≡ 65536 → Responds (take 65536 s) o r o′ → Response s (take r o′)
 written-out s o r o′ long responds =
-    let text = responds .text in
-    let fits = response-fits (take 65536 s) text (responds .response) in
-    let all : take r o′ ≡ text = responds .put .stands ∙ take-all (length o) text (omega arith) in
-    cut-decides 65536 (omega arith) s (take r o′) (subst (Response (take 65536 s)) (sym all) (responds .response))
+    let fits = response-fits (take 65536 s) (responds .text) (responds .response) in
+    cut-decides 65536 (omega arith) s (take r o′) (subst (Response (take 65536 s)) (sym (put-whole (responds .put) (omega arith))) (responds .response))
+
+pub warned-out : (s o : List ℕ) (r : ℕ) (o′ : List ℕ) → length o ≡ 65536 → Warns (take 65536 s) o r o′ → Warning s (take r o′)
+warned-out s o r o′ long warns =
+    let fits = warning-fits (take 65536 s) (warns .text) (warns .warning) in
+    cut-warns 65536 (omega arith) s (take r o′) (subst (Warning (take 65536 s)) (sym (put-whole (warns .put) (omega arith))) (warns .warning))

@@ -1,4 +1,5 @@
 pub mod Factor
+pub mod Twins
 pub mod Answers
 pub mod Once
 pub mod Cut

@@ -1,16 +1,24 @@
--- Every text has one response.
+-- Every text has one response and one warning, and a promise fixes what is lent and what is answered.
 use mathlib.Core.Path.{_≡_, refl, sym, ap, ap₂, _∙_}
-use mathlib.Core.List.{List}
+use mathlib.Core.List.{List, []}
 use Prim.Native.Nat.{ℕ}
 use Rattle.answer.specs.declared.Answer.the-variants.{BadLine}
+use Rattle.twins.specs.declared.Twin.{Twin}
+use Rattle.twins.specs.First.{FirstTwin}
+use Rattle.twins.proofs.Unique.{first-twin-unique}
+use Rattle.twins.proofs.Exists.{some-first-twin-since}
 use Rattle.sheet_text.specs.Read.{readOf}
-use Rattle.sheet_text.specs.Sheet.{Reads, right, wrong}
+use Rattle.sheet_text.specs.Sheet.{sheetOf, IsSheet, Reads, right, wrong}
 use Rattle.sheet_text.proofs.SheetSound.{sound}
 use Rattle.sheet_text.proofs.SheetOnce.{one-line}
 use Rattle.sheet_text.proofs.BitsOnce.{sheet-once}
 use Rattle.sheet_page.specs.Page.{refusalOf}
-use Rattle.sheet.specs.Respond.{emptyRoom, factorPage, Response, factors, refuses}
+use Rattle.sheet_page.proofs.PutLaws.{put-same, put-once}
+use Rattle.sheet.specs.Respond.{emptyRoom, numbersOf, factorPage, Response, factors, refuses, Responds}
+use Rattle.sheet.specs.Warn.{Warning, names-twins, no-twins, no-sheet, Warns}
+use Rattle.sheet.proofs.Answers.{spoken, sheet-warning}
 
+-- ---- the response
 pub some-response : (s : List ℕ) → (text : List ℕ) × Response s text
 some-response s = go (sound s emptyRoom)
   where
@@ -25,3 +33,38 @@ one-response s t u (factors n bits h same e) (factors m other k same′ e′) =
 one-response s t u (factors n bits h same e) (refuses line f e′) = absurd (f .no-sheet n bits h same)
 one-response s t u (refuses line f e) (factors m other k same′ e′) = absurd (f .no-sheet m other k same′)
 one-response s t u (refuses line f e) (refuses line′ g e′) = e ∙ ap (λ (k : ℕ). refusalOf (BadLine k)) (one-line s line line′ f g) ∙ sym e′
+
+pub responds-once : {s o : List ℕ} {r k : ℕ} {o′ o″ : List ℕ} → Responds s o r o′ → Responds s o k o″ → (r ≡ k) × (o′ ≡ o″)
+responds-once x y = put-once (put-same (one-response _ _ _ (x .response) (y .response)) (x .put)) (y .put)
+
+-- ---- the warning
+pub some-warning : (s : List ℕ) → (text : List ℕ) × Warning s text
+some-warning s = go (sound s emptyRoom)
+  where
+    go : Reads s emptyRoom (readOf s emptyRoom .sheet) (readOf s emptyRoom .cells) → (text : List ℕ) × Warning s text
+    go (right n bits h same e c) =
+        let first = some-first-twin-since (numbersOf n bits) n 0 n in
+        (spoken (first .0), sheet-warning n bits h same (first .0) (first .1))
+    go (wrong line n bits f e b c) = ([], no-sheet line f refl)
+
+-- one sheet has one first pair, or none
+same-twins : (s : List ℕ) {t u : Twin} (n : ℕ) (bits : List ℕ) (m : ℕ) (other : List ℕ) → IsSheet n bits → IsSheet m other → s ≡ sheetOf n bits → s ≡ sheetOf m other
+    → FirstTwin (numbersOf n bits) n n t → FirstTwin (numbersOf m other) m m u → spoken t ≡ spoken u
+same-twins s {t} {u} n bits m other h k same same′ first first′ =
+    let one = sheet-once n bits m other h k (sym same ∙ same′) in
+    let back : FirstTwin (numbersOf n bits) n n u = rw (one .order, one .entries) first′ in
+    ap spoken (first-twin-unique (numbersOf n bits) n n first back)
+
+pub one-warning : (s t u : List ℕ) → Warning s t → Warning s u → t ≡ u
+one-warning s t u (names-twins n bits p q h same f e) (names-twins m other i j k same′ g e′) = e ∙ same-twins s n bits m other h k same same′ f g ∙ sym e′
+one-warning s t u (names-twins n bits p q h same f e) (no-twins m other k same′ g e′) = e ∙ same-twins s n bits m other h k same same′ f g ∙ sym e′
+one-warning s t u (names-twins n bits p q h same f e) (no-sheet line w e′) = absurd (w .no-sheet n bits h same)
+one-warning s t u (no-twins n bits h same f e) (names-twins m other i j k same′ g e′) = e ∙ same-twins s n bits m other h k same same′ f g ∙ sym e′
+one-warning s t u (no-sheet line w e) (names-twins m other i j k same′ g e′) = absurd (w .no-sheet m other k same′)
+one-warning s t u (no-twins n bits h same f e) (no-twins m other k same′ g e′) = e ∙ sym e′
+one-warning s t u (no-twins n bits h same f e) (no-sheet line w e′) = e ∙ sym e′
+one-warning s t u (no-sheet line w e) (no-twins m other k same′ g e′) = e ∙ sym e′
+one-warning s t u (no-sheet line w e) (no-sheet line′ w′ e′) = e ∙ sym e′
+
+pub warns-once : {s o : List ℕ} {r k : ℕ} {o′ o″ : List ℕ} → Warns s o r o′ → Warns s o k o″ → (r ≡ k) × (o′ ≡ o″)
+warns-once x y = put-once (put-same (one-warning _ _ _ (x .warning) (y .warning)) (x .put)) (y .put)

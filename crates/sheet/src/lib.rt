@@ -1,8 +1,12 @@
-// The sheet program as one function, from the bytes of its input to the bytes of its output.
+// The sheet program as two functions, from the bytes of its input to the bytes of its output and of its warning.
 use sheet_page::put_page;
 use sheet_page::put_refusal;
+use sheet_page::put_twin;
 use sheet_text::read_sheet;
-ghost use Rattle.sheet.specs.Respond.{Responds};
+use twins::Twin;
+ghost use mathlib.Core.Path.{_≡_};
+ghost use Rattle.sheet.specs.Respond.{Responds, emptyRoom};
+ghost use Rattle.sheet.specs.Warn.{Warns};
 ghost use Rattle.sheet.specs.Parts.{Square, Writes, Empty};
 
 // Factors the n·n numbers and writes the page.
@@ -38,4 +42,27 @@ pub fn respond(s: &[u8], out: &mut [u8]) -> usize
     let mut room = [0.0; 4096];
     let mut words = [0u32; 129];
     read_and_answer(s, &mut room, &mut words, out)
+}
+
+// Reads the sheet into the room, then looks for twins. A refused sheet has order 0.
+fn read_and_warn(s: &[u8], a: &mut [f64], out: &mut [u8]) -> usize
+    requires { ⌜ now a ≡ emptyRoom ⌝ }
+    ensures { λ r. ⌜ Warns (now (s .entry)) (now (out .entry)) r (now (out .exit)) ⌝ }
+{
+    let sheet = read_sheet(s, a);
+    let n = sheet.order;
+    let cells = n * n;
+    match twins::first_twin(&a[..cells], n, n) {
+        Twin::Nothing => 0,
+        Twin::Pair(p, q) => put_twin(out, p, q),
+        Twin::Refused(_) => 0,
+    }
+}
+
+// Writes the warning of s at the start of `out` and answers where it ends.
+pub fn warn(s: &[u8], out: &mut [u8]) -> usize
+    ensures { λ r. ⌜ Warns (now (s .entry)) (now (out .entry)) r (now (out .exit)) ⌝ }
+{
+    let mut room = [0.0; 4096];
+    read_and_warn(s, &mut room, out)
 }

@@ -1,4 +1,4 @@
-// Runs the sheet program's function on each file that an argument names, and prints the name and the response.
+// Runs the sheet program's functions on each file that an argument names, and prints the name, the response and the warning.
 use libc::STDOUT_FILENO;
 
 fn respond_to(fd: i32) {
@@ -6,6 +6,8 @@ fn respond_to(fd: i32) {
     let length = io::read_full(fd, &mut input);
     let mut output = io::large_buffer();
     let end = sheet::respond(&input[..length], &mut output);
+    io::write_all(STDOUT_FILENO, &output[..end]);
+    let end = sheet::warn(&input[..length], &mut output);
     io::write_all(STDOUT_FILENO, &output[..end]);
 }
 

@@ -1,4 +1,4 @@
--- How long a page and a refusal are.
+-- How long a page, a refusal and a line of twins are.
 use mathlib.Core.Path.{_≡_, refl, ap}
 use mathlib.Core.List.{List, _++_}
 use mathlib.Core.Logic.{_⊎_, inl, inr}
@@ -15,7 +15,7 @@ use Rattle.sheet_text.specs.Place.{places}
 use Rattle.sheet_text.specs.Sheet.{entryLines, join}
 use Rattle.sheet_text.proofs.NumberLaws.{eq-or-ne}
 use Rattle.sheet_text.proofs.Lengths.{short-field, long-field, bits-length, line-length, few-places, entry-lines-length}
-use Rattle.sheet_page.specs.Page.{pivotLine, pivotLines, zeroLine, bitsOf, detLine, pageOf, refusalOf}
+use Rattle.sheet_page.specs.Page.{pivotLine, pivotLines, zeroLine, bitsOf, detLine, pageOf, refusalOf, twinLine}
 use Rattle.sheet_page.proofs.PageText.{endLine, page-text}
 
 -- the words of a row have at most two digits
@@ -84,4 +84,12 @@ refusal-length r h k =
     let code = short-field (codeOf r) tab h in
     let place = long-field (placeOf r) lf k in
     let both = length-append (field (codeOf r) tab) (field (placeOf r) lf) in
+    omega arith
+
+pub twin-length : (p q : ℕ) → p < 100 → q < 100 → length (twinLine p q) ≤ 11
+unfolding twinLine
+twin-length p q h k =
+    let first = short-field p tab h in
+    let second = short-field q lf k in
+    let both = length-append (field p tab) (field q lf) in
     omega arith

@@ -1,10 +1,10 @@
 -- Texts that are written one after the other.
-use mathlib.Core.Path.{_≡_, refl, sym, ap, _∙_}
+use mathlib.Core.Path.{_≡_, refl, sym, ap, ap₂, _∙_}
 use mathlib.Core.List.{List, [], _∷_, _++_, append-assoc, append-nil}
 use Prim.Native.Nat.{ℕ, zero, suc, _+_, _-_, _/_, _%_, _<_, _≤_}
 use native.Mathlib.Numerals.{add-one}
 use native.Mathlib.Omega.{arith}
-use lib.ListN.{length, getD, take, drop, set, length-append, length-set}
+use lib.ListN.{length, getD, take, drop, set, length-append, length-set, take-append-drop}
 use lib.Seq.{take-all, length-take-le, take-suc, take-suc-set, drop-set-lt, drop-drop}
 use Rattle.sheet_text.specs.Text.{digit, decimal, hex}
 use Rattle.sheet_text.proofs.NumberLaws.{decimal-more}
@@ -82,6 +82,18 @@ put-ends {o} {at} {text} {r} {o′} p =
 
 pub put-same : {o : List ℕ} {at : ℕ} {text text′ : List ℕ} {r : ℕ} {o′ : List ℕ} → text ≡ text′ → Put o at text r o′ → Put o at text′ r o′
 put-same e p = rw e at p
+
+-- a text that has room stands whole
+pub put-whole : {o text : List ℕ} {r : ℕ} {o′ : List ℕ} → Put o 0 text r o′ → length text ≤ length o → take r o′ ≡ text
+put-whole {o} {text} p h = p .stands ∙ take-all (length o) text h
+
+-- one text, one end, and one slice after it
+pub put-once : {o : List ℕ} {at : ℕ} {text : List ℕ} {r k : ℕ} {o′ o″ : List ℕ} → Put o at text r o′ → Put o at text k o″ → (r ≡ k) × (o′ ≡ o″)
+put-once {o} {r = r} {k} {o′} {o″} p q =
+    let end : r ≡ k = p .ends ∙ sym (q .ends) in
+    let front : take r o′ ≡ take k o″ = p .stands ∙ sym (q .stands) in
+    let back : drop r o′ ≡ drop k o″ = p .kept ∙ ap (λ (m : ℕ). drop m o) end ∙ sym (q .kept) in
+    (end, sym (take-append-drop r o′) ∙ ap₂ _++_ front back ∙ take-append-drop k o″)
 
 -- ---- the words and the numbers
 pub word-more : {o : List ℕ} {at r : ℕ} {o′ : List ℕ} {r′ : ℕ} {o″ : List ℕ} (w : List ℕ) (k : ℕ) → k < length w → Put o at (take k w) r o′ → Put o′ r (getD w k 0 ∷ []) r′ o″ → Put o at (take (k + 1) w) r′ o″

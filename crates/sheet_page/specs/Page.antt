@@ -1,4 +1,4 @@
--- The page that is written: of a factored matrix, or of a refusal.
+-- The page that is written: of a factored matrix, or of a refusal; and the line that names twin rows.
 use mathlib.Core.Bool.{cond}
 use mathlib.Core.List.{List, [], _∷_, _++_, map}
 use Prim.Native.Nat.{ℕ, zero, suc, _+_, _-_, _*_}
@@ -54,3 +54,7 @@ pageOf n words M det = join (pageLines n words M det)
 
 unfoldable pub refusalOf : Answer → List ℕ
 refusalOf r = bytes "refused\t" ++ (field (codeOf r) tab ++ field (placeOf r) lf)
+
+-- rows p and q are twins
+unfoldable pub twinLine : ℕ → ℕ → List ℕ
+twinLine p q = bytes "twin\t" ++ (field p tab ++ field q lf)

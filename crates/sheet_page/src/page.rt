@@ -2,6 +2,7 @@
 use crate::put::put_bits;
 use crate::put::put_field;
 use crate::put::put_number_line;
+use crate::put::put_pair_line;
 use crate::put::put_word;
 use answer::Answer;
 use sheet_text::Place;
@@ -12,7 +13,7 @@ ghost use Rattle.sheet_text.specs.Text.{entryLine};
 ghost use Rattle.sheet_text.specs.Sheet.{join};
 ghost use Rattle.sheet_page.specs.Put.{Put};
 ghost use Rattle.sheet_page.specs.Asked.{PutPivots, PutEntries, EntriesPut, PutPage};
-ghost use Rattle.sheet_page.specs.Page.{pivotLine, pivotLines, zeroLine, detLine, matrixIn, pageOf, refusalOf};
+ghost use Rattle.sheet_page.specs.Page.{pivotLine, pivotLines, zeroLine, detLine, matrixIn, pageOf, refusalOf, twinLine};
 
 fn put_pivot(out: &mut [u8], at: usize, row: usize, index: usize, size: usize) -> usize
     requires { ⌜ at ≤ length (now out) ⌝ }
@@ -114,7 +115,12 @@ pub fn put_refusal(out: &mut [u8], r: Answer) -> usize
 {
     let code = r.code() as usize;
     let place = r.place() as usize;
-    let next = put_word(out, 0, b"refused\t");
-    let next = put_field(out, next, code, b'\t');
-    put_field(out, next, place, b'\n')
+    put_pair_line(out, 0, b"refused\t", code, place)
+}
+
+// The line that names twin rows.
+pub fn put_twin(out: &mut [u8], p: u32, q: u32) -> usize
+    ensures { λ k. ⌜ Put (now (out .entry)) 0 (twinLine p q) k (now (out .exit)) ⌝ }
+{
+    put_pair_line(out, 0, b"twin\t", p as usize, q as usize)
 }

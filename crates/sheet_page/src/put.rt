@@ -1,9 +1,9 @@
 // Writers of bytes, words and numbers. Each starts at `at`, answers where its text ends, and stops where the slice is full.
-ghost use mathlib.Core.List.{[], _∷_};
+ghost use mathlib.Core.List.{[], _∷_, _++_};
 ghost use Prim.Native.Nat.{_<_, _≤_};
 ghost use mathlib.Core.Path.{_≡_};
 ghost use lib.ListN.{length};
-ghost use Rattle.sheet_text.specs.Text.{digit, decimal, hex, field, bitsField, numberLine};
+ghost use Rattle.sheet_text.specs.Text.{tab, lf, digit, decimal, hex, field, bitsField, numberLine};
 ghost use Rattle.sheet_page.specs.Put.{Put, PutDigit};
 
 pub fn put_byte(out: &mut [u8], at: usize, b: u8) -> usize
@@ -97,4 +97,14 @@ pub fn put_number_line(out: &mut [u8], at: usize, word: &[u8], v: usize) -> usiz
 {
     let next = put_word(out, at, word);
     put_field(out, next, v, b'\n')
+}
+
+// A word with its tab, two numbers parted by a tab, the line's end.
+pub fn put_pair_line(out: &mut [u8], at: usize, word: &[u8], v: usize, w: usize) -> usize
+    requires { ⌜ at ≤ length (now out) ⌝ }
+    ensures { λ r. ⌜ Put (now (out .entry)) at (now (word .entry) ++ (field v tab ++ field w lf)) r (now (out .exit)) ⌝ }
+{
+    let next = put_word(out, at, word);
+    let next = put_field(out, next, v, b'\t');
+    put_field(out, next, w, b'\n')
 }

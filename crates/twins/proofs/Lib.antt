@@ -5,3 +5,4 @@ pub mod Search
 pub mod Sizes
 pub mod Unique
 pub mod Batches
+pub mod Exists
