@@ -1,5 +1,5 @@
 -- The marks of rows: twin rows have one mark, and column after column brings its entries to the marks. Assumes nothing.
-use mathlib.Core.Path.{_≡_, refl, sym, _∙_, ap, subst}
+use mathlib.Core.Path.{_≡_, refl, sym, _∙_, ap, ap₂, subst}
 use mathlib.Core.Bool.{false, true≢false}
 use mathlib.Core.List.{List}
 use mathlib.Core.Logic.{⊎-elim}
@@ -11,12 +11,12 @@ use lib.Seq.{getD-set-same, getD-set-other}
 use lib.Ieee.{binary64, toBits}
 use Rattle.matrix.specs.Matrix.{Matrix}
 use Rattle.matrix.proofs.Loops.{for-none, for-more, for-same}
-use Rattle.twins.specs.Twins.{Twins}
+use Rattle.twins.specs.Twins.{symmetric, Twins}
 use Rattle.twins.specs.First.{Told}
 use Rattle.twins.specs.Mark.{mixed, mixEntry, rowMark, Cleared, Marked, Brought}
 use Rattle.twins.proofs.Clauses.{at-lower, at-upper}
 
-pub one-mark : (n : ℕ) (M : Matrix) (p q : ℕ) → Twins n M p q → rowMark n M p ≡ rowMark n M q
+one-mark : (n : ℕ) (M : Matrix) (p q : ℕ) → Twins n M p q → rowMark n M p ≡ rowMark n M q
 unfolding rowMark mixEntry
 one-mark n M p q twins =
     for-same 0 n (mixEntry M p) (mixEntry M q) 0 (λ k mark from below. ap (λ x. mixed mark (toBits binary64 x)) (sym (twins k below)))
@@ -34,23 +34,16 @@ mark-none : (M : Matrix) (i : ℕ) → rowMark 0 M i ≡ 0
 unfolding rowMark
 mark-none M i = for-none 0 (mixEntry M i) 0
 
--- entry (i, c) of the lower part, at place c of row i
-pub mark-lower : (M : Matrix) (i c : ℕ) {mark bits new : ℕ} → c ≤ i → mark ≡ rowMark c M i → bits ≡ toBits binary64 (M i c) → new ≡ mixed mark bits → new ≡ rowMark (c + 1) M i
+mark-more : (M : Matrix) (i k : ℕ) {mark bits new : ℕ} → mark ≡ rowMark k M i → bits ≡ toBits binary64 (symmetric M i k) → new ≡ mixed mark bits → new ≡ rowMark (k + 1) M i
 unfolding rowMark mixEntry
-mark-lower M i c {mark} {bits} le is brought e =
-    e
-    ∙ ap (λ (x : ℕ). mixed x bits) is
-    ∙ ap (mixed (rowMark c M i)) (brought ∙ ap (toBits binary64) (sym (at-lower M i c le)))
-    ∙ sym (for-more 0 c (mixEntry M i) 0 (omega arith))
+mark-more M i k {mark} {bits} is brought e = e ∙ ap₂ mixed is brought ∙ sym (for-more 0 k (mixEntry M i) 0 (omega arith))
 
--- and at place i of row c
-pub mark-upper : (M : Matrix) (i c : ℕ) {mark bits new : ℕ} → c < i → mark ≡ rowMark i M c → bits ≡ toBits binary64 (M i c) → new ≡ mixed mark bits → new ≡ rowMark (i + 1) M c
-unfolding rowMark mixEntry
-mark-upper M i c {mark} {bits} lt is brought e =
-    e
-    ∙ ap (λ (x : ℕ). mixed x bits) is
-    ∙ ap (mixed (rowMark i M c)) (brought ∙ ap (toBits binary64) (sym (at-upper M c i lt)))
-    ∙ sym (for-more 0 i (mixEntry M c) 0 (omega arith))
+-- what column c brings, entry (i, c), is entry c of row i and entry i of row c
+at-row : (M : Matrix) (i c : ℕ) {bits : ℕ} → c ≤ i → bits ≡ toBits binary64 (M i c) → bits ≡ toBits binary64 (symmetric M i c)
+at-row M i c le brought = brought ∙ ap (toBits binary64) (sym (at-lower M i c le))
+
+at-column : (M : Matrix) (i c : ℕ) {bits : ℕ} → c < i → bits ≡ toBits binary64 (M i c) → bits ≡ toBits binary64 (symmetric M c i)
+at-column M i c lt brought = brought ∙ ap (toBits binary64) (sym (at-upper M c i lt))
 
 -- ---- the columns
 
@@ -85,7 +78,7 @@ bringing-first {n} {M} {c} {marks} b below brought e = record {
   whole = b .whole;
   passed = λ r from to. absurd (omega arith);
   begun = λ r from h. b .begun r (omega arith) h;
-  own-is = mark-lower M c c (omega arith) (b .begun c (omega arith) below) brought e;
+  own-is = mark-more M c c (b .begun c (omega arith) below) (at-row M c c (omega arith) brought) e;
 }
 
 pub bringing-more : {n : ℕ} {M : Matrix} {c : ℕ} {marks₀ marks : List ℕ} {i own bits mark own' : ℕ} → n ≤ length marks₀ → Bringing n M c marks₀ i own marks → i < n
@@ -100,11 +93,11 @@ bringing-more {n} {M} {c} {marks₀} {marks} {i} {own} {bits} {mark} {own'} room
       whole = λ r h. getD-set-other marks i r mark 0 (ne-of-lt (omega arith)) ∙ b .whole r h;
       passed = λ r from to. ⊎-elim
           (λ (here : r ≡ i). subst (λ (k : ℕ). getD (set marks i mark) k 0 ≡ rowMark (c + 1) M k) (sym here)
-          (getD-set-same marks i mark 0 (omega arith) ∙ mark-lower M i c (omega arith) (b .begun i (omega arith) below) brought e))
+          (getD-set-same marks i mark 0 (omega arith) ∙ mark-more M i c (b .begun i (omega arith) below) (at-row M i c (omega arith) brought) e))
           (λ (before : r < i). getD-set-other marks i r mark 0 (ne-of-lt before) ∙ b .passed r from before)
           (eq-or-lt-of-le (omega arith));
       begun = λ r from h. getD-set-other marks i r mark 0 (ne-of-gt (omega arith)) ∙ b .begun r (omega arith) h;
-      own-is = mark-upper M i c under (b .own-is) brought e';
+      own-is = mark-more M c i (b .own-is) (at-column M i c under brought) e';
     }
 
 pub bringing-all : {n : ℕ} {M : Matrix} {c : ℕ} {marks₀ marks : List ℕ} {i own : ℕ} → n ≤ length marks₀ → Bringing n M c marks₀ i own marks → n ≤ i → Brought n M (c + 1) (set marks c own)
