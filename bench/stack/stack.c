@@ -33,6 +33,7 @@ typedef enum {
     UDU_FACTOR,
     FIRST_TWIN_RANDOM,
     FIRST_TWIN_NEAR,
+    FIRST_TWIN_SINCE,
     CALLS
 } which;
 
@@ -52,6 +53,7 @@ static const char *const names[CALLS] = {
     "udu_factor",
     "first_twin, random rows",
     "first_twin, rows that nearly agree",
+    "first_twin_since, the second half",
 };
 
 static void *stack; /* its lowest byte */
@@ -131,6 +133,7 @@ static void prepare(which call, size_t n)
         fill_random(n, 0.0);
         break;
     case FIRST_TWIN_NEAR:
+    case FIRST_TWIN_SINCE:
         fill_near(n);
         break;
     case CALLS:
@@ -194,6 +197,9 @@ __attribute__((noinline)) static uint64_t called(which call, size_t n)
     case FIRST_TWIN_RANDOM:
     case FIRST_TWIN_NEAR:
         answer = urgyelpat_first_twin(a, n * n, n, n);
+        break;
+    case FIRST_TWIN_SINCE:
+        answer = urgyelpat_first_twin_since(a, n * n, n, n / 2, n);
         break;
     }
     /* after the call, so that each is a call and no jump */

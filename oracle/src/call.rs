@@ -1,6 +1,6 @@
-//! The eleven calls as document 01 and the C convention give them, and a case: one call with what it is lent.
+//! The calls as document 01 and the C convention give them, the two calls for rows that came twice, and a case: one call with what it is lent.
 
-/// An implementation of the calls. An answer is code·4,096 + place.
+/// An implementation of the calls. An answer is code·4,096 + place, and for a pair of twin rows p < q (4,096 + q)·4,096 + p.
 pub trait Calls {
     fn lblt_factor(&self, a: &mut [f64], record: &mut [u32], n: usize) -> u64;
     fn lblt_solve(&self, a: &[f64], record: &[u32], b: &mut [f64], n: usize, columns: usize) -> u64;
@@ -13,6 +13,8 @@ pub trait Calls {
     fn cholesky_unpack(&self, a: &mut [f64], room: usize, n: usize) -> u64;
     fn cholesky_determinant(&self, a: &[f64], room: usize, n: usize) -> (u64, f64);
     fn udu_factor(&self, p: &[f64], u: &mut [f64], d: &mut [f64], n: usize) -> u64;
+    fn first_twin_since(&self, a: &[f64], room: usize, earlier: usize, n: usize) -> u64;
+    fn first_twin(&self, a: &[f64], room: usize, n: usize) -> u64;
 }
 
 #[derive(Clone, Copy, Debug, PartialEq, Eq, PartialOrd, Ord)]
@@ -28,6 +30,8 @@ pub enum Call {
     CholeskyUnpack,
     CholeskyDeterminant,
     UduFactor,
+    FirstTwinSince,
+    FirstTwin,
 }
 
 use Call::*;
@@ -65,7 +69,7 @@ use Number::{N, X, Y};
 use Slice::{A, B, C, Record};
 
 #[rustfmt::skip]
-pub const FORMS: [Form; 11] = [
+pub const FORMS: [Form; 13] = [
     Form { call: LbltFactor, name: "lblt_factor", number: 1, numbers: &[N], slices: &[A, Record], valued: false },
     Form { call: LbltSolve, name: "lblt_solve", number: 2, numbers: &[N, X], slices: &[A, Record, B], valued: false },
     Form { call: LbltDeterminant, name: "lblt_determinant", number: 3, numbers: &[N], slices: &[A, Record], valued: true },
@@ -77,11 +81,18 @@ pub const FORMS: [Form; 11] = [
     Form { call: CholeskyUnpack, name: "cholesky_unpack", number: 9, numbers: &[X, N], slices: &[A], valued: false },
     Form { call: CholeskyDeterminant, name: "cholesky_determinant", number: 10, numbers: &[X, N], slices: &[A], valued: true },
     Form { call: UduFactor, name: "udu_factor", number: 11, numbers: &[N], slices: &[A, B, C], valued: false },
+    Form { call: FirstTwinSince, name: "first_twin_since", number: 12, numbers: &[X, Y, N], slices: &[A], valued: false },
+    Form { call: FirstTwin, name: "first_twin", number: 13, numbers: &[X, N], slices: &[A], valued: false },
 ];
 
 impl Call {
     pub fn form(self) -> &'static Form {
         FORMS.iter().find(|f| f.call == self).expect("every call has a form")
+    }
+
+    /// The text has nothing like it: the steps stand in for the text.
+    pub fn by_steps_alone(self) -> bool {
+        matches!(self, FirstTwinSince | FirstTwin)
     }
 }
 
@@ -91,9 +102,9 @@ pub struct Case {
     pub call: Call,
     /// The order.
     pub n: usize,
-    /// `lblt_solve`: columns; Cholesky: room.
+    /// `lblt_solve`: columns; Cholesky and twin rows: room.
     pub x: usize,
-    /// `cholesky_extend`: earlier order.
+    /// `cholesky_extend`, `first_twin_since`: earlier order.
     pub y: usize,
     /// The first matrix.
     pub a: Vec<f64>,
@@ -146,6 +157,8 @@ impl Case {
             CholeskyUnpack => (calls.cholesky_unpack(a, x, n), None),
             CholeskyDeterminant => with_value(calls.cholesky_determinant(a, x, n)),
             UduFactor => (calls.udu_factor(a, b, c, n), None),
+            FirstTwinSince => (calls.first_twin_since(a, x, y, n), None),
+            FirstTwin => (calls.first_twin(a, x, n), None),
         }
     }
 

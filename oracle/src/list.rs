@@ -15,6 +15,8 @@ pub const CALL: u64 = 6;
 pub const SAME: u64 = 7;
 pub const DIGEST: u64 = 8;
 pub const SWEEP: u64 = 9;
+pub const REPEAT: u64 = 10;
+pub const PLACES: u64 = 11;
 
 /// The most that the registers A and B, C, and R have to hold.
 pub const MOST: [usize; 3] = [4096, 64, 129];
@@ -44,6 +46,80 @@ fn number(slice: Slice) -> u64 {
 
 fn slice(number: u64) -> Slice {
     [Slice::A, Slice::B, Slice::C, Slice::Record][number as usize]
+}
+
+/// A matrix of order n in a room, whose entries follow from their places.
+#[derive(Clone, Copy)]
+pub struct Pattern {
+    pub n: usize,
+    pub room: usize,
+    /// An entry is this word and more.
+    pub base: u64,
+    /// The bits of an entry's number that are added to the base.
+    pub kept: u64,
+    /// What stands beside the entries is this word and more.
+    pub rest: u64,
+    /// The bits by which a changed entry differs.
+    pub mask: u64,
+}
+
+/// Row and column q are those of p, and entry (i, j) is changed.
+#[derive(Clone, Copy)]
+pub struct Spot {
+    pub p: usize,
+    pub q: usize,
+    pub i: usize,
+    pub j: usize,
+}
+
+impl Pattern {
+    fn of(payload: &[u64]) -> Pattern {
+        let [base, kept, rest, mask] = [2, 3, 4, 5].map(|at| payload[at]);
+        Pattern { n: payload[0] as usize, room: payload[1] as usize, base, kept, rest, mask }
+    }
+
+    fn payload(&self) -> [u64; 6] {
+        [self.n as u64, self.room as u64, self.base, self.kept, self.rest, self.mask]
+    }
+
+    /// How many numbers the register holds.
+    fn count(&self) -> usize {
+        self.room * self.room
+    }
+
+    fn word(&self, spot: Spot, at: usize) -> u64 {
+        let (i, j) = (at % self.room, at / self.room);
+        if i < j || self.n <= i {
+            return self.rest.wrapping_add(at as u64);
+        }
+        let source = |row: usize| if row == spot.q { spot.p } else { row };
+        let (least, most) = (source(i).min(source(j)), source(i).max(source(j)));
+        let word = self.base.wrapping_add(((most << 6) ^ least) as u64 & self.kept);
+        if (i, j) == (spot.i, spot.j) { word ^ self.mask } else { word }
+    }
+
+    fn words(&self, spot: Spot, count: usize) -> Vec<u64> {
+        (0..count).map(|at| self.word(spot, at)).collect()
+    }
+
+    /// Every row again as itself and as every later row, and each time every entry changed. The order is at most 8.
+    fn spots(&self) -> impl Iterator<Item = Spot> + use<> {
+        let n = self.n;
+        (0..4096)
+            .map(|t| Spot { p: t % 8, q: t / 8 % 8, i: t / 64 % 8, j: t / 512 })
+            .filter(move |s| s.p <= s.q && s.q < n && s.j <= s.i && s.i < n)
+    }
+}
+
+impl Spot {
+    fn of(payload: &[u64]) -> Spot {
+        let [p, q, i, j] = [0, 1, 2, 3].map(|at| payload[at] as usize);
+        Spot { p, q, i, j }
+    }
+
+    fn payload(&self) -> [u64; 4] {
+        [self.p, self.q, self.i, self.j].map(|x| x as u64)
+    }
 }
 
 pub struct Machine<'a> {
@@ -120,6 +196,15 @@ impl<'a> Machine<'a> {
                     self.cases += (count * count * count) as u64;
                     2 * count
                 }
+                REPEAT => {
+                    self.set(slice(which), &Pattern::of(payload).words(Spot::of(&payload[6..]), count));
+                    10
+                }
+                PLACES => {
+                    let found = self.places(Pattern::of(payload), count);
+                    self.hold("places", found, payload[6]);
+                    7
+                }
                 _ => panic!("no instruction {op}"),
             };
         }
@@ -181,6 +266,19 @@ impl<'a> Machine<'a> {
         h
     }
 
+    /// The digest over all that `first_twin_since` answers at every spot, for every earlier order.
+    fn places(&mut self, pattern: Pattern, count: usize) -> u64 {
+        let mut h = DIGEST_START;
+        for spot in pattern.spots() {
+            self.cases += 1;
+            self.set(Slice::A, &pattern.words(spot, count));
+            for earlier in 0..=pattern.n {
+                h = step(h ^ self.call(12, pattern.n, pattern.room, earlier).0);
+            }
+        }
+        h
+    }
+
     fn sweep_one(&mut self, library: u64, [x, y, z]: [u64; 3], mut h: u64) -> u64 {
         let filled = [0, 1, 2, 3].map(|at| fill(at).to_bits());
         let lower = [x, y, filled[2], z];
@@ -207,11 +305,16 @@ impl<'a> Machine<'a> {
                 h = self.swept(h, 8, [2, 0], &[Slice::B]);
                 self.swept(h, 9, [2, 0], &[Slice::A])
             }
-            _ => {
+            3 => {
                 self.set(Slice::A, &[x, filled[1], y, z]);
                 self.set(Slice::B, &filled);
                 self.set(Slice::C, &filled[..2]);
                 self.swept(h, 11, [0, 0], &[Slice::B, Slice::C])
+            }
+            _ => {
+                self.set(Slice::A, &lower);
+                h = self.swept(h, 12, [2, 1], &[]);
+                self.swept(h, 13, [2, 0], &[])
             }
         }
     }
@@ -313,6 +416,18 @@ impl<'a> Writer<'a> {
         payload.extend((0..special.len()).map(|first| self.machine.sweep(library, &special, first)));
         self.put(SWEEP, library, special.len(), &payload);
         self.cases += special.len().pow(3) as u64;
+    }
+
+    pub fn repeat(&mut self, pattern: Pattern, spot: Spot) {
+        let payload = [&pattern.payload()[..], &spot.payload()].concat();
+        self.put(REPEAT, number(Slice::A), pattern.count(), &payload);
+        self.machine.set(Slice::A, &pattern.words(spot, pattern.count()));
+    }
+
+    pub fn places(&mut self, pattern: Pattern) {
+        let digest = self.machine.places(pattern, pattern.count());
+        self.put(PLACES, number(Slice::A), pattern.count(), &[&pattern.payload()[..], &[digest]].concat());
+        self.cases += pattern.spots().count() as u64;
     }
 
     pub fn words(&self, slice: Slice) -> Vec<u64> {

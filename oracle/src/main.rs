@@ -37,8 +37,9 @@ fn answer(calls: &dyn Calls) -> Result<(), Box<dyn std::error::Error>> {
 
 fn print_family(seed: &str) -> Result<(), Box<dyn std::error::Error>> {
     let mut out = BufWriter::new(io::stdout().lock());
-    for case in cases::family(seed.parse()?).cases {
-        writeln!(out, "{}", case_line(&case))?;
+    let seed = seed.parse()?;
+    for case in cases::family(seed).cases.iter().chain(&cases::twins(seed)) {
+        writeln!(out, "{}", case_line(case))?;
     }
     Ok(out.flush()?)
 }

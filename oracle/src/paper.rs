@@ -1,11 +1,12 @@
 //! The calls, written from document 01's steps and without the text: a matrix is read and written by `a[(i, j)]`, the loops run entry by entry.
+//! The calls for rows that came twice are written from what twin rows are: all pairs are compared, one after the other.
 
 // sums and quotients stand as document 01 writes them
 #![allow(clippy::assign_op_pattern)]
 
 use std::ops::{Index, IndexMut};
 
-use crate::call::Calls;
+use crate::call::{Calls, word};
 
 pub struct Paper;
 
@@ -480,5 +481,26 @@ impl Calls for Paper {
             u[(j, j)] = 1.0;
         }
         0
+    }
+
+    /// Rows p < q are twins if entry (q, k) of the symmetric matrix is entry (p, k) for every k: the same bits, or both NaN.
+    fn first_twin_since(&self, a: &[f64], room: usize, earlier: usize, n: usize) -> u64 {
+        let refused = in_room(a, room, earlier, n);
+        if refused != 0 {
+            return refused;
+        }
+        let entry = |i: usize, j: usize| word(a[i.max(j) + i.min(j) * room]);
+        for q in earlier..n {
+            for p in 0..q {
+                if (0..n).all(|k| entry(q, k) == entry(p, k)) {
+                    return code(4096 + q as u64, p);
+                }
+            }
+        }
+        0
+    }
+
+    fn first_twin(&self, a: &[f64], room: usize, n: usize) -> u64 {
+        self.first_twin_since(a, room, 0, n)
     }
 }

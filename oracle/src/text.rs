@@ -2,12 +2,13 @@
 //!
 //! The text itself answers `LBLT::new`, `solve_mut`, `determinant`, `d`, `l_permuted`, `Cholesky::new`, `l`, `unpack`, `determinant` and
 //! `UDU::new`. What follows document 01 because the text says nothing of it is marked "document 01": the checks before a call, the room, the
-//! further batch, and what stays in the buffers after a refusal.
+//! further batch, and what stays in the buffers after a refusal. The text has no call for rows that came twice: the steps answer it here too.
 
 use crate::call::Calls;
 use crate::linalg::cholesky::Cholesky;
 use crate::linalg::lblt::{LBLT, parts};
 use crate::linalg::udu::UDU;
+use crate::paper::Paper;
 use crate::{Dyn, OMatrix};
 
 pub struct Text;
@@ -262,6 +263,14 @@ impl Calls for Text {
             }
             None => refused_udu(p, u, d, n),
         }
+    }
+
+    fn first_twin_since(&self, a: &[f64], room: usize, earlier: usize, n: usize) -> u64 {
+        Paper.first_twin_since(a, room, earlier, n)
+    }
+
+    fn first_twin(&self, a: &[f64], room: usize, n: usize) -> u64 {
+        Paper.first_twin(a, room, n)
     }
 }
 

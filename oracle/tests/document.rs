@@ -1,4 +1,4 @@
-//! Document 01's cases, answered by the text and by document 01's steps.
+//! Document 01's cases, answered by the text and by document 01's steps; rows that came twice, by the steps.
 
 use oracle::call::{Calls, word};
 use oracle::cases::fill;
@@ -116,6 +116,35 @@ fn orders() {
         }
         assert_eq!(calls.cholesky_factor(&mut [], 0, 1), 2 * 4096);
     }
+}
+
+#[test]
+fn twins() {
+    let pair = |p: u64, q: u64| (4096 + q) * 4096 + p;
+    let since = |n: usize, rows: &[f64], earlier: usize| Paper.first_twin_since(&matrix(n, rows), n, earlier, n);
+    let first = |n: usize, rows: &[f64]| Paper.first_twin(&matrix(n, rows), n, n);
+    let nan = |word: u64| f64::from_bits(word);
+    assert_eq!(first(0, &[]), 0);
+    assert_eq!(first(1, &[1.0]), 0);
+    assert_eq!(first(2, &[1.0, 1.0, 1.0]), pair(0, 1));
+    assert_eq!(first(2, &[1.0, 1.0, 2.0]), 0);
+    assert_eq!(first(2, &[0.0, -0.0, 0.0]), 0);
+    assert_eq!(first(2, &[nan(0x7ff0_0000_0000_0001), nan(0xfff8_0000_0000_0000), f64::NAN]), pair(0, 1));
+    // rows 4 2 4 / 2 5 2 / 4 2 4
+    let outer = [4.0, 2.0, 5.0, 4.0, 2.0, 4.0];
+    assert_eq!([0, 2, 3].map(|m| since(3, &outer, m)), [pair(0, 2), pair(0, 2), 0]);
+    // the least second row, then the least first
+    assert_eq!([0, 1, 2, 3].map(|m| since(3, &[1.0; 6], m)), [pair(0, 1), pair(0, 1), pair(0, 2), 0]);
+    // neither above the diagonal nor outside the first n rows is anything read
+    let mut a = vec![f64::NAN; 16];
+    for at in [0, 1, 5] {
+        a[at] = 7.0;
+    }
+    assert_eq!(Paper.first_twin(&a, 4, 2), pair(0, 1));
+    let refused = |room: usize, earlier: usize, n: usize, len: usize| Paper.first_twin_since(&vec![0.0; len], room, earlier, n) / 4096;
+    assert_eq!([refused(1025, 0, 0, 0), refused(0, 1025, 0, 0), refused(0, 0, 1025, 0)], [1; 3]);
+    assert_eq!([refused(1, 0, 2, 0), refused(1, 2, 1, 0)], [2; 2]);
+    assert_eq!([refused(2, 1, 1, 3), refused(1024, 1024, 1024, 0)], [3; 2]);
 }
 
 /// Where document 01 refuses and the text does not say so.

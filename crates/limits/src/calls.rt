@@ -81,3 +81,9 @@ pub fn first_twin(room: usize, n: usize) -> u64 {
     let a = [2.0];
     twins::first_twin(&a, room, n).number() / 4096
 }
+
+// The code of a refusal.
+pub fn first_twin_since(room: usize, earlier: usize, n: usize) -> u64 {
+    let a = [2.0];
+    twins::first_twin_since(&a, room, earlier, n).number() / 4096
+}

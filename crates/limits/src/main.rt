@@ -10,16 +10,7 @@ fn main() {
         calls::udu_factor(1024),
         calls::udu_factor(1025),
     );
-    line(
-        b"first_twin, room",
-        calls::first_twin(1024, 0),
-        calls::first_twin(1025, 0),
-    );
-    line(
-        b"first_twin, order",
-        calls::first_twin(1024, 1024),
-        calls::first_twin(1024, 1025),
-    );
+    twins();
 }
 
 fn lblt() {
@@ -106,6 +97,34 @@ fn cholesky() {
         b"cholesky_determinant, order",
         calls::cholesky_determinant(1024, 1024),
         calls::cholesky_determinant(1024, 1025),
+    );
+}
+
+fn twins() {
+    line(
+        b"first_twin, room",
+        calls::first_twin(1024, 0),
+        calls::first_twin(1025, 0),
+    );
+    line(
+        b"first_twin, order",
+        calls::first_twin(1024, 1024),
+        calls::first_twin(1024, 1025),
+    );
+    line(
+        b"first_twin_since, room",
+        calls::first_twin_since(1024, 0, 0),
+        calls::first_twin_since(1025, 0, 0),
+    );
+    line(
+        b"first_twin_since, order",
+        calls::first_twin_since(1024, 0, 1024),
+        calls::first_twin_since(1024, 0, 1025),
+    );
+    line(
+        b"first_twin_since, earlier order",
+        calls::first_twin_since(1024, 1024, 1024),
+        calls::first_twin_since(1024, 1025, 1024),
     );
 }
 

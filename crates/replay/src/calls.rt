@@ -4,6 +4,7 @@ use crate::registers::part_words;
 use crate::state::State;
 use answer::Answer;
 use answer::Valued;
+use twins::Twin;
 
 // The answer, and the word of the value or 0.
 pub struct Outcome {
@@ -23,6 +24,13 @@ fn valued(v: Valued) -> Outcome {
     Outcome {
         answer: answer.number(),
         value: leaf::to_bits(v.value),
+    }
+}
+
+fn told(twin: Twin) -> Outcome {
+    Outcome {
+        answer: twin.number(),
+        value: 0,
     }
 }
 
@@ -49,6 +57,7 @@ pub fn call(
         1..=5 => of_lblt(which, n, x, part(a, s.a), part(b, s.b), part_words(r, s.r)),
         6..=10 => of_cholesky(which, n, x, y, part(a, s.a), part(b, s.b)),
         11 => of_udu(n, part(a, s.a), part(b, s.b), part(c, s.c)),
+        12 | 13 => of_twins(which, n, x, y, part(a, s.a)),
         _ => no_call(),
     }
 }
@@ -89,4 +98,11 @@ fn of_cholesky(
 
 fn of_udu(n: usize, a: &mut [f64], b: &mut [f64], c: &mut [f64]) -> Outcome {
     plain(udu::factor(a, b, c, n))
+}
+
+fn of_twins(which: u64, n: usize, room: usize, earlier: usize, a: &mut [f64]) -> Outcome {
+    if which == 12 {
+        return told(twins::first_twin_since(a, room, earlier, n));
+    }
+    told(twins::first_twin(a, room, n))
 }

@@ -3,6 +3,7 @@ mod calls;
 mod list;
 mod machine;
 mod registers;
+mod repeat;
 mod report;
 mod state;
 mod sweep;

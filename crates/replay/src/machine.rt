@@ -10,6 +10,8 @@ use crate::list::word;
 use crate::registers::get;
 use crate::registers::put;
 use crate::registers::shift;
+use crate::repeat::places;
+use crate::repeat::repeat;
 use crate::state::State;
 use crate::sweep::sweep;
 
@@ -30,6 +32,10 @@ const SAME: u64 = 7;
 const DIGEST: u64 = 8;
 
 const SWEEP: u64 = 9;
+
+const REPEAT: u64 = 10;
+
+const PLACES: u64 = 11;
 
 // Runs the instructions of a block.
 pub fn block(
@@ -69,6 +75,8 @@ fn payload(first: u64) -> usize {
         SWEEP => std::num::wrapping_add_usize(count_of(first), count_of(first)),
         SHIFT => 2,
         CALL => 5,
+        REPEAT => 10,
+        PLACES => 7,
         FILL | RANDOM | DIGEST => 1,
         _ => 0,
     }
@@ -132,6 +140,8 @@ fn run(
         SET | FILL | RANDOM => load(s, op, which, count, list, a, b, c, r),
         CALL => called(s, which, list, a, b, c, r),
         SWEEP => sweep(s, which, at_most(count, 64), list, a, b, c, r),
+        REPEAT => repeat(s, count, list, a),
+        PLACES => places(s, count, list, a, b, c, r),
         SHIFT => {
             shift(
                 a,

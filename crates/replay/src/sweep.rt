@@ -18,6 +18,8 @@ const CALLS_OF_LBLT: [u64; 5] = [1, 2, 3, 4, 5];
 
 const CALLS_OF_CHOLESKY: [u64; 5] = [7, 6, 10, 8, 9];
 
+const CALLS_OF_TWINS: [u64; 5] = [12, 13, 0, 0, 0];
+
 // What stands at first where a call only writes.
 const FILLED: u64 = 0x5a5a_0000_0000_0000;
 
@@ -129,6 +131,9 @@ fn call_of(library: u64, k: usize) -> u64 {
     if library == 2 {
         return CALLS_OF_CHOLESKY[k % 5];
     }
+    if library == 4 {
+        return CALLS_OF_TWINS[k % 5];
+    }
     if k == 0 {
         return 11;
     }
@@ -175,7 +180,7 @@ fn given(
 
 fn given_a(held: usize, which: u64, x: u64, y: u64, z: u64, a: &mut [f64]) -> usize {
     match which {
-        1 | 6 | 7 => four(a, x, y, FILLED + 2, z),
+        1 | 6 | 7 | 12 => four(a, x, y, FILLED + 2, z),
         11 => four(a, x, FILLED + 1, y, z),
         _ => held,
     }

@@ -1,5 +1,6 @@
 //! compare paper|port FIRST SEEDS: the text against document 01's steps, or against the port, on the cases that need no chance and on the
-//! families of the seeds FIRST, FIRST + 1, .. Every word of every slice is compared, all NaNs being one.
+//! families and twin rows of the seeds FIRST, FIRST + 1, .. Every word of every slice is compared, all NaNs being one. The calls that the
+//! steps alone answer are compared with the port.
 
 use std::collections::BTreeMap;
 use std::process::ExitCode;
@@ -29,14 +30,14 @@ fn main() -> ExitCode {
         eprintln!("FIRST and SEEDS are numbers");
         return ExitCode::FAILURE;
     };
-    let mut tally = Tally::new(other);
+    let mut tally = Tally::new(other, against == "paper");
     cases::sweep().for_each(|case| tally.hold(&case));
     println!("special numbers at orders 1 and 2: {} calls", tally.calls());
     let before = tally.calls();
     cases::refusals().iter().for_each(|case| tally.hold(case));
     println!("refusals and records: {} calls", tally.calls() - before);
     let before = tally.calls();
-    cases::largest().iter().for_each(|case| tally.hold(case));
+    cases::largest().iter().chain(&cases::largest_twins()).for_each(|case| tally.hold(case));
     println!("orders 1,024 and 1,025: {} calls", tally.calls() - before);
     let before = tally.calls();
     cases::many_columns().iter().for_each(|case| tally.hold(case));
@@ -46,6 +47,7 @@ fn main() -> ExitCode {
         let family = cases::family(seed);
         family.cases.iter().for_each(|case| tally.hold(case));
         family.chains.iter().for_each(|chain| tally.hold_chain(chain));
+        cases::twins(seed).iter().for_each(|case| tally.hold(case));
     }
     println!("seeds {first} to {}: {} calls", (first + seeds).saturating_sub(1), tally.calls() - before);
     tally.print(against);
@@ -54,23 +56,28 @@ fn main() -> ExitCode {
 
 struct Tally<'a> {
     other: &'a dyn Calls,
+    /// The other implementation is the steps.
+    steps: bool,
     per_call: BTreeMap<Call, u64>,
     per_code: BTreeMap<u64, u64>,
     size_two: u64,
     marks: u64,
+    pairs: u64,
     chains: u64,
     differences: u64,
     smallest: Option<(usize, String)>,
 }
 
 impl<'a> Tally<'a> {
-    fn new(other: &'a dyn Calls) -> Self {
+    fn new(other: &'a dyn Calls, steps: bool) -> Self {
         Tally {
             other,
+            steps,
             per_call: BTreeMap::new(),
             per_code: BTreeMap::new(),
             size_two: 0,
             marks: 0,
+            pairs: 0,
             chains: 0,
             differences: 0,
             smallest: None,
@@ -82,10 +89,16 @@ impl<'a> Tally<'a> {
     }
 
     fn hold(&mut self, case: &Case) {
+        if self.steps && case.call.by_steps_alone() {
+            return;
+        }
         let text = case.run(&Text);
         let other = case.run(self.other);
         *self.per_call.entry(case.call).or_default() += 1;
-        *self.per_code.entry(text.answer / 4096).or_default() += 1;
+        match text.answer / 4096 {
+            code if code < 4096 => *self.per_code.entry(code).or_default() += 1,
+            _ => self.pairs += 1,
+        }
         if case.call == Call::LbltFactor && text.answer == 0 {
             self.size_two += blocks_of_two(&text);
             self.marks += (text.record.last() != Some(&0)) as u64;
@@ -139,8 +152,8 @@ impl<'a> Tally<'a> {
             println!("  code {code:<17}{count:>9}");
         }
         println!(
-            "  blocks of size 2 in factors: {}; factors with a mark: {}; chains of batches: {}",
-            self.size_two, self.marks, self.chains
+            "  blocks of size 2 in factors: {}; factors with a mark: {}; chains of batches: {}; pairs of twin rows: {}",
+            self.size_two, self.marks, self.chains, self.pairs
         );
         println!("text against {against}: {} calls, {} chains, {} differ", self.calls(), self.chains, self.differences);
         if let Some((_, said)) = &self.smallest {

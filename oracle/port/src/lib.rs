@@ -37,6 +37,8 @@ unsafe extern "C" {
     fn urgyelpat_cholesky_unpack(a: *mut f64, a_len: usize, room: usize, n: usize) -> u64;
     fn urgyelpat_cholesky_determinant(a: *const f64, a_len: usize, room: usize, n: usize) -> Determinant;
     fn urgyelpat_udu_factor(p: *const f64, p_len: usize, u: *mut f64, u_len: usize, d: *mut f64, d_len: usize, n: usize) -> u64;
+    fn urgyelpat_first_twin_since(a: *const f64, a_len: usize, room: usize, earlier: usize, n: usize) -> u64;
+    fn urgyelpat_first_twin(a: *const f64, a_len: usize, room: usize, n: usize) -> u64;
 }
 
 pub struct Port;
@@ -98,5 +100,15 @@ impl Calls for Port {
     #[inline]
     fn udu_factor(&self, p: &[f64], u: &mut [f64], d: &mut [f64], n: usize) -> u64 {
         unsafe { urgyelpat_udu_factor(p.as_ptr(), p.len(), u.as_mut_ptr(), u.len(), d.as_mut_ptr(), d.len(), n) }
+    }
+
+    #[inline]
+    fn first_twin_since(&self, a: &[f64], room: usize, earlier: usize, n: usize) -> u64 {
+        unsafe { urgyelpat_first_twin_since(a.as_ptr(), a.len(), room, earlier, n) }
+    }
+
+    #[inline]
+    fn first_twin(&self, a: &[f64], room: usize, n: usize) -> u64 {
+        unsafe { urgyelpat_first_twin(a.as_ptr(), a.len(), room, n) }
     }
 }

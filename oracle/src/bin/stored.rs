@@ -1,4 +1,4 @@
-//! stored FOLDER: writes the stored lists FOLDER/replay_lblt/stdin, FOLDER/replay_cholesky/stdin and FOLDER/replay_udu/stdin.
+//! stored FOLDER: writes the stored lists, each as FOLDER/NAME/stdin.
 //! stored --replay FOLDER: replays them on the text and on document 01's steps and says what differs.
 
 use std::path::Path;
@@ -7,13 +7,13 @@ use std::{env, fs, io};
 
 use oracle::call::{Call, Calls, Case, Slice};
 use oracle::cases::{self, SPECIAL, fill, filled};
-use oracle::list::{MOST, Machine, Writer};
+use oracle::list::{MOST, Machine, Pattern, Spot, Writer};
 use oracle::paper::Paper;
 use oracle::text::Text;
 
 type Make = fn(&mut Writer);
 
-const LISTS: [(&str, Make); 3] = [("replay_lblt", lblt), ("replay_cholesky", cholesky), ("replay_udu", udu)];
+const LISTS: [(&str, Make); 4] = [("replay_lblt", lblt), ("replay_cholesky", cholesky), ("replay_udu", udu), ("replay_twins", twins)];
 
 fn main() -> ExitCode {
     let words: Vec<String> = env::args().skip(1).collect();
@@ -48,7 +48,8 @@ fn replay(folder: &Path) -> io::Result<()> {
     for (name, _) in LISTS {
         let bytes = fs::read(folder.join(name).join("stdin"))?;
         let list: Vec<u64> = bytes.chunks_exact(8).map(|b| u64::from_le_bytes(b.try_into().expect("8 bytes"))).collect();
-        for (who, calls) in [("text", &Text as &dyn Calls), ("steps", &Paper)] {
+        let who: &[(&str, &dyn Calls)] = if name == "replay_twins" { &[("steps", &Paper)] } else { &[("text", &Text), ("steps", &Paper)] };
+        for &(who, calls) in who {
             let mut machine = Machine::new(calls);
             machine.replay(&list);
             println!("{name}, {who}: {} cases, {} calls, {} differ", machine.cases, machine.calls_made, machine.differences.len());
@@ -264,4 +265,113 @@ fn udu(w: &mut Writer) {
         }
     }
     w.sweep(3, &SPECIAL);
+}
+
+/// The calls for twin rows on the matrix that stands, `first_twin_since` for each of these earlier orders.
+fn twin_calls(w: &mut Writer, n: usize, room: usize, earlier: impl IntoIterator<Item = usize>) {
+    w.call(Call::FirstTwin, n, room, 0);
+    for y in earlier {
+        w.call(Call::FirstTwinSince, n, room, y);
+    }
+}
+
+/// Twin rows of the seeds from `seed` on with orders from `orders`, until `words` more have been written. A matrix is set once.
+fn twin_families(w: &mut Writer, orders: std::ops::RangeInclusive<usize>, words: usize, seed: u64) {
+    let end = w.list.len() + words;
+    let mut seed = seed;
+    while w.list.len() < end {
+        let cases = cases::twins(seed);
+        let bits = |case: &Case| case.a.iter().map(|x| x.to_bits()).collect::<Vec<_>>();
+        if orders.contains(&cases[0].n) && cases.len() <= 20 {
+            for same in cases.chunk_by(|one, other| bits(one) == bits(other)) {
+                w.case();
+                w.set(Slice::A, &bits(&same[0]));
+                for case in same {
+                    w.call(case.call, case.n, case.x, case.y);
+                }
+            }
+        }
+        seed += 1;
+    }
+}
+
+const ONE: u64 = 0x3ff0_0000_0000_0000;
+const INFINITE: u64 = 0x7ff0_0000_0000_0000;
+const SIGN: u64 = 1 << 63;
+const FILL: u64 = 0x5a5a_0000_0000_0000;
+const NANS: u64 = INFINITE + 1;
+const ALL: u64 = u64::MAX;
+
+fn twins(w: &mut Writer) {
+    let nan = |payload: u64| f64::from_bits(NANS + payload);
+    let first: [(usize, &[f64]); 11] = [
+        (0, &[]),
+        (1, &[1.0]),
+        (2, &[1.0, 1.0, 1.0]),
+        (2, &[1.0, 1.0, 2.0]),
+        (2, &[0.0, 0.0, 0.0]),
+        (2, &[0.0, -0.0, 0.0]),
+        (2, &[nan(0), nan(1), -nan(2)]),
+        (2, &[nan(0), f64::INFINITY, nan(0)]),
+        (3, &[4.0, 2.0, 5.0, 4.0, 2.0, 4.0]),
+        (3, &[4.0, 2.0, 5.0, 2.0, 5.0, 5.0]),
+        (3, &[1.0, 1.0, 1.0, 1.0, 1.0, 1.0]),
+    ];
+    for (n, lower) in first {
+        w.case();
+        w.set(Slice::A, &matrix(n, lower).iter().map(|x| x.to_bits()).collect::<Vec<_>>());
+        twin_calls(w, n, n, 0..=n);
+    }
+    refusals(w, &[Call::FirstTwinSince, Call::FirstTwin]);
+    // each count by itself at the most, above it, and above what it stands in
+    w.case();
+    w.set(Slice::A, &[ONE]);
+    for (n, room, earlier) in
+        [(1, 1, 1), (0, 1024, 0), (0, 1025, 0), (1024, 1024, 0), (1025, 1024, 0), (1, 1, 1024), (1, 1, 1025), (1, 1, 2), (2, 1, 0)]
+    {
+        w.call(Call::FirstTwinSince, n, room, earlier);
+    }
+    twin_families(w, 1..=4, 2500, 4_000_000);
+    twin_families(w, 5..=8, 2000, 4_100_000);
+    twin_families(w, 9..=12, 1000, 4_200_000);
+    for n in ORDERS {
+        let room = (n + 2).min(64);
+        let pattern = Pattern { n, room, base: ONE, kept: ALL, rest: NANS, mask: 1 };
+        let (middle, last) = (n / 2, n - 1);
+        // one row again: the first as the last, the two in the middle, the last two; then the first again with its last entry changed
+        let again = [(0, last), (middle.saturating_sub(1), middle), (last.saturating_sub(1), last)];
+        let spots = again.map(|(p, q)| Spot { p, q, i: n, j: n }).into_iter().chain([Spot { p: 0, q: last, i: last, j: last }]);
+        for spot in spots {
+            w.case();
+            w.repeat(pattern, spot);
+            twin_calls(w, n, room, [spot.q, (spot.q + 1).min(n), n - n / 10]);
+        }
+        // all rows alike, and all but one
+        for (base, i) in [(0, n), (0, middle)] {
+            w.case();
+            w.repeat(Pattern { base, kept: 0, mask: SIGN, ..pattern }, Spot { p: 0, q: 0, i, j: 0 });
+            twin_calls(w, n, room, [middle, last]);
+        }
+    }
+    for n in 1..=8 {
+        for more in [0, 1, 3] {
+            let room = n + more;
+            let rest = if more == 1 { NANS } else { FILL };
+            let pattern = |base, kept, mask| Pattern { n, room, base, kept, rest, mask };
+            // an entry with another last bit, or another sign
+            w.places(pattern(ONE, ALL, 1));
+            w.places(pattern(ONE, ALL, SIGN));
+            // a zero with the other sign among zeros; a NaN among infinite numbers
+            w.places(pattern(0, 0, SIGN));
+            w.places(pattern(INFINITE, 0, 1));
+            // two numbers, so that rows agree in many places
+            w.places(pattern(ONE, 1, 1));
+            // NaN with any payload and sign: all rows are twins
+            w.places(pattern(NANS, ALL, SIGN));
+        }
+    }
+    for bit in 0..64 {
+        w.places(Pattern { n: 3, room: 4, base: ONE, kept: ALL, rest: FILL, mask: 1 << bit });
+    }
+    w.sweep(4, &SPECIAL);
 }

@@ -28,7 +28,7 @@ pub fn family(seed: u64) -> Family {
     }
 }
 
-fn order(r: &mut Rng) -> usize {
+pub(super) fn order(r: &mut Rng) -> usize {
     match r.below(100) {
         0..72 => r.below(9),
         72..93 => 9 + r.below(12),

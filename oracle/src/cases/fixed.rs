@@ -57,6 +57,7 @@ fn on(lower: &[f64], side: [f64; 2]) -> Vec<Case> {
     Text.lblt_factor(&mut factored.a, &mut factored.record, n);
     let reader = |call| Case { call, b: filled(n * n), ..factored.clone() };
     let cholesky = Case { x: n, ..Case::new(Call::CholeskyFactor, n, a) };
+    let twin = Case { call: Call::FirstTwin, ..cholesky.clone() };
     let mut rooted = cholesky.clone();
     Text.cholesky_factor(&mut rooted.a, n, n);
     vec![
@@ -70,6 +71,8 @@ fn on(lower: &[f64], side: [f64; 2]) -> Vec<Case> {
         Case { call: Call::CholeskyDeterminant, ..rooted.clone() },
         Case { call: Call::CholeskyL, b: filled(n * n), ..rooted },
         Case { b: filled(n * n), c: filled(n), ..Case::new(Call::UduFactor, n, p) },
+        Case { call: Call::FirstTwinSince, y: n - 1, ..twin.clone() },
+        twin,
     ]
 }
 
@@ -83,6 +86,16 @@ pub fn sweep() -> impl Iterator<Item = Case> {
     });
     ones.chain(twos)
 }
+
+const IN_A_ROOM: [Call; 7] = [
+    Call::CholeskyFactor,
+    Call::CholeskyExtend,
+    Call::CholeskyL,
+    Call::CholeskyUnpack,
+    Call::CholeskyDeterminant,
+    Call::FirstTwinSince,
+    Call::FirstTwin,
+];
 
 const FAR: [usize; 6] = [1025, 1026, 4096, 1 << 32, 1 << 63, usize::MAX];
 
@@ -102,7 +115,7 @@ pub fn refusals() -> Vec<Case> {
             spoiled(&mut out, &base);
         }
         for room in n..n + 2 {
-            for call in [Call::CholeskyFactor, Call::CholeskyExtend, Call::CholeskyL, Call::CholeskyUnpack, Call::CholeskyDeterminant] {
+            for call in IN_A_ROOM {
                 let base = Case { x: room, y: n / 2, b: filled(n * n), ..Case::new(call, n, filled(room * room)) };
                 spoiled(&mut out, &base);
             }

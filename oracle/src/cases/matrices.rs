@@ -23,7 +23,7 @@ impl Symmetric {
         Symmetric { n, cells: vec![0.0; n * n] }
     }
 
-    fn of(n: usize, mut entry: impl FnMut(usize, usize) -> f64) -> Symmetric {
+    pub(super) fn of(n: usize, mut entry: impl FnMut(usize, usize) -> f64) -> Symmetric {
         let mut m = Symmetric::zero(n);
         for j in 0..n {
             for i in j..n {
@@ -41,6 +41,13 @@ impl Symmetric {
     fn put(&mut self, i: usize, j: usize, x: f64) {
         self.cells[i + j * self.n] = x;
         self.cells[j + i * self.n] = x;
+    }
+
+    /// The matrix with another number in one place.
+    pub(super) fn with(&self, i: usize, j: usize, x: f64) -> Symmetric {
+        let mut m = Symmetric { n: self.n, cells: self.cells.clone() };
+        m.put(i, j, x);
+        m
     }
 
     fn change(&mut self, f: impl Fn(usize, usize, f64) -> f64) {
@@ -143,12 +150,12 @@ pub fn numbers(r: &mut Rng, len: usize) -> Vec<f64> {
 }
 
 /// Every entry of one kind.
-fn plain(r: &mut Rng, n: usize) -> Symmetric {
+pub(super) fn plain(r: &mut Rng, n: usize) -> Symmetric {
     let kind = r.pick(&NUMBERS);
     Symmetric::of(n, |_, _| number(r, kind))
 }
 
-fn well_scaled(r: &mut Rng, n: usize) -> Symmetric {
+pub(super) fn well_scaled(r: &mut Rng, n: usize) -> Symmetric {
     Symmetric::of(n, |_, _| r.unit())
 }
 

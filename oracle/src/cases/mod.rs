@@ -4,8 +4,10 @@ mod families;
 mod fixed;
 mod matrices;
 mod rng;
+mod twins;
 
 pub use families::{Chain, Family, alpha_case, family, largest, many_columns};
 pub use fixed::{SPECIAL, refusals, sweep};
 pub use matrices::{fill, filled};
 pub use rng::Rng;
+pub use twins::{largest_twins, twins};

@@ -1,0 +1,63 @@
+-- `all_spots` ends, and is safe.
+use borrow.Author.Needs.{needs}
+use Prim.Native.Nat.{_≤_, _-_}
+use Rattle.replay.proofs.Kept.{Kept}
+use Rattle.replay.proofs.repeat.all_spots.Statement.{statement}
+use Rattle.replay.proofs.repeat.all_spots.Tie as tie
+
+abbrev Inv-loop : tie.InvT-loop
+Inv-loop given count a₀ b₀ c₀ r₀ s₀ t₀ a b c r s t = (t ≤ 4096) × Kept a₀ b₀ c₀ r₀ a b c r
+
+abbrev μ-loop : tie.MeasureT-loop
+μ-loop given count a₀ b₀ c₀ r₀ s₀ t₀ a b c r s t = 4096 - t
+
+loop-holds : tie.Need-loop-holds Inv-loop μ-loop
+loop-holds c = search needs
+
+spot-of-requires : tie.Need-spot-of-requires Inv-loop μ-loop
+spot-of-requires c κs = search needs
+
+at-spot-requires : tie.Need-at-spot-requires Inv-loop μ-loop
+at-spot-requires c κs = search needs
+
+add-t : tie.Need-add-t Inv-loop μ-loop
+add-t c = search needs
+
+loop-less : tie.Need-loop-less Inv-loop μ-loop
+loop-less c = search needs
+
+loop-again : tie.Need-loop-again Inv-loop μ-loop
+loop-again c = search needs
+
+same-length : tie.Need-same-length Inv-loop μ-loop
+same-length c = search needs
+
+same-length-2 : tie.Need-same-length-2 Inv-loop μ-loop
+same-length-2 c = search needs
+
+same-length-3 : tie.Need-same-length-3 Inv-loop μ-loop
+same-length-3 c = search needs
+
+same-length-4 : tie.Need-same-length-4 Inv-loop μ-loop
+same-length-4 c = search needs
+
+returns : tie.Need-returns Inv-loop μ-loop
+returns c = search needs
+
+pub all-spots-spec : {M : Type 1} → statement M
+all-spots-spec =
+    tie.close
+    (tie.spec
+    Inv-loop
+    μ-loop
+    loop-holds
+    spot-of-requires
+    at-spot-requires
+    add-t
+    loop-less
+    loop-again
+    same-length
+    same-length-2
+    same-length-3
+    same-length-4
+    returns)

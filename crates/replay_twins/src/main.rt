@@ -1,0 +1,4 @@
+// Replays the stored list of twins.
+fn main() {
+    replay::run();
+}
