@@ -5,6 +5,7 @@ use mathlib.Core.List.{List}
 use mathlib.Core.Logic.{⊎-elim}
 use Prim.Native.Nat.{ℕ, _+_, _≤_, _<_}
 use native.Mathlib.Nat.{ne-of-lt, ne-of-gt, eq-or-lt-of-le}
+use native.Mathlib.Decide.{decLt}
 use native.Mathlib.Omega.{arith}
 use lib.ListN.{length, getD, set, replicate, length-set, getD-replicate}
 use lib.Seq.{getD-set-same, getD-set-other}
@@ -13,7 +14,7 @@ use Rattle.matrix.specs.Matrix.{Matrix}
 use Rattle.matrix.proofs.Loops.{for-none, for-more, for-same}
 use Rattle.twins.specs.Twins.{symmetric, Twins}
 use Rattle.twins.specs.First.{Told}
-use Rattle.twins.specs.Mark.{mixed, mixEntry, rowMark, Cleared, Marked, Brought}
+use Rattle.twins.specs.Mark.{mixed, mixEntry, rowMark, Cleared, Marked, Apart, Passed, Brought}
 use Rattle.twins.proofs.Clauses.{at-lower, at-upper}
 
 one-mark : (n : ℕ) (M : Matrix) (p q : ℕ) → Twins n M p q → rowMark n M p ≡ rowMark n M q
@@ -27,6 +28,31 @@ marks-differ {n} {M} {marks} {p} {q} marked within differ = record {
   yes = λ t. absurd (true≢false (sym t));
   no = λ f twins. differ (marked .each p (within .0) ∙ one-mark n M p q twins ∙ sym (marked .each q (within .1)));
 }
+
+-- ---- marks that are other ones
+
+apart-one : {marks : List ℕ} {mark p hi : ℕ} → hi ≡ p + 1 → (getD marks p 0 ≡ mark → ⊥) → Apart marks mark p hi
+apart-one {marks} {mark} {p} next other = record {
+  each = λ i from below is. other (subst (λ (k : ℕ). getD marks k 0 ≡ mark) (let here : i ≡ p = omega arith in here) is);
+}
+
+apart-join : {marks : List ℕ} {mark lo p hi : ℕ} → Apart marks mark lo p → Apart marks mark p hi → Apart marks mark lo hi
+apart-join {marks} {mark} {lo} {p} {hi} before after = record { each = λ i from below. by i from below (decLt i p) }
+  where
+    by : (i : ℕ) → lo ≤ i → i < hi → Dec (i < p) → getD marks i 0 ≡ mark → ⊥
+    by i from below (yes lt) = before .each i from lt
+    by i from below (no nlt) = after .each i (omega arith) below
+
+pub apart-four : (marks : List ℕ) (mark p : ℕ) → (getD marks p 0 ≡ mark → ⊥) → (getD marks (p + 1) 0 ≡ mark → ⊥) → (getD marks (p + 2) 0 ≡ mark → ⊥) → (getD marks (p + 3) 0 ≡ mark → ⊥)
+    → Apart marks mark p (p + 4)
+apart-four marks mark p first second third fourth =
+    apart-join (apart-one refl first) (apart-join (apart-one (omega arith) second) (apart-join (apart-one (omega arith) third) (apart-one (omega arith) fourth)))
+
+pub passed-none : {marks : List ℕ} {q : ℕ} → Passed marks q 0
+passed-none = record { upto = omega arith; apart = record { each = λ i from below. absurd (omega arith) } }
+
+pub passed-four : {marks : List ℕ} {q p : ℕ} → Passed marks q p → p + 4 ≤ q → Apart marks (getD marks q 0) p (p + 4) → Passed marks q (p + 4)
+passed-four passed upto four = record { upto = upto; apart = apart-join (passed .apart) four }
 
 -- ---- one entry more of a row's mark
 

@@ -1,23 +1,29 @@
 -- The search for the first pair. Assumes nothing.
-use mathlib.Core.Path.{_≡_, sym, subst}
+use mathlib.Core.Path.{_≡_, refl, sym, subst}
 use mathlib.Core.Bool.{Bool, true, false}
+use mathlib.Core.List.{List}
 use mathlib.Core.Logic.{⊎-elim}
 use Prim.Native.Nat.{ℕ, _+_, _≤_, _<_}
 use native.Mathlib.Nat.{eq-or-lt-of-le}
 use native.Mathlib.Omega.{arith}
-use borrow.Author.Count.{below-none, below-more}
+use borrow.Author.Count.{below-more}
 use Rattle.matrix.specs.Matrix.{Matrix}
 use Rattle.twins.specs.declared.Twin.the-variants.{Nothing, Pair}
 use Rattle.twins.specs.Twins.{Twins}
+use Rattle.twins.specs.Mark.{Marked, Passed}
 use Rattle.twins.specs.First.{NoneBefore, NoneBetween, FirstBefore, First, Told, none, pair}
+use Rattle.twins.proofs.Marks.{marks-differ}
 
 -- no row before p is q's twin
 pub record Before (n : ℕ) (M : Matrix) (q p : ℕ) : Type 0 where
   pub upto : p ≤ q
   pub nearest : NoneBefore n M p q
 
-pub before-none : {n : ℕ} {M : Matrix} {q : ℕ} → Before n M q 0
-before-none {n} {M} {q} = record { upto = omega arith; nearest = below-none (λ r. Twins n M r q → ⊥) }
+-- rows with other marks are passed
+pub before-passed : {n : ℕ} {M : Matrix} {marks : List ℕ} {q p : ℕ} → Marked n M marks → q < n → Passed marks q p → Before n M q p
+before-passed {n} {M} {marks} {q} {p} marked within passed =
+    let upto : p ≤ q = passed .upto in
+    record { upto = upto; nearest = λ r h. marks-differ marked (omega arith, within) (passed .apart .each r (omega arith) h) .no refl }
 
 pub before-more : {n : ℕ} {M : Matrix} {q p : ℕ} {r : Bool} → Before n M q p → p < q → Told n M p q r → r ≡ false → Before n M q (p + 1)
 before-more {n} {M} {q} {p} b below told is-no =

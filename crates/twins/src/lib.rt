@@ -9,7 +9,7 @@ ghost use Rattle.matrix.specs.Layouts.{Roomy, lower};
 ghost use Rattle.twins.specs.Twins.{symmetric};
 ghost use Rattle.twins.specs.First.{First, FirstBefore, FirstTwinSince, FirstTwin, Told};
 ghost use Rattle.twins.specs.Number.{twinNumber};
-ghost use Rattle.twins.specs.Mark.{mixed, Marked, Brought, Cleared};
+ghost use Rattle.twins.specs.Mark.{mixed, Marked, Brought, Cleared, Apart, Passed};
 use answer::Answer;
 use matrix::Layout;
 
@@ -133,6 +133,39 @@ fn twins(y: Layout, a: &[f64], marks: &[u64], p: usize, q: usize) -> bool
     same_rows(y, a, p, q)
 }
 
+// Whether one of the four marks from p on is this one.
+fn among_four(marks: &[u64], p: usize, mark: u64) -> bool
+    requires { ⌜ p + 4 ≤ length (now marks) ⌝ }
+    ensures { λ r. ⌜ (r ≡ false → Apart (now (marks .entry)) mark p (p + 4)) ⌝ }
+{
+    if marks[p] == mark {
+        return true;
+    }
+    if marks[p + 1] == mark {
+        return true;
+    }
+    if marks[p + 2] == mark {
+        return true;
+    }
+    marks[p + 3] == mark
+}
+
+// Passes rows that have other marks than row q, four at a time.
+fn pass_fours(marks: &[u64], q: usize) -> usize
+    requires { ⌜ q < length (now marks) ⌝ }
+    ensures { λ r. ⌜ Passed (now (marks .entry)) q r ⌝ }
+{
+    let mark = marks[q];
+    let mut p = 0;
+    while p + 4 <= q {
+        if among_four(marks, p, mark) {
+            return p;
+        }
+        p += 4;
+    }
+    p
+}
+
 fn first_before(y: Layout, a: &[f64], marks: &[u64], q: usize) -> usize
     requires { ⌜ Roomy y ⌝ }
     requires { ⌜ Sound (lower y) (now a) ⌝ }
@@ -141,7 +174,7 @@ fn first_before(y: Layout, a: &[f64], marks: &[u64], q: usize) -> usize
     requires { ⌜ q < y .order ⌝ }
     ensures { λ r. ⌜ FirstBefore (y .order) (load (lower y) (now (a .entry))) q r ⌝ }
 {
-    let mut p = 0;
+    let mut p = pass_fours(marks, q);
     while p < q {
         if twins(y, a, marks, p, q) {
             return p;

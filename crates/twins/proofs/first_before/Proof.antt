@@ -3,7 +3,7 @@ use Prim.Native.Nat.{_-_}
 use native.Mathlib.Omega.{arith}
 use Rattle.matrix.specs.Grid.{load}
 use Rattle.matrix.specs.Layouts.{lower}
-use Rattle.twins.proofs.Search.{Before, before-none, before-more, before-found, before-all}
+use Rattle.twins.proofs.Search.{Before, before-passed, before-more, before-found, before-all}
 use borrow.Author.Needs.{needs}
 use Rattle.twins.proofs.first_before.Statement.{statement}
 use Rattle.twins.proofs.first_before.Tie as tie
@@ -14,11 +14,14 @@ Inv-loop y a marks q p₀ p = Before (y .order) (load (lower y) a) q p
 abbrev μ-loop : tie.MeasureT-loop
 μ-loop y a marks q p₀ p = q - p
 
+pass-fours-requires : tie.Need-pass-fours-requires Inv-loop μ-loop
+pass-fours-requires c κs = search needs
+
 loop-holds : tie.Need-loop-holds Inv-loop μ-loop
-loop-holds c = before-none
+loop-holds c = before-passed (c .before .before .before .pre .1 .1 .1 .0) (search needs) (c .pass-fours .ensures)
 
 twins-requires : tie.Need-twins-requires Inv-loop μ-loop
-twins-requires c κs = (c .before .before .before .before .pre .0, (c .before .before .before .before .pre .1 .0, (search needs, (c .before .before .before .before .pre .1 .1 .1 .0, (omega arith, search needs)))))
+twins-requires c κs = (c .before .before .before .before .before .pre .0, (c .before .before .before .before .before .pre .1 .0, (search needs, (c .before .before .before .before .before .pre .1 .1 .1 .0, (omega arith, search needs)))))
 
 returns : tie.Need-returns Inv-loop μ-loop
 returns c = before-found (c .before .before .before .loop .inv) (search needs) (c .before .twins .ensures) (c .if1 .taken)
@@ -41,6 +44,7 @@ first-before-spec =
     (tie.spec
     Inv-loop
     μ-loop
+    pass-fours-requires
     loop-holds
     twins-requires
     returns
