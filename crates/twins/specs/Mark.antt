@@ -34,6 +34,11 @@ Cleared n marks = (i : ℕ) → i < n → getD marks i 0 ≡ 0
 pub record Marked (n : ℕ) (M : Matrix) (marks : List ℕ) : Type 0 where
   pub each : (i : ℕ) → i < n → getD marks i 0 ≡ rowMark n M i
 
+-- the marks of n rows once the columns before c have brought their entries: the rows before c are whole, the others have c entries
+pub record Brought (n : ℕ) (M : Matrix) (c : ℕ) (marks : List ℕ) : Type 0 where
+  pub whole : (i : ℕ) → i < c → getD marks i 0 ≡ rowMark n M i
+  pub begun : (i : ℕ) → c ≤ i → i < n → getD marks i 0 ≡ rowMark c M i
+
 -- none of the marks from lo to before hi is this one
 pub record Apart (marks : List ℕ) (mark lo hi : ℕ) : Type 0 where
   pub each : (i : ℕ) → lo ≤ i → i < hi → getD marks i 0 ≡ mark → ⊥
@@ -42,8 +47,3 @@ pub record Apart (marks : List ℕ) (mark lo hi : ℕ) : Type 0 where
 pub record Passed (marks : List ℕ) (q p : ℕ) : Type 0 where
   pub upto : p ≤ q
   pub apart : Apart marks (getD marks q 0) 0 p
-
--- the marks of n rows once the columns before c have brought their entries: the rows before c are whole, the others have c entries
-pub record Brought (n : ℕ) (M : Matrix) (c : ℕ) (marks : List ℕ) : Type 0 where
-  pub whole : (i : ℕ) → i < c → getD marks i 0 ≡ rowMark n M i
-  pub begun : (i : ℕ) → c ≤ i → i < n → getD marks i 0 ≡ rowMark c M i
