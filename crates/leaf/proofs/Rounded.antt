@@ -27,7 +27,7 @@ digits-of m j a b =
     let c : m * 2 ^ j < 2 ^ (52 + j) = lt-of-lt-of-le (size-lt (m * 2 ^ j)) (pow-mono g) in omega arith) in
     omega arith
 
-fours : (k : ℕ) → 4 ^ k ≡ 2 ^ (k + k)
+pub fours : (k : ℕ) → 4 ^ k ≡ 2 ^ (k + k)
 fours k = go k ∙ sym (pow-add 2 k k)
   where
     go : (k : ℕ) → 4 ^ k ≡ 2 ^ k * 2 ^ k

@@ -3,7 +3,9 @@ pub mod Exact
 pub mod Share
 pub mod Udu
 pub mod UduLastTwo
+pub mod Rounding
 pub mod Cholesky
+pub mod Crumb
 pub mod Across
 pub mod Interchanges
 pub mod Lblt
