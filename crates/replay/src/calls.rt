@@ -100,7 +100,7 @@ fn of_udu(n: usize, a: &mut [f64], b: &mut [f64], c: &mut [f64]) -> Outcome {
     plain(udu::factor(a, b, c, n))
 }
 
-fn of_twins(which: u64, n: usize, room: usize, earlier: usize, a: &mut [f64]) -> Outcome {
+pub fn of_twins(which: u64, n: usize, room: usize, earlier: usize, a: &mut [f64]) -> Outcome {
     if which == 12 {
         return told(twins::first_twin_since(a, room, earlier, n));
     }

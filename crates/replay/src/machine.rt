@@ -141,7 +141,7 @@ fn run(
         CALL => called(s, which, list, a, b, c, r),
         SWEEP => sweep(s, which, at_most(count, 64), list, a, b, c, r),
         REPEAT => repeat(s, count, list, a),
-        PLACES => places(s, count, list, a, b, c, r),
+        PLACES => places(s, count, list, a),
         SHIFT => {
             shift(
                 a,

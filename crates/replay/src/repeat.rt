@@ -1,9 +1,10 @@
 // REPEAT and PLACES: a matrix in which a row came twice, and one entry is changed.
-use crate::calls::call;
+use crate::calls::of_twins;
 use crate::list::DIGEST_START;
 use crate::list::size;
 use crate::list::step;
 use crate::list::word;
+use crate::registers::part;
 use crate::registers::put_bits;
 use crate::state::A;
 use crate::state::State;
@@ -130,36 +131,20 @@ pub fn repeat(s: State, count: usize, list: &[u8], a: &mut [f64]) -> State {
 }
 
 // PLACES: every row again as itself and as every later row, and each time every entry changed; one digest of all answers.
-pub fn places(
-    s: State,
-    count: usize,
-    list: &[u8],
-    a: &mut [f64],
-    b: &mut [f64],
-    c: &mut [f64],
-    r: &mut [u32],
-) -> State {
+pub fn places(s: State, count: usize, list: &[u8], a: &mut [f64]) -> State {
     let mut s = s;
     s.digest = DIGEST_START;
-    same_digest(all_spots(s, Pattern::of(list), count, a, b, c, r), list)
+    same_digest(all_spots(s, Pattern::of(list), count, a), list)
 }
 
 fn same_digest(s: State, list: &[u8]) -> State {
     s.hold(b"places at order ", word(list, 0), s.digest, word(list, 6))
 }
 
-fn all_spots(
-    s: State,
-    given: Pattern,
-    count: usize,
-    a: &mut [f64],
-    b: &mut [f64],
-    c: &mut [f64],
-    r: &mut [u32],
-) -> State {
+fn all_spots(s: State, given: Pattern, count: usize, a: &mut [f64]) -> State {
     let mut s = s;
     for t in 0..4096 {
-        s = at_spot(s, given, spot_of(t), count, a, b, c, r);
+        s = at_spot(s, given, spot_of(t), count, a);
     }
     s
 }
@@ -174,54 +159,28 @@ fn spot_of(t: usize) -> Spot {
     }
 }
 
-fn at_spot(
-    s: State,
-    given: Pattern,
-    spot: Spot,
-    count: usize,
-    a: &mut [f64],
-    b: &mut [f64],
-    c: &mut [f64],
-    r: &mut [u32],
-) -> State {
+fn at_spot(s: State, given: Pattern, spot: Spot, count: usize, a: &mut [f64]) -> State {
     if !given.has(spot) {
         return s;
     }
     lay(given, spot, count, a);
     let t = s.one_case();
-    all_earlier(t.holding(A, count), given.n, given.room, a, b, c, r)
+    all_earlier(t.holding(A, count), given.n, given.room, a)
 }
 
-fn all_earlier(
-    s: State,
-    n: usize,
-    room: usize,
-    a: &mut [f64],
-    b: &mut [f64],
-    c: &mut [f64],
-    r: &mut [u32],
-) -> State {
+fn all_earlier(s: State, n: usize, room: usize, a: &mut [f64]) -> State {
     let mut s = s;
     for earlier in 0..9 {
-        s = since(s, n, room, earlier, a, b, c, r);
+        s = since(s, n, room, earlier, a);
     }
     s
 }
 
-fn since(
-    s: State,
-    n: usize,
-    room: usize,
-    earlier: usize,
-    a: &mut [f64],
-    b: &mut [f64],
-    c: &mut [f64],
-    r: &mut [u32],
-) -> State {
+fn since(s: State, n: usize, room: usize, earlier: usize, a: &mut [f64]) -> State {
     if n < earlier {
         return s;
     }
-    let found = call(s, FIRST_TWIN_SINCE, n, room, earlier, a, b, c, r);
+    let found = of_twins(FIRST_TWIN_SINCE, n, room, earlier, part(a, s.a));
     let mut t = s.one_call();
     t.digest = step(t.digest ^ found.answer);
     t

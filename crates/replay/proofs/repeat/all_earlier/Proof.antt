@@ -1,15 +1,16 @@
 -- `all_earlier` ends, and is safe.
-use borrow.Author.Needs.{needs}
+use mathlib.Core.Path.{_≡_}
 use Prim.Native.Nat.{_≤_, _-_}
-use Rattle.replay.proofs.Kept.{Kept}
+use lib.ListN.{length}
+use borrow.Author.Needs.{needs}
 use Rattle.replay.proofs.repeat.all_earlier.Statement.{statement}
 use Rattle.replay.proofs.repeat.all_earlier.Tie as tie
 
 abbrev Inv-loop : tie.InvT-loop
-Inv-loop n room a₀ b₀ c₀ r₀ s₀ earlier₀ a b c r s earlier = (earlier ≤ 9) × Kept a₀ b₀ c₀ r₀ a b c r
+Inv-loop n room a₀ s₀ earlier₀ a s earlier = (earlier ≤ 9) × (length a ≡ length a₀)
 
 abbrev μ-loop : tie.MeasureT-loop
-μ-loop n room a₀ b₀ c₀ r₀ s₀ earlier₀ a b c r s earlier = 9 - earlier
+μ-loop n room a₀ s₀ earlier₀ a s earlier = 9 - earlier
 
 loop-holds : tie.Need-loop-holds Inv-loop μ-loop
 loop-holds c = search needs
@@ -29,15 +30,6 @@ loop-again c = search needs
 same-length : tie.Need-same-length Inv-loop μ-loop
 same-length c = search needs
 
-same-length-2 : tie.Need-same-length-2 Inv-loop μ-loop
-same-length-2 c = search needs
-
-same-length-3 : tie.Need-same-length-3 Inv-loop μ-loop
-same-length-3 c = search needs
-
-same-length-4 : tie.Need-same-length-4 Inv-loop μ-loop
-same-length-4 c = search needs
-
 returns : tie.Need-returns Inv-loop μ-loop
 returns c = search needs
 
@@ -53,7 +45,4 @@ all-earlier-spec =
     loop-less
     loop-again
     same-length
-    same-length-2
-    same-length-3
-    same-length-4
     returns)

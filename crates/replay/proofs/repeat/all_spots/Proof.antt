@@ -1,15 +1,16 @@
 -- `all_spots` ends, and is safe.
-use borrow.Author.Needs.{needs}
+use mathlib.Core.Path.{_≡_}
 use Prim.Native.Nat.{_≤_, _-_}
-use Rattle.replay.proofs.Kept.{Kept}
+use lib.ListN.{length}
+use borrow.Author.Needs.{needs}
 use Rattle.replay.proofs.repeat.all_spots.Statement.{statement}
 use Rattle.replay.proofs.repeat.all_spots.Tie as tie
 
 abbrev Inv-loop : tie.InvT-loop
-Inv-loop given count a₀ b₀ c₀ r₀ s₀ t₀ a b c r s t = (t ≤ 4096) × Kept a₀ b₀ c₀ r₀ a b c r
+Inv-loop given count a₀ s₀ t₀ a s t = (t ≤ 4096) × (length a ≡ length a₀)
 
 abbrev μ-loop : tie.MeasureT-loop
-μ-loop given count a₀ b₀ c₀ r₀ s₀ t₀ a b c r s t = 4096 - t
+μ-loop given count a₀ s₀ t₀ a s t = 4096 - t
 
 loop-holds : tie.Need-loop-holds Inv-loop μ-loop
 loop-holds c = search needs
@@ -32,15 +33,6 @@ loop-again c = search needs
 same-length : tie.Need-same-length Inv-loop μ-loop
 same-length c = search needs
 
-same-length-2 : tie.Need-same-length-2 Inv-loop μ-loop
-same-length-2 c = search needs
-
-same-length-3 : tie.Need-same-length-3 Inv-loop μ-loop
-same-length-3 c = search needs
-
-same-length-4 : tie.Need-same-length-4 Inv-loop μ-loop
-same-length-4 c = search needs
-
 returns : tie.Need-returns Inv-loop μ-loop
 returns c = search needs
 
@@ -57,7 +49,4 @@ all-spots-spec =
     loop-less
     loop-again
     same-length
-    same-length-2
-    same-length-3
-    same-length-4
     returns)
