@@ -13,7 +13,7 @@ use Rattle.matrix.specs.Matrix.{Matrix}
 use Rattle.matrix.specs.Loop.{for}
 use Rattle.matrix.specs.Grid.{load, Free}
 use Rattle.matrix.specs.Layouts.{startOf, placeIn, sizeOf, lower}
-use Rattle.matrix.proofs.Loops.{for-none}
+use Rattle.matrix.proofs.Loops.{for-none, for-join}
 use Rattle.matrix.proofs.Grids.{load-in, load-is}
 use Rattle.matrix.proofs.Places.{digits-row, in-lower, lower-at, lower-across}
 use Rattle.cholesky.specs.Run.{Outcome, isDone, column, started, run}
@@ -23,7 +23,6 @@ use Rattle.cholesky.specs.Promise.{in-room, Fitting, batch, Extended}
 use Rattle.cholesky.specs.Batches.{Batches, none, more, SameAsOne}
 use Rattle.cholesky.proofs.Parts.{entry-low, entry-left, agree-mask, Agree, leaves-agree, leaves-none, leaves-as}
 use Rattle.cholesky.proofs.Outcomes.{done-is, Like, stays}
-use Rattle.cholesky.proofs.Turns.{for-join}
 use Rattle.cholesky.proofs.Rows.{columns-off}
 use Rattle.cholesky.proofs.Promises.{room-sound, checked-fitting}
 use Rattle.cholesky.proofs.Batch.{batch-like}

@@ -1,4 +1,3 @@
-pub mod Turns
 pub mod Strips
 pub mod Parts
 pub mod Outcomes
@@ -12,3 +11,4 @@ pub mod Batch
 pub mod Demand3
 pub mod ReaderLoops
 pub mod ReaderPromises
+pub mod SolvePromises

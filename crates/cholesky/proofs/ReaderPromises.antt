@@ -37,7 +37,7 @@ module _ (room n : ℕ) where
 
   pub copied-unfit : (a l : List Float) (x : Answer) → x ≡ checked room 0 n (length a) Done → (codeOf x ≡ 0 → ⊥) → Copied room n a l l x
   copied-unfit a l x is code = record {
-    answer = checked-unfit room 0 n (length a) x is code .1 (sliced n (length l));
+    answer = checked-unfit room 0 n (length a) x is code .1 (sliced (n * n) (length l));
     fills = λ e. absurd (apart x code e);
     unchanged = λ h. refl;
   }
@@ -45,7 +45,7 @@ module _ (room n : ℕ) where
   pub copied-short : (a l : List Float) → Fitting room 0 n (length a) → (length l ≡ n * n → ⊥) → Copied room n a l l SliceLength
   unfolding sliced
   copied-short a l f short = record {
-    answer = sym (checked-fitting room 0 n (length a) f (sliced n (length l)) ∙ rw (ne-eqb (length l) (n * n) short));
+    answer = sym (checked-fitting room 0 n (length a) f (sliced (n * n) (length l)) ∙ rw (ne-eqb (length l) (n * n) short));
     fills = λ e. absurd (apart SliceLength (λ z. omega arith) e);
     unchanged = λ h. refl;
   }
@@ -53,7 +53,7 @@ module _ (room n : ℕ) where
   pub copied-fit : (a l₀ l : List Float) → Fitting room 0 n (length a) → length l₀ ≡ n * n → Fills n l (mask (square n) (triangle (load (lower (in-room room n)) a))) → Copied room n a l₀ l Done
   unfolding sliced
   copied-fit a l₀ l f long filled = record {
-    answer = sym (checked-fitting room 0 n (length a) f (sliced n (length l₀)) ∙ rw (eq-eqb (length l₀) (n * n) long));
+    answer = sym (checked-fitting room 0 n (length a) f (sliced (n * n) (length l₀)) ∙ rw (eq-eqb (length l₀) (n * n) long));
     fills = λ e. filled;
     unchanged = λ h. absurd (h refl);
   }

@@ -14,14 +14,13 @@ use Rattle.matrix.specs.Matrix.{Matrix, entry}
 use Rattle.matrix.specs.Loop.{for}
 use Rattle.matrix.specs.Grid.{Sound, Holds, load, mask}
 use Rattle.matrix.specs.Layouts.{lower}
-use Rattle.matrix.proofs.Loops.{for-none}
+use Rattle.matrix.proofs.Loops.{for-none, for-one, for-join}
 use Rattle.cholesky.specs.declared.engine.Verdict.{Verdict}
 use Rattle.cholesky.specs.declared.engine.Step.{Step}
 use Rattle.cholesky.specs.Run.{Rule, Outcome, isDone, updates, below, earlier, judged, worked, column, started, run}
 use Rattle.cholesky.specs.Crate.{crateRule}
 use Rattle.cholesky.specs.Leaves.{Leaves, Ends}
 use Rattle.cholesky.specs.Engine.{Judgement, Advanced}
-use Rattle.cholesky.proofs.Turns.{for-one, for-join}
 use Rattle.cholesky.proofs.Parts.{leaves-agree, leaves-none, leaves-then}
 use Rattle.cholesky.proofs.Outcomes.{done-is, Like, stays, judged-like, below-agree, columns-like}
 

@@ -7,3 +7,4 @@ pub mod Engine
 pub mod Promise
 pub mod Batches
 pub mod Readers
+pub mod Solve

@@ -48,12 +48,12 @@ triangle M i j = cond (leb j i) (M i j) zero
 abbrev pub down : Matrix → ℕ → ℕ → Float
 down M j i = M i j
 
--- code 4
+-- code 4: a slice of `total` numbers is wanted
 unfoldable pub sliced : ℕ → ℕ → Answer
-sliced n len = cond (eqb len (n * n)) Done SliceLength
+sliced total len = cond (eqb len total) Done SliceLength
 
 pub record Copied (room n : ℕ) (a l₀ l : List Float) (r : Answer) : Type 0 where
-  pub answer : r ≡ checked room 0 n (length a) (sliced n (length l₀))
+  pub answer : r ≡ checked room 0 n (length a) (sliced (n * n) (length l₀))
   pub fills : r ≡ Done → Fills n l (mask (square n) (triangle (load (lower (in-room room n)) a)))
   pub unchanged : (r ≡ Done → ⊥) → l ≡ l₀
 

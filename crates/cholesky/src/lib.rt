@@ -3,6 +3,7 @@ ghost use mathlib.Core.Path.{_≡_};
 ghost use Rattle.answer.specs.declared.Answer.the-variants.{Done};
 ghost use Rattle.cholesky.specs.Promise.{checked, Extended};
 ghost use Rattle.cholesky.specs.Readers.{Copied, Unpacked, Determined};
+ghost use Rattle.cholesky.specs.Solve.{Solved};
 
 mod engine;
 mod readers;
@@ -56,6 +57,28 @@ pub fn factor(a: &mut [f64], room: usize, n: usize) -> Answer
     ensures { λ r. ⌜ Extended room 0 n (now (a .entry)) (now (a .exit)) r ⌝ }
 {
     extend(a, room, 0, n)
+}
+
+// Solves A x = b for each of the columns of b, n numbers a column, by the factor of A.
+pub fn solve_mut(a: &[f64], b: &mut [f64], room: usize, n: usize, columns: usize) -> Answer
+    ensures { λ r. ⌜ Solved room n columns (now (a .entry)) (now (b .entry)) (now (b .exit)) r ⌝ }
+{
+    if 1024 < columns {
+        return Answer::OutOfRange;
+    }
+    let fault = check(room, 0, n, a.len());
+    if fault.code() != 0 {
+        return fault;
+    }
+    if b.len() != n * columns {
+        return Answer::SliceLength;
+    }
+    let y = Layout {
+        order: n,
+        room: room,
+    };
+    cholesky_fours::solve_sides(y, a, b, columns);
+    Answer::Done
 }
 
 // The factor in a lent n·n matrix of its own, +0 above the diagonal.

@@ -7,7 +7,7 @@ use lib.Dec.{eqb, ltb}
 use lib.Ieee.{Float}
 use lib.ListN.{length, length-set}
 use Rattle.matrix.specs.Matrix.{Matrix}
-use Rattle.matrix.specs.Loop.{turns, for}
+use Rattle.matrix.specs.Loop.{turns, for, falling}
 use Rattle.pivots.specs.Words.{indexAt, sizeAt}
 use Rattle.lblt_column.specs.Blocks.{bySize, rowsOf, blocksFrom, forwards, blocksTo, backwards}
 use Rattle.lblt_column.specs.Column.{swapRows, lessOne, lessTwo, eliminateOne, eliminateTwo, forwardBlock, divideOne, divideTwo, divideBlock, reduceBlock, gatherRow, backwardBlock, solveColumn}
@@ -22,6 +22,11 @@ for-keeps lo hi f l k = go (hi - lo)
     go : (c : ℕ) → length (turns lo f l c) ≡ length l
     go zero = refl
     go (suc c) = k (lo + c) (turns lo f l c) ∙ go c
+
+pub falling-keeps : (n : ℕ) (f : ℕ → List Float → List Float) (l : List Float) → Keeps f → length (falling n f l) ≡ length l
+unfolding falling
+falling-keeps zero f l k = refl
+falling-keeps (suc i) f l k = falling-keeps i f (f i l) k ∙ k i l
 
 either : (t : Bool) (x y l : List Float) → length x ≡ length l → length y ≡ length l → length (cond t x y) ≡ length l
 either true x y l h g = h

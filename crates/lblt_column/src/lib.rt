@@ -39,7 +39,7 @@ fn eliminate_one(y: Layout, a: &[f64], b: &mut [f64], k: usize)
     }
 }
 
-fn eliminate_two(y: Layout, a: &[f64], b: &mut [f64], k: usize)
+pub fn eliminate_two(y: Layout, a: &[f64], b: &mut [f64], k: usize)
     requires { ⌜ Sides y (now a) (now b) ⌝ }
     requires { ⌜ k + 1 < y .order ⌝ }
     ensures { λ _. ⌜ now (b .exit) ≡ eliminateTwo (y .order) (load (lower y) (now (a .entry))) k (now (b .entry)) ⌝ }
@@ -58,7 +58,7 @@ fn eliminate_two(y: Layout, a: &[f64], b: &mut [f64], k: usize)
 
 // ---- D z = y
 
-fn divide_one(y: Layout, a: &[f64], b: &mut [f64], k: usize)
+pub fn divide_one(y: Layout, a: &[f64], b: &mut [f64], k: usize)
     requires { ⌜ Sides y (now a) (now b) ⌝ }
     requires { ⌜ k < y .order ⌝ }
     ensures { λ _. ⌜ now (b .exit) ≡ divideOne (load (lower y) (now (a .entry))) k (now (b .entry)) ⌝ }
@@ -116,7 +116,7 @@ fn reduce(y: Layout, a: &[f64], words: &[u32], b: &mut [f64])
 
 // ---- Lᵀ x = z
 
-fn gather_row(y: Layout, a: &[f64], b: &mut [f64], row: usize, from: usize)
+pub fn gather_row(y: Layout, a: &[f64], b: &mut [f64], row: usize, from: usize)
     requires { ⌜ Sides y (now a) (now b) ⌝ }
     requires { ⌜ row < from ⌝ }
     requires { ⌜ from ≤ y .order ⌝ }

@@ -1,7 +1,7 @@
 -- Four columns of a slice, lent and back, and loops over the columns that go on where others stopped.
 --     group-within, group-small, group-long     the part lies within the slice and has four columns
 --     group-put                  what comes back is the loop over the four columns
---     for-on, turning-on         a loop that goes on
+--     turning-on                 a loop that goes on
 use mathlib.Core.List.{List, _++_, append-assoc}
 use mathlib.Core.Path.{_≡_, refl, sym, ap, _∙_}
 use Prim.Native.Nat.{ℕ, zero, suc, _+_, _-_, _*_, _≤_}
@@ -11,6 +11,7 @@ use lib.Ieee.{Float}
 use lib.ListN.{length, take, drop, take-append-drop, length-drop}
 use lib.Seq.{length-take-le, take-append-add, take-append-le, drop-append-add, drop-append-le}
 use Rattle.matrix.specs.Loop.{turns, for}
+use Rattle.matrix.proofs.Loops.{for-join}
 use Rattle.lblt_column.proofs.Turning.{Turning}
 use Rattle.lblt_sides.specs.Columns.{column, atColumn, eachColumn, Lined}
 use Rattle.lblt_sides.proofs.EachColumn.{at-long}
@@ -88,25 +89,6 @@ module _ (n : ℕ) (f : List Float → List Float) (keeps : Keeping f) where
 
 -- ---- loops that go on
 
-turns-on : {S : Type 0} (lo : ℕ) (f : ℕ → S → S) (s : S) (c d : ℕ) → turns (lo + c) f (turns lo f s c) d ≡ turns lo f s (c + d)
-unfolding turns
-turns-on lo f s c zero = ap (turns lo f s) (let none : c ≡ c + 0 = omega arith in none)
-turns-on lo f s c (suc d) =
-    let place : lo + c + d ≡ lo + (c + d) = omega arith in
-    let more : suc (c + d) ≡ c + suc d = omega arith in
-    ap (f (lo + c + d)) (turns-on lo f s c d)
-    ∙ ap (λ (i : ℕ). f i (turns lo f s (c + d))) place
-    ∙ ap (turns lo f s) more
-
-pub for-on : {S : Type 0} (lo mid hi : ℕ) (f : ℕ → S → S) (s : S) → lo ≤ mid → mid ≤ hi → for mid hi f (for lo mid f s) ≡ for lo hi f s
-unfolding for
-for-on lo mid hi f s h g =
-    let place : mid ≡ lo + (mid - lo) = omega arith in
-    let count : mid - lo + (hi - mid) ≡ hi - lo = omega arith in
-    ap (λ (m : ℕ). turns m f (turns lo f s (mid - lo)) (hi - mid)) place
-    ∙ turns-on lo f s (mid - lo) (hi - mid)
-    ∙ ap (turns lo f s) count
-
 pub turning-on
     : {lo hi : ℕ} {f : ℕ → List Float → List Float} {b₀ : List Float} {i : ℕ} {b : List Float} (c : ℕ) {b' : List Float}
     → Turning lo hi f b₀ i b → i + c ≤ hi → b' ≡ for i (i + c) f b → length b' ≡ length b
@@ -117,7 +99,7 @@ turning-on {lo} {f = f} {b₀} {i} c t below step long =
           record {
             from = omega (arith, t .ran .from);
             upto = below;
-            is = step ∙ ap (for i (i + c) f) (t .ran .is) ∙ for-on lo i (i + c) f b₀ (t .ran .from) (omega arith);
+            is = step ∙ ap (for i (i + c) f) (t .ran .is) ∙ for-join lo i (i + c) f b₀ (t .ran .from) (omega arith);
           };
       long = long ∙ t .long;
     }

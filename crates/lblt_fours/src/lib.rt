@@ -14,14 +14,14 @@ use lblt_sides::solve_at;
 use matrix::Layout;
 
 // One number of each of four columns.
-struct Four {
+pub struct Four {
     first: f64,
     second: f64,
     third: f64,
     fourth: f64,
 }
 
-fn row(b: &[f64], n: usize, i: usize) -> Four
+pub fn row(b: &[f64], n: usize, i: usize) -> Four
     requires { ⌜ length (now b) ≡ n * 4 ⌝ }
     requires { ⌜ i < n ⌝ }
     ensures { λ r. ⌜ r ≡ rowOf n i (now (b .entry)) ⌝ }
@@ -34,7 +34,7 @@ fn row(b: &[f64], n: usize, i: usize) -> Four
     }
 }
 
-fn put_row(b: &mut [f64], n: usize, i: usize, x: Four)
+pub fn put_row(b: &mut [f64], n: usize, i: usize, x: Four)
     requires { ⌜ length (now b) ≡ n * 4 ⌝ }
     requires { ⌜ i < n ⌝ }
     ensures { λ _. ⌜ now (b .exit) ≡ putRow n i x (now (b .entry)) ⌝ }
@@ -46,7 +46,7 @@ fn put_row(b: &mut [f64], n: usize, i: usize, x: Four)
 }
 
 // x − c·z
-fn less(x: Four, c: f64, z: Four) -> Four
+pub fn less(x: Four, c: f64, z: Four) -> Four
     ensures { λ r. ⌜ r ≡ lessFour x c z ⌝ }
 {
     Four {
@@ -111,7 +111,7 @@ fn eliminate_one(y: Layout, a: &[f64], b: &mut [f64], k: usize)
     }
 }
 
-fn eliminate_two(y: Layout, a: &[f64], b: &mut [f64], k: usize)
+pub fn eliminate_two(y: Layout, a: &[f64], b: &mut [f64], k: usize)
     requires { ⌜ FourSides y (now a) (now b) ⌝ }
     requires { ⌜ k + 1 < y .order ⌝ }
     ensures { λ _. ⌜ now (b .exit) ≡ eachColumn (y .order) 4 (eliminateTwo (y .order) (load (lower y) (now (a .entry))) k) (now (b .entry)) ⌝ }
@@ -129,7 +129,7 @@ fn eliminate_two(y: Layout, a: &[f64], b: &mut [f64], k: usize)
     }
 }
 
-fn divide_one(y: Layout, a: &[f64], b: &mut [f64], k: usize)
+pub fn divide_one(y: Layout, a: &[f64], b: &mut [f64], k: usize)
     requires { ⌜ FourSides y (now a) (now b) ⌝ }
     requires { ⌜ k < y .order ⌝ }
     ensures { λ _. ⌜ now (b .exit) ≡ eachColumn (y .order) 4 (divideOne (load (lower y) (now (a .entry))) k) (now (b .entry)) ⌝ }
@@ -188,7 +188,7 @@ fn reduce(y: Layout, a: &[f64], words: &[u32], b: &mut [f64])
 
 // ---- Lᵀ x = z
 
-fn gather_row(y: Layout, a: &[f64], b: &mut [f64], k: usize, from: usize)
+pub fn gather_row(y: Layout, a: &[f64], b: &mut [f64], k: usize, from: usize)
     requires { ⌜ FourSides y (now a) (now b) ⌝ }
     requires { ⌜ k < from ⌝ }
     requires { ⌜ from ≤ y .order ⌝ }

@@ -18,17 +18,9 @@ use Rattle.lblt_column.proofs.Early.{early}
 use Rattle.lblt_column.proofs.Keeps.{from-keeps, to-keeps, eliminate-one-keeps, eliminate-two-keeps, divide-one-keeps, divide-two-keeps, swap-keeps, gather-keeps, reduce-keeps, backward-keeps}
 use Rattle.lblt_column.proofs.Steps.{one-is, two-is, reads-one, reads-two, swap-none}
 use Rattle.lblt_sides.specs.Columns.{eachColumn}
-use Rattle.lblt_sides.proofs.EachAfter.{Keeping, each-none, each-after}
+use Rattle.lblt_sides.proofs.EachAfter.{each-none, each-then}
 
 module _ (n columns : ℕ) (b₀ : List Float) (long : length b₀ ≡ n * columns) where
-  -- two steps, and what they are together
-  after
-      : (f g h : List Float → List Float) → Keeping f → Keeping g → ((l : List Float) → g (f l) ≡ h l)
-      → {b₁ b₂ : List Float} → b₁ ≡ eachColumn n columns f b₀ → b₂ ≡ eachColumn n columns g b₁
-      → b₂ ≡ eachColumn n columns h b₀
-  after f g h kf kg same e₁ e₂ =
-      e₂ ∙ ap (eachColumn n columns g) e₁ ∙ each-after n columns f g kf kg b₀ long ∙ ap (λ (f : List Float → List Float). eachColumn n columns f b₀) (fun-ext same)
-
   -- a row exchanged with itself
   pub swapped-none : {p q : ℕ} → p ≡ q → b₀ ≡ eachColumn n columns (λ l. swapRows l p q) b₀
   swapped-none e = sym (each-none n columns b₀ long) ∙ ap (λ (f : List Float → List Float). eachColumn n columns f b₀) (fun-ext (λ l. swap-none l e))
@@ -45,13 +37,13 @@ module _ (n columns : ℕ) (b₀ : List Float) (long : length b₀ ≡ n * colum
           record {
             row = ap (_+_ k) (sym (reads-one words k reads one));
             column =
-                after (λ l. eliminateOne n A k (swapRows l k p)) (divideOne A k) (reduceBlock n A words k)
+                each-then n columns b₀ long (λ l. eliminateOne n A k (swapRows l k p)) (divideOne A k) (reduceBlock n A words k)
                 (λ l. eliminate-one-keeps n A k _ ∙ swap-keeps l k p) (divide-one-keeps A k)
                 (λ l.
                 ap (λ (q : ℕ). divideOne A k (eliminateOne n A k (swapRows l k q))) index
                 ∙ ap (divideOne A k) (one-is words k reads _ one)
                 ∙ one-is words k reads _ one)
-                (after (λ l. swapRows l k p) (eliminateOne n A k) _ (λ l. swap-keeps l k p) (eliminate-one-keeps n A k) (λ l. refl) swap eliminate)
+                (each-then n columns b₀ long (λ l. swapRows l k p) (eliminateOne n A k) _ (λ l. swap-keeps l k p) (eliminate-one-keeps n A k) (λ l. refl) swap eliminate)
                 divide;
           }
 
@@ -63,13 +55,13 @@ module _ (n columns : ℕ) (b₀ : List Float) (long : length b₀ ≡ n * colum
           record {
             row = ap (_+_ k) (sym (reads-two words k reads other));
             column =
-                after (λ l. eliminateTwo n A k (swapRows l (k + 1) p)) (divideTwo A k) (reduceBlock n A words k)
+                each-then n columns b₀ long (λ l. eliminateTwo n A k (swapRows l (k + 1) p)) (divideTwo A k) (reduceBlock n A words k)
                 (λ l. eliminate-two-keeps n A k _ ∙ swap-keeps l (k + 1) p) (divide-two-keeps A k)
                 (λ l.
                 ap (λ (q : ℕ). divideTwo A k (eliminateTwo n A k (swapRows l (k + 1) q))) index
                 ∙ ap (divideTwo A k) (two-is words k reads _ other)
                 ∙ two-is words k reads _ other)
-                (after (λ l. swapRows l (k + 1) p) (eliminateTwo n A k) _ (λ l. swap-keeps l (k + 1) p) (eliminate-two-keeps n A k) (λ l. refl) swap eliminate)
+                (each-then n columns b₀ long (λ l. swapRows l (k + 1) p) (eliminateTwo n A k) _ (λ l. swap-keeps l (k + 1) p) (eliminate-two-keeps n A k) (λ l. refl) swap eliminate)
                 divide;
           }
 
@@ -84,7 +76,7 @@ module _ (n columns : ℕ) (b₀ : List Float) (long : length b₀ ≡ n * colum
           record {
             row = ap (_-_ k) (sym (reads-one words (k - 1) reads one));
             column =
-                after (gatherRow n A (k - 1) k) (λ l. swapRows l (k - 1) p) (backwardBlock n A words k)
+                each-then n columns b₀ long (gatherRow n A (k - 1) k) (λ l. swapRows l (k - 1) p) (backwardBlock n A words k)
                 (gather-keeps n A (k - 1) k) (λ l. swap-keeps l (k - 1) p)
                 (λ l. ap (swapRows (gatherRow n A (k - 1) k l) (k - 1)) index ∙ one-is words (k - 1) reads _ one)
                 gather
@@ -100,10 +92,10 @@ module _ (n columns : ℕ) (b₀ : List Float) (long : length b₀ ≡ n * colum
           record {
             row = ap (_-_ k) (sym (reads-two words (k - 1) reads other));
             column =
-                after (λ l. gatherRow n A (k - 2) k (gatherRow n A (k - 1) k l)) (λ l. swapRows l (k - 1) p) (backwardBlock n A words k)
+                each-then n columns b₀ long (λ l. gatherRow n A (k - 2) k (gatherRow n A (k - 1) k l)) (λ l. swapRows l (k - 1) p) (backwardBlock n A words k)
                 (λ l. gather-keeps n A (k - 2) k _ ∙ gather-keeps n A (k - 1) k l) (λ l. swap-keeps l (k - 1) p)
                 (λ l. ap (swapRows (gatherRow n A (k - 2) k (gatherRow n A (k - 1) k l)) (k - 1)) index ∙ two-is words (k - 1) reads _ other)
-                (after (gatherRow n A (k - 1) k) (gatherRow n A (k - 2) k) _ (gather-keeps n A (k - 1) k) (gather-keeps n A (k - 2) k) (λ l. refl) gather₁ gather₂)
+                (each-then n columns b₀ long (gatherRow n A (k - 1) k) (gatherRow n A (k - 2) k) _ (gather-keeps n A (k - 1) k) (gather-keeps n A (k - 2) k) (λ l. refl) gather₁ gather₂)
                 swap;
           }
 
@@ -115,7 +107,7 @@ module _ (n columns : ℕ) (b₀ : List Float) (long : length b₀ ≡ n * colum
         → b₂ ≡ eachColumn n columns (solveColumn n A words) b₀
     unfolding solveColumn forwards backwards
     solved {words} accepted e₁ e₂ =
-        after (forwards n words (reduceBlock n A words)) (backwards n words (backwardBlock n A words)) (solveColumn n A words)
+        each-then n columns b₀ long (forwards n words (reduceBlock n A words)) (backwards n words (backwardBlock n A words)) (solveColumn n A words)
         (λ l. from-keeps n n words (reduceBlock n A words) 0 l (reduce-keeps n A words))
         (λ l. to-keeps n words (backwardBlock n A words) n l (backward-keeps n A words))
         (λ l. ap (backwards n words (backwardBlock n A words)) (sym (early n A accepted l)))

@@ -1,11 +1,12 @@
 -- Going over the columns again and again does to each column what it does to a column alone.
 --     columns-same                    slices with the same columns are the same
 --     each-same, each-none            two steps that agree on a column; no step
---     each-after                      two steps one after the other
---     each-for, each-forwards, each-backwards        the steps of a loop, and of the blocks of a record
+--     each-after, each-then           two steps one after the other
+--     each-for, each-falling          the steps of a loop that rises, of one that falls
+--     each-forwards, each-backwards   the steps of the blocks of a record
 use mathlib.Core.Bool.{Bool, true, false, cond}
 use mathlib.Core.List.{List, _++_}
-use mathlib.Core.Path.{_≡_, refl, sym, ap, _∙_}
+use mathlib.Core.Path.{_≡_, refl, sym, ap, fun-ext, _∙_}
 use Prim.Native.Nat.{ℕ, zero, suc, _+_, _-_, _*_, _<_, _≤_}
 use native.Mathlib.Nat.{mul-comm, suc-mul}
 use native.Mathlib.Omega.{arith}
@@ -13,9 +14,9 @@ use lib.Dec.{ltb}
 use lib.Ieee.{Float}
 use lib.ListN.{length, take, drop}
 use lib.Seq.{take-add, take-all}
-use Rattle.matrix.specs.Loop.{turns, for}
+use Rattle.matrix.specs.Loop.{turns, for, falling}
 use Rattle.lblt_column.specs.Blocks.{rowsOf, blocksFrom, forwards, blocksTo, backwards}
-use Rattle.lblt_column.proofs.Keeps.{from-keeps, to-keeps}
+use Rattle.lblt_column.proofs.Keeps.{falling-keeps, from-keeps, to-keeps}
 use Rattle.lblt_sides.specs.Columns.{column, eachColumn}
 use Rattle.lblt_sides.proofs.Parts.{column-within}
 use Rattle.lblt_sides.proofs.EachColumn.{each-column, each-long, column-length}
@@ -81,6 +82,15 @@ module _ (n columns : ℕ) where
       both : Keeping (λ l. g (f l))
       both l = kg (f l) ∙ kf l
 
+  -- two steps, and what they are together
+  pub each-then
+      : (b₀ : List Float) → length b₀ ≡ n * columns
+      → (f g h : List Float → List Float) → Keeping f → Keeping g → ((l : List Float) → g (f l) ≡ h l)
+      → {b₁ b₂ : List Float} → b₁ ≡ eachColumn n columns f b₀ → b₂ ≡ eachColumn n columns g b₁
+      → b₂ ≡ eachColumn n columns h b₀
+  each-then b₀ long f g h kf kg same e₁ e₂ =
+      e₂ ∙ ap (eachColumn n columns g) e₁ ∙ each-after f g kf kg b₀ long ∙ ap (λ (f : List Float → List Float). eachColumn n columns f b₀) (fun-ext same)
+
   -- ---- loops and blocks
 
   module _ (f : ℕ → List Float → List Float) (keeps : (i : ℕ) → Keeping (f i)) where
@@ -97,6 +107,13 @@ module _ (n columns : ℕ) where
         go (suc c) =
             ap (eachColumn n columns (f (lo + c))) (go c)
             ∙ each-after (λ l. turns lo f l c) (f (lo + c)) (kept c) (keeps (lo + c)) b long
+
+    pub each-falling : (m : ℕ) (b : List Float) → length b ≡ n * columns → falling m (λ i. eachColumn n columns (f i)) b ≡ eachColumn n columns (falling m f) b
+    unfolding falling
+    each-falling zero b long = sym (each-none b long)
+    each-falling (suc m) b long =
+        each-falling m (eachColumn n columns (f m) b) (each-long n (f m) (keeps m) columns b long ∙ long)
+        ∙ each-after (f m) (falling m f) (keeps m) (λ l. falling-keeps m f l keeps) b long
 
     either : (t : Bool) (g : List Float → List Float) (b x : List Float) → length b ≡ n * columns
         → x ≡ eachColumn n columns g b

@@ -2,3 +2,4 @@ pub mod Loops
 pub mod Grids
 pub mod Places
 pub mod Squares
+pub mod Products

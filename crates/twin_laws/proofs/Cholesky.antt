@@ -12,13 +12,12 @@ use Rattle.answer.specs.declared.Answer.{Answer}
 use Rattle.answer.specs.declared.Answer.the-variants.{Done}
 use Rattle.matrix.specs.Matrix.{Matrix, entry}
 use Rattle.matrix.specs.Loop.{for}
-use Rattle.matrix.proofs.Loops.{for-more, for-same}
+use Rattle.matrix.proofs.Loops.{for-more, for-same, for-join}
 use Rattle.cholesky.specs.Column.{less, updated}
 use Rattle.cholesky.specs.Run.{Rule, Outcome, isDone, updates, below, judged, worked, column, started, run}
-use Rattle.cholesky.proofs.Turns.{for-join}
 use Rattle.cholesky.proofs.Batch.{done-before}
 use Rattle.cholesky.proofs.Rows.{updates-in, below-in, below-above, entry-same, entry-off, columns-off, judged-passed}
-use Rattle.twin_laws.proofs.Products.{neg-exchanges}
+use Rattle.matrix.proofs.Products.{neg-exchanges}
 
 -- ---- updates of two rows
 

@@ -14,7 +14,7 @@ use lib.Ieee.Fits.{and-l, and-r, up-pos, down-pos, round-fits}
 use lib.Ieee.Digits.{back}
 use lib.Ieee.Exact.{HasValue, round-exact}
 use lib.Ieee.Nearest.{div-same}
-use Rattle.twin_laws.proofs.Products.{mul-commutes}
+use Rattle.matrix.proofs.Products.{mul-commutes}
 
 -- ---- a value fixes the float
 

@@ -1,4 +1,3 @@
-pub mod Products
 pub mod Exact
 pub mod Share
 pub mod Udu

@@ -13,7 +13,7 @@ use Rattle.twins.specs.declared.Twin.the-variants.{Nothing, Pair, Refused}
 use Rattle.twins.specs.Number.{twinNumber}
 use Rattle.urgyelpat.specs.declared.Determined.{Determined}
 use Rattle.urgyelpat.specs.Calls.{LbltFactor, LbltSolve, LbltDeterminant, LbltD, LbltLPermuted}
-use Rattle.urgyelpat.specs.Calls.{CholeskyExtend, CholeskyL, CholeskyUnpack, CholeskyDeterminant}
+use Rattle.urgyelpat.specs.Calls.{CholeskyExtend, CholeskySolve, CholeskyL, CholeskyUnpack, CholeskyDeterminant}
 use Rattle.urgyelpat.specs.Calls.{UduFactor, FirstTwinPair}
 use Rattle.urgyelpat.proofs.Within.{Within}
 use Rattle.urgyelpat.proofs.FactorPlaces as lblt
@@ -54,6 +54,9 @@ module _ {n : ℕ} {a : List Float} {words : List ℕ} where
 module _ {room n : ℕ} {a : List Float} where
   pub cholesky-extend-back : {m r : ℕ} {a' : List Float} (c : CholeskyExtend room m n a r a') → Back (c .below) r
   cholesky-extend-back c = number-back (c .result) (cholesky.extended-within (c .given))
+
+  pub cholesky-solve-back : {columns : ℕ} {b b' : List Float} {r : ℕ} (c : CholeskySolve room n columns a b r b') → Back (c .below) r
+  cholesky-solve-back c = number-back (c .result) (cholesky.solved-within (c .given))
 
   pub cholesky-l-back : {l l' : List Float} {r : ℕ} (c : CholeskyL room n a l r l') → Back (c .below) r
   cholesky-l-back c = number-back (c .result) (cholesky.copied-within (c .given))

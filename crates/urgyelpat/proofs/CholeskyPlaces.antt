@@ -20,6 +20,7 @@ use Rattle.matrix.proofs.Loops.{for-none, for-more}
 use Rattle.cholesky.specs.Run.{Outcome, isDone, updates, earlier, judged, worked, column, started, run}
 use Rattle.cholesky.specs.Crate.{crateRule, positive, zero as zeroFloat}
 use Rattle.cholesky.specs.Promise.{checked, in-room, Extended}
+use Rattle.cholesky.specs.Solve.{solveAnswer, Solved}
 use Rattle.cholesky.specs.Readers.{sliced, Copied, Unpacked, Determined}
 use Rattle.urgyelpat.proofs.Within.{Within, within-none, within-test, left-false, right-false}
 
@@ -77,11 +78,19 @@ pub extended-within : {room m n : ℕ} {l₀ l : List Float} {r : Answer} → Ex
 extended-within {room} {m} {n} {l₀} x =
     subst (Within 1024) (sym (x .answer)) (checked-within room m n (length l₀) _ (run-within m n (load (lower (in-room room n)) l₀)))
 
-pub copied-within : {room n : ℕ} {a l₀ l : List Float} {r : Answer} → Copied room n a l₀ l r → Within 1024 r
+-- code 4
+sliced-within : (n total len : ℕ) → Within n (sliced total len)
 unfolding sliced
-copied-within {room} {n} {a} {l₀} x =
+sliced-within n total len = within-test n (eqb len total) _ _ (λ e. within-none n) (λ e. within-none n)
+
+pub solved-within : {room n columns : ℕ} {a b b' : List Float} {r : Answer} → Solved room n columns a b b' r → Within 1024 r
+unfolding solveAnswer
+solved-within {room} {n} {columns} {a} {b} x =
     subst (Within 1024) (sym (x .answer))
-    (checked-within room 0 n (length a) _ (within-test n (eqb (length l₀) (n * n)) _ _ (λ e. within-none n) (λ e. within-none n)))
+    (within-test 1024 (ltb 1024 columns) _ _ (λ e. within-none 1024) (λ e. checked-within room 0 n (length a) _ (sliced-within n (n * columns) (length b))))
+
+pub copied-within : {room n : ℕ} {a l₀ l : List Float} {r : Answer} → Copied room n a l₀ l r → Within 1024 r
+copied-within {room} {n} {a} {l₀} x = subst (Within 1024) (sym (x .answer)) (checked-within room 0 n (length a) _ (sliced-within n (n * n) (length l₀)))
 
 pub unpacked-within : {room n : ℕ} {l₀ l : List Float} {r : Answer} → Unpacked room n l₀ l r → Within 1024 r
 unpacked-within {room} {n} {l₀} x = subst (Within 1024) (sym (x .answer)) (checked-within room 0 n (length l₀) Done (within-none n))

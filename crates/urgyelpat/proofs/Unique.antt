@@ -8,13 +8,14 @@ use Rattle.answer.specs.declared.Valued.{Valued}
 use Rattle.lblt.proofs.Done as lblt
 use Rattle.lblt_solve.proofs.Once.{solved-once, determined-once, filled-once}
 use Rattle.cholesky.proofs.Promises.{extended-unique}
+use Rattle.cholesky.proofs.SolvePromises.{solved-unique}
 use Rattle.cholesky.proofs.ReaderPromises.{determined-unique, copied-unique, unpacked-unique}
 use Rattle.udu.proofs.Unique as udu
 use Rattle.twins.proofs.Unique.{first-twin-since-unique}
 use Rattle.urgyelpat.specs.declared.Determined.{Determined}
 use Rattle.urgyelpat.specs.Passed.{Passed}
 use Rattle.urgyelpat.specs.Calls.{LbltFactor, LbltSolve, LbltDeterminant, LbltD, LbltLPermuted}
-use Rattle.urgyelpat.specs.Calls.{CholeskyExtend, CholeskyL, CholeskyUnpack, CholeskyDeterminant}
+use Rattle.urgyelpat.specs.Calls.{CholeskyExtend, CholeskySolve, CholeskyL, CholeskyUnpack, CholeskyDeterminant}
 use Rattle.urgyelpat.specs.Calls.{UduFactor, FirstTwinPair}
 
 -- what is given below is one, so its numbers are
@@ -59,6 +60,11 @@ module _ {room n : ℕ} {a : List Float} where
   pub cholesky-extend-unique : {m r s : ℕ} {a₁ a₂ : List Float} → CholeskyExtend room m n a r a₁ → CholeskyExtend room m n a s a₂ → (r ≡ s) × (a₁ ≡ a₂)
   cholesky-extend-unique {m} p q =
       let same = extended-unique room m n (p .given) (q .given) in
+      (passed-same p q (same .0), same .1)
+
+  pub cholesky-solve-unique : {columns : ℕ} {b b₁ b₂ : List Float} {r s : ℕ} → CholeskySolve room n columns a b r b₁ → CholeskySolve room n columns a b s b₂ → (r ≡ s) × (b₁ ≡ b₂)
+  cholesky-solve-unique {columns} p q =
+      let same = solved-unique room n columns (p .given) (q .given) in
       (passed-same p q (same .0), same .1)
 
   pub cholesky-l-unique : {l l₁ l₂ : List Float} {r s : ℕ} → CholeskyL room n a l r l₁ → CholeskyL room n a l s l₂ → (r ≡ s) × (l₁ ≡ l₂)

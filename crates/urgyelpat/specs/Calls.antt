@@ -10,6 +10,7 @@ use Rattle.lblt_solve.specs.Diagonal.{dOf}
 use Rattle.lblt_solve.specs.Permuted.{lPermutedOf}
 use Rattle.cholesky.specs.Promise.{Extended}
 use Rattle.cholesky.specs.Readers as cholesky
+use Rattle.cholesky.specs.Solve as triangles
 use Rattle.udu.specs.Promise as udu
 use Rattle.twins.specs.First.{FirstTwinSince}
 use Rattle.twins.specs.Number.{twinNumber}
@@ -37,6 +38,9 @@ LbltLPermuted n a words l r l' = Passed numberOf (λ (answer : Answer). readers.
 
 abbrev pub CholeskyExtend : ℕ → ℕ → ℕ → List Float → ℕ → List Float → Type 0
 CholeskyExtend room earlier n a r a' = Passed numberOf (Extended room earlier n a a') r
+
+abbrev pub CholeskySolve : ℕ → ℕ → ℕ → List Float → List Float → ℕ → List Float → Type 0
+CholeskySolve room n columns a b r b' = Passed numberOf (triangles.Solved room n columns a b b') r
 
 abbrev pub CholeskyL : ℕ → ℕ → List Float → List Float → ℕ → List Float → Type 0
 CholeskyL room n a l r l' = Passed numberOf (cholesky.Copied room n a l l') r

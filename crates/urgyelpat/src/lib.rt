@@ -2,7 +2,7 @@
 ghost use mathlib.Core.Path.{_≡_};
 ghost use Rattle.urgyelpat.specs.Passed.{determinedOf};
 ghost use Rattle.urgyelpat.specs.Calls.{LbltFactor, LbltSolve, LbltDeterminant, LbltD, LbltLPermuted};
-ghost use Rattle.urgyelpat.specs.Calls.{CholeskyExtend, CholeskyL, CholeskyUnpack, CholeskyDeterminant};
+ghost use Rattle.urgyelpat.specs.Calls.{CholeskyExtend, CholeskySolve, CholeskyL, CholeskyUnpack, CholeskyDeterminant};
 ghost use Rattle.urgyelpat.specs.Calls.{UduFactor, FirstTwinPair};
 use answer::Valued;
 
@@ -87,6 +87,20 @@ pub extern "C" fn urgyelpat_cholesky_extend(
     ensures { λ r. ⌜ CholeskyExtend room earlier n (now (a .entry)) r (now (a .exit)) ⌝ }
 {
     cholesky::extend(a, room, earlier, n).number()
+}
+
+// n numbers of b a column.
+#[no_mangle]
+pub extern "C" fn urgyelpat_cholesky_solve(
+    a: &[f64],
+    b: &mut [f64],
+    room: usize,
+    n: usize,
+    columns: usize,
+) -> u64
+    ensures { λ r. ⌜ CholeskySolve room n columns (now (a .entry)) (now (b .entry)) r (now (b .exit)) ⌝ }
+{
+    cholesky::solve_mut(a, b, room, n, columns).number()
 }
 
 #[no_mangle]

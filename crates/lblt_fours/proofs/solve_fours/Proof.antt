@@ -2,10 +2,11 @@
 use Rattle.lblt_column.proofs.Turning.{Turning, turning-none, turning-more, turning-all}
 use Rattle.lblt_column.specs.Column.{solveColumn}
 use Rattle.lblt_sides.specs.Columns.{atColumn, eachColumn}
-use Rattle.lblt_fours.proofs.Groups.{for-on, turning-on}
+use Rattle.lblt_fours.proofs.Groups.{turning-on}
 use Rattle.matrix.specs.Layouts.{lower}
 use Rattle.matrix.specs.Grid.{load}
 use Rattle.matrix.specs.Loop.{for}
+use Rattle.matrix.proofs.Loops.{for-join}
 use mathlib.Core.Path.{ap, _∙_}
 use Prim.Native.Nat.{_-_}
 use native.Mathlib.Omega.{arith}
@@ -86,7 +87,7 @@ returns : tie.Need-returns Inv-loop μ-loop Inv-loop2 μ-loop2
 unfolding eachColumn
 returns c =
     let loop = c .before .before .before .loop in
-    turning-all (c .before .loop2 .inv) (c .loop2-test .left) ∙ ap (for _ _ _) (loop .inv .ran .is) ∙ for-on _ _ _ _ _ (omega arith) (loop .inv .ran .upto)
+    turning-all (c .before .loop2 .inv) (c .loop2-test .left) ∙ ap (for _ _ _) (loop .inv .ran .is) ∙ for-join _ _ _ _ _ (omega arith) (loop .inv .ran .upto)
 
 pub solve-fours-spec : {M : Type 1} → statement M
 solve-fours-spec =

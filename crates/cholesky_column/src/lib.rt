@@ -1,0 +1,83 @@
+// `solve_mut` by a Cholesky factor on one column of right-hand sides.
+ghost use mathlib.Core.Path.{_≡_};
+ghost use Prim.Native.Nat.{_+_, _<_};
+ghost use Rattle.matrix.specs.Grid.{load};
+ghost use Rattle.matrix.specs.Layouts.{lower};
+ghost use Rattle.lblt_column.specs.Engine.{Sides};
+ghost use Rattle.cholesky_column.specs.Engine.{nextRow};
+ghost use Rattle.cholesky_column.specs.Triangles.{lowerRow, solveLower, transposedRow, solveTransposed, solveTriangles};
+use lblt_column::divide_one;
+use lblt_column::eliminate_two;
+use lblt_column::gather_row;
+use matrix::Layout;
+
+// ---- L y = b
+
+// Row k + 1 less its product with row k.
+fn next_row(y: Layout, a: &[f64], b: &mut [f64], k: usize)
+    requires { ⌜ Sides y (now a) (now b) ⌝ }
+    requires { ⌜ k + 1 < y .order ⌝ }
+    ensures { λ _. ⌜ now (b .exit) ≡ nextRow (load (lower y) (now (a .entry))) k (now (b .entry)) ⌝ }
+{
+    b[k + 1] = b[k + 1] - matrix::get(y, a, k + 1, k) * b[k];
+}
+
+// Rows k and k + 1: the rows below get both products in one go.
+fn lower_two(y: Layout, a: &[f64], b: &mut [f64], k: usize)
+    requires { ⌜ Sides y (now a) (now b) ⌝ }
+    requires { ⌜ k + 1 < y .order ⌝ }
+    ensures { λ _. ⌜ now (b .exit) ≡ lowerRow (y .order) (load (lower y) (now (a .entry))) (k + 1) (lowerRow (y .order) (load (lower y) (now (a .entry))) k (now (b .entry))) ⌝ }
+{
+    divide_one(y, a, b, k);
+    next_row(y, a, b, k);
+    divide_one(y, a, b, k + 1);
+    eliminate_two(y, a, b, k);
+}
+
+pub fn solve_lower(y: Layout, a: &[f64], b: &mut [f64])
+    requires { ⌜ Sides y (now a) (now b) ⌝ }
+    ensures { λ _. ⌜ now (b .exit) ≡ solveLower (y .order) (load (lower y) (now (a .entry))) (now (b .entry)) ⌝ }
+{
+    let n = y.order;
+    let mut k: usize = 0;
+    while k + 1 < n {
+        lower_two(y, a, b, k);
+        k += 2;
+    }
+    if n <= k {
+        return;
+    }
+    divide_one(y, a, b, k);
+}
+
+// ---- Lᵀ x = y
+
+fn transposed_row(y: Layout, a: &[f64], b: &mut [f64], i: usize)
+    requires { ⌜ Sides y (now a) (now b) ⌝ }
+    requires { ⌜ i < y .order ⌝ }
+    ensures { λ _. ⌜ now (b .exit) ≡ transposedRow (y .order) (load (lower y) (now (a .entry))) i (now (b .entry)) ⌝ }
+{
+    gather_row(y, a, b, i, i + 1);
+    divide_one(y, a, b, i);
+}
+
+pub fn solve_transposed(y: Layout, a: &[f64], b: &mut [f64])
+    requires { ⌜ Sides y (now a) (now b) ⌝ }
+    ensures { λ _. ⌜ now (b .exit) ≡ solveTransposed (y .order) (load (lower y) (now (a .entry))) (now (b .entry)) ⌝ }
+{
+    let mut i = y.order;
+    while 0 < i {
+        i -= 1;
+        transposed_row(y, a, b, i);
+    }
+}
+
+// ---- L Lᵀ x = b
+
+pub fn solve_triangles(y: Layout, a: &[f64], b: &mut [f64])
+    requires { ⌜ Sides y (now a) (now b) ⌝ }
+    ensures { λ _. ⌜ now (b .exit) ≡ solveTriangles (y .order) (load (lower y) (now (a .entry))) (now (b .entry)) ⌝ }
+{
+    solve_lower(y, a, b);
+    solve_transposed(y, a, b);
+}
