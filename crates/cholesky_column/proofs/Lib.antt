@@ -1,3 +1,4 @@
 pub mod Pairs
 pub mod Passes
+pub mod Back
 pub mod Keeps

@@ -25,7 +25,7 @@ lower-row n L i b =
     (λ r c low high. ap (set c r) (sym (less-is-plus binary64 (at c r) (L r i) (at (divideOne L i b) i))))
 
 -- a row that was just stored, stored anew
-store-again : (b : List Float) (i : ℕ) (x : Float) (f : Float → Float) → set (set b i x) i (f (at (set b i x) i)) ≡ set b i (f x)
+pub store-again : (b : List Float) (i : ℕ) (x : Float) (f : Float → Float) → set (set b i x) i (f (at (set b i x) i)) ≡ set b i (f x)
 store-again [] i x f = refl
 store-again (y ∷ b) zero x f = refl
 store-again (y ∷ b) (suc i) x f = ap (_∷_ y) (store-again b i x f)

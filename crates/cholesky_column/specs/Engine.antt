@@ -1,5 +1,6 @@
--- What the engine does between two rows.
+-- What the engine's parts promise to each other.
 use mathlib.Core.List.{List}
+use mathlib.Core.Path.{_≡_}
 use Prim.Native.Nat.{ℕ, _+_}
 use lib.Ieee.{Float}
 use Rattle.matrix.specs.Matrix.{Matrix}
@@ -9,3 +10,8 @@ use Rattle.lblt_column.specs.Column.{at, lessOne}
 unfoldable pub nextRow : Matrix → ℕ → List Float → List Float
 unfolding lessOne
 nextRow L k b = lessOne L k (at b k) (k + 1) b
+
+-- a step that leaves the column as said and answers its number at row i
+pub record Found (i : ℕ) (left : List Float) (x : Float) (b : List Float) : Type 0 where
+  pub column : b ≡ left
+  pub number : x ≡ at b i

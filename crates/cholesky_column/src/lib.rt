@@ -3,12 +3,13 @@ ghost use mathlib.Core.Path.{_≡_};
 ghost use Prim.Native.Nat.{_+_, _<_};
 ghost use Rattle.matrix.specs.Grid.{load};
 ghost use Rattle.matrix.specs.Layouts.{lower};
+ghost use Rattle.lblt_column.specs.Column.{at};
 ghost use Rattle.lblt_column.specs.Engine.{Sides};
-ghost use Rattle.cholesky_column.specs.Engine.{nextRow};
+ghost use Rattle.cholesky_column.specs.Engine.{nextRow, Found};
 ghost use Rattle.cholesky_column.specs.Triangles.{lowerRow, solveLower, transposedRow, solveTransposed, solveTriangles};
 use lblt_column::divide_one;
 use lblt_column::eliminate_two;
-use lblt_column::gather_row;
+use lblt_column::less_rows;
 use matrix::Layout;
 
 // ---- L y = b
@@ -52,23 +53,32 @@ pub fn solve_lower(y: Layout, a: &[f64], b: &mut [f64])
 
 // ---- Lᵀ x = y
 
-fn transposed_row(y: Layout, a: &[f64], b: &mut [f64], i: usize)
+// Row i, and the number that it becomes; `last` is the number of the row after it.
+fn transposed_row(y: Layout, a: &[f64], b: &mut [f64], i: usize, last: f64) -> f64
     requires { ⌜ Sides y (now a) (now b) ⌝ }
-    requires { ⌜ i < y .order ⌝ }
-    ensures { λ _. ⌜ now (b .exit) ≡ transposedRow (y .order) (load (lower y) (now (a .entry))) i (now (b .entry)) ⌝ }
+    requires { ⌜ i + 1 < y .order ⌝ }
+    requires { ⌜ last ≡ at (now b) (i + 1) ⌝ }
+    ensures { λ r. ⌜ Found i (transposedRow (y .order) (load (lower y) (now (a .entry))) i (now (b .entry))) r (now (b .exit)) ⌝ }
 {
-    gather_row(y, a, b, i, i + 1);
-    divide_one(y, a, b, i);
+    let first = b[i] - matrix::get(y, a, i + 1, i) * last;
+    let x = less_rows(y, a, b, i, i + 2, first) / matrix::get(y, a, i, i);
+    b[i] = x;
+    x
 }
 
 pub fn solve_transposed(y: Layout, a: &[f64], b: &mut [f64])
     requires { ⌜ Sides y (now a) (now b) ⌝ }
     ensures { λ _. ⌜ now (b .exit) ≡ solveTransposed (y .order) (load (lower y) (now (a .entry))) (now (b .entry)) ⌝ }
 {
-    let mut i = y.order;
+    if y.order == 0 {
+        return;
+    }
+    let mut i = y.order - 1;
+    divide_one(y, a, b, i);
+    let mut last = b[i];
     while 0 < i {
         i -= 1;
-        transposed_row(y, a, b, i);
+        last = transposed_row(y, a, b, i, last);
     }
 }
 

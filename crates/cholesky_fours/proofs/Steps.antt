@@ -3,6 +3,7 @@
 --     lowered-two, lowered-none, lowered-last     the way forward: two rows more, no row left, the last row
 --     transposed         a row on the way back
 --     solved             both ways
+--     one-column         a slice of one column
 use mathlib.Core.List.{List}
 use mathlib.Core.Path.{_≡_, refl, sym, ap, fun-ext, _∙_}
 use Prim.Native.Nat.{ℕ, _+_, _*_, _<_, _≤_}
@@ -11,11 +12,11 @@ use lib.Ieee.{Float, binary64, sub, mul}
 use lib.ListN.{length}
 use Rattle.matrix.specs.Matrix.{Matrix}
 use Rattle.matrix.specs.Loop.{for}
-use Rattle.matrix.proofs.Loops.{for-more}
+use Rattle.matrix.proofs.Loops.{for-one, for-more}
 use Rattle.lblt_column.specs.Column.{divideOne, lessOne, eliminateTwo, gatherRow}
 use Rattle.lblt_column.proofs.Keeps.{divide-one-keeps, eliminate-two-keeps, gather-keeps}
 use Rattle.lblt_column.proofs.Turning.{Turning, turning-all}
-use Rattle.lblt_sides.specs.Columns.{eachColumn}
+use Rattle.lblt_sides.specs.Columns.{atColumn, eachColumn}
 use Rattle.lblt_sides.proofs.EachAfter.{each-after, each-then, each-for}
 use Rattle.lblt_fours.specs.declared.Four.{Four}
 use Rattle.lblt_fours.specs.Fours.{rowOf, putRow, lessFour}
@@ -90,3 +91,7 @@ module _ (n : ℕ) (L : Matrix) (b : List Float) (long : length b ≡ n * 4) whe
       → b₂ ≡ eachColumn n 4 (solveTriangles n L) b
   unfolding solveTriangles
   solved e₁ e₂ = each-then n 4 b long (solveLower n L) (solveTransposed n L) _ (lower-keeps n L) (transposed-keeps n L) (λ l. refl) e₁ e₂
+
+pub one-column : (n : ℕ) {columns : ℕ} (f : List Float → List Float) (b : List Float) {b' : List Float} → columns ≡ 1 → b' ≡ atColumn n f 0 b → b' ≡ eachColumn n columns f b
+unfolding eachColumn
+one-column n f b one e = e ∙ sym (for-one 0 (atColumn n f) b) ∙ ap (λ (c : ℕ). for 0 c (atColumn n f) b) (sym one)

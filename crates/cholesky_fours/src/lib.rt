@@ -122,6 +122,10 @@ pub fn solve_sides(y: Layout, a: &[f64], b: &mut [f64], columns: usize)
     requires { ⌜ Lined (y .order) columns (now b) ⌝ }
     ensures { λ _. ⌜ now (b .exit) ≡ eachColumn (y .order) columns (solveTriangles (y .order) (load (lower y) (now (a .entry)))) (now (b .entry)) ⌝ }
 {
+    if columns == 1 {
+        solve_at(y, a, b, columns, 0);
+        return;
+    }
     let mut j: usize = 0;
     while j + 4 <= columns {
         solve_group(y, a, b, columns, j);

@@ -4,8 +4,9 @@ ghost use Prim.Native.Nat.{_+_, _-_, _<_, _≤_};
 ghost use lib.ListN.{length};
 ghost use Rattle.matrix.specs.Grid.{load};
 ghost use Rattle.matrix.specs.Layouts.{lower};
+ghost use Rattle.matrix.specs.Loop.{for};
 ghost use Rattle.lblt_column.specs.Blocks.{rowsOf, forwards, backwards};
-ghost use Rattle.lblt_column.specs.Column.{swapRows, eliminateOne, eliminateTwo, divideOne, divideTwo, reduceBlock, gatherRow, backwardBlock, solveColumn};
+ghost use Rattle.lblt_column.specs.Column.{swapRows, eliminateOne, eliminateTwo, divideOne, divideTwo, reduceBlock, lessProduct, gatherRow, backwardBlock, solveColumn};
 ghost use Rattle.lblt_column.specs.Engine.{Factored, Sides, BlockAt, BlockBefore, Moved};
 use matrix::Layout;
 
@@ -116,21 +117,31 @@ fn reduce(y: Layout, a: &[f64], words: &[u32], b: &mut [f64])
 
 // ---- Lᵀ x = z
 
-pub fn gather_row(y: Layout, a: &[f64], b: &mut [f64], row: usize, from: usize)
+// x less the products of the rows from `from` on with column `row` of the factor.
+pub fn less_rows(y: Layout, a: &[f64], b: &[f64], row: usize, from: usize, x: f64) -> f64
+    requires { ⌜ Sides y (now a) (now b) ⌝ }
+    requires { ⌜ row < from ⌝ }
+    requires { ⌜ from ≤ y .order ⌝ }
+    ensures { λ r. ⌜ r ≡ for from (y .order) (lessProduct (load (lower y) (now (a .entry))) (now (b .entry)) row) x ⌝ }
+{
+    let n = y.order;
+    let start = y.start(row);
+    let mut less = x;
+    let mut i = from;
+    while i < n {
+        less = less - a[i + start] * b[i];
+        i += 1;
+    }
+    less
+}
+
+fn gather_row(y: Layout, a: &[f64], b: &mut [f64], row: usize, from: usize)
     requires { ⌜ Sides y (now a) (now b) ⌝ }
     requires { ⌜ row < from ⌝ }
     requires { ⌜ from ≤ y .order ⌝ }
     ensures { λ _. ⌜ now (b .exit) ≡ gatherRow (y .order) (load (lower y) (now (a .entry))) row from (now (b .entry)) ⌝ }
 {
-    let n = y.order;
-    let start = y.start(row);
-    let mut x = b[row];
-    let mut i = from;
-    while i < n {
-        x = x - a[i + start] * b[i];
-        i += 1;
-    }
-    b[row] = x;
+    b[row] = less_rows(y, a, b, row, from, b[row]);
 }
 
 // The row where the block starts comes back.

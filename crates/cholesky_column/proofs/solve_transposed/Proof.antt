@@ -1,51 +1,71 @@
+-- `solve_transposed` goes back from the last row.
 use native.Mathlib.Omega.{arith}
 use mathlib.Core.Path.{_≡_, refl, _∙_}
 use lib.ListN.{length}
 use Rattle.matrix.specs.Grid.{load}
 use Rattle.matrix.specs.Layouts.{lower}
 use Rattle.matrix.proofs.Loops.{Fell, fell-none, fell-more, fell-all}
-use Rattle.cholesky_column.specs.Triangles.{transposedRow, solveTransposed}
+use Rattle.lblt_column.specs.Column.{at}
+use Rattle.cholesky_column.specs.Triangles.{transposedRow}
+use Rattle.cholesky_column.proofs.Back.{last-found, back-none, back-all}
 use borrow.Author.Needs.{needs}
 use Rattle.cholesky_column.proofs.solve_transposed.Statement.{statement}
 use Rattle.cholesky_column.proofs.solve_transposed.Tie as tie
-use Rattle.cholesky_column.proofs.solve_transposed.Reads as reads
-use Rattle.cholesky_column.proofs.solve_transposed.Lts as lts
-use Rattle.cholesky_column.proofs.transposed_row.Reads as transposed-row-reads
 
 abbrev Inv-loop : tie.InvT-loop
-Inv-loop y a b₀ i₀ b i = Fell (y .order) (transposedRow (y .order) (load (lower y) a)) b₀ i b × (length b ≡ length b₀)
+Inv-loop y a b₀ i₀ last₀ b i last = Fell i₀ (transposedRow (y .order) (load (lower y) a)) b₀ i b × (last ≡ at b i) × (length b ≡ length b₀)
 
 abbrev μ-loop : tie.MeasureT-loop
-μ-loop y a b₀ i₀ b i = i
+μ-loop y a b₀ i₀ last₀ b i last = i
 
--- src/lib.rt:59:5
-loop-holds : tie.Need-loop-holds Inv-loop μ-loop
-loop-holds c = (fell-none, refl)
+returns : tie.Need-returns Inv-loop μ-loop
+returns c = back-none _ _ (c .if1 .taken) _
 
--- src/lib.rt:60:9
 sub-i : tie.Need-sub-i Inv-loop μ-loop
 sub-i c = search needs
 
--- src/lib.rt:61:9
-transposed-row-requires : tie.Need-transposed-row-requires Inv-loop μ-loop
-transposed-row-requires c κs = (record { factor = c .before .before .before .before .before .pre .factor; long = c .before .before .loop .inv .1 ∙ c .before .before .before .before .before .pre .long }, omega (arith, c .before .before .loop .inv .0 .upto, c .before .loop-test .taken))
+divide-one-requires : tie.Need-divide-one-requires Inv-loop μ-loop
+divide-one-requires c κs = search needs
 
--- src/lib.rt:59:5
+mul-last : tie.Need-mul-last Inv-loop μ-loop
+mul-last c = search needs
+
+slice-read-last : tie.Need-slice-read-last Inv-loop μ-loop
+slice-read-last c = search needs
+
+loop-holds : tie.Need-loop-holds Inv-loop μ-loop
+loop-holds c = (fell-none, refl, refl)
+
+sub-i-2 : tie.Need-sub-i-2 Inv-loop μ-loop
+sub-i-2 c = search needs
+
+transposed-row-requires : tie.Need-transposed-row-requires Inv-loop μ-loop
+transposed-row-requires c κs =
+    let pre = c .before .before .before .before .before .before .before .before .before .before .before .before .before .pre in
+    let loop = c .before .before .loop in
+    let divide-one = c .before .before .before .before .before .before .divide-one in
+    (record { factor = pre .factor; long = loop .inv .2 ∙ divide-one .kept .1 .1 .0 ∙ pre .long }, (omega (arith, loop .inv .0 .upto, c .before .loop-test .taken), last-found (loop .b) (loop .inv .1) (c .before .loop-test .taken)))
+
 loop-less : tie.Need-loop-less Inv-loop μ-loop
 loop-less c = search needs
 
--- src/lib.rt:59:5
 loop-again : tie.Need-loop-again Inv-loop μ-loop
-loop-again c = (fell-more (c .before .before .before .before .before .loop .inv .0) (c .before .before .before .before .loop-test .taken) (c .before .before .transposed-row .ensures), c .before .before .transposed-row .kept .1 .1 .0 ∙ c .before .before .before .before .before .loop .inv .1)
+loop-again c =
+    let loop = c .before .before .before .before .before .loop in
+    let loop-test = c .before .before .before .before .loop-test in
+    let transposed-row = c .before .before .transposed-row in
+    (fell-more (loop .inv .0) (loop-test .taken) (transposed-row .ensures .column), transposed-row .ensures .number, transposed-row .kept .1 .1 .0 ∙ loop .inv .2)
 
--- src/lib.rt:54:1
 same-length : tie.Need-same-length Inv-loop μ-loop
-same-length c = c .before .loop .inv .1
+same-length c =
+    let divide-one = c .before .before .before .before .before .divide-one in
+    c .before .loop .inv .2 ∙ divide-one .kept .1 .1 .0
 
--- src/lib.rt:54:1
-returns : tie.Need-returns Inv-loop μ-loop
-unfolding solveTransposed
-returns c = fell-all (c .before .loop .inv .0) (c .loop-test .left)
+returns-2 : tie.Need-returns-2 Inv-loop μ-loop
+returns-2 c =
+    let if1 = c .before .before .before .before .before .before .before .before .if1 in
+    let divide-one = c .before .before .before .before .before .divide-one in
+    back-all _ _ (omega (arith, if1 .left)) _ (divide-one .ensures) (fell-all (c .before .loop .inv .0) (c .loop-test .left))
 
 pub solve-transposed-spec : {M : Type 1} → statement M
 solve-transposed-spec =
@@ -53,10 +73,15 @@ solve-transposed-spec =
     (tie.spec
     Inv-loop
     μ-loop
-    loop-holds
+    returns
     sub-i
+    divide-one-requires
+    mul-last
+    slice-read-last
+    loop-holds
+    sub-i-2
     transposed-row-requires
     loop-less
     loop-again
     same-length
-    returns)
+    returns-2)

@@ -1,35 +1,64 @@
-use mathlib.Core.Path.{ap, _∙_}
-use Rattle.lblt_column.specs.Column.{divideOne}
-use Rattle.cholesky_column.specs.Triangles.{transposedRow}
+-- `transposed_row` takes a row's step of the way back.
+use native.Mathlib.Omega.{arith}
+use Rattle.cholesky_column.proofs.Back.{found}
 use borrow.Author.Needs.{needs}
 use Rattle.cholesky_column.proofs.transposed_row.Statement.{statement}
 use Rattle.cholesky_column.proofs.transposed_row.Tie as tie
-use Rattle.cholesky_column.proofs.transposed_row.Reads as reads
-use Rattle.cholesky_column.proofs.transposed_row.Lts as lts
-use Rattle.lblt_column.proofs.divide_one.Reads as divide-one-reads
-use Rattle.lblt_column.proofs.gather_row.Reads as gather-row-reads
 
--- src/lib.rt:50:28
-add-gather-row : tie.Need-add-gather-row
-add-gather-row c = search needs
+mul-first : tie.Need-mul-first
+mul-first c = search needs
 
--- src/lib.rt:50:5
-gather-row-requires : tie.Need-gather-row-requires
-gather-row-requires c κs = search needs
+slice-read-first : tie.Need-slice-read-first
+slice-read-first c = search needs
 
--- src/lib.rt:51:5
-divide-one-requires : tie.Need-divide-one-requires
-divide-one-requires c κs = (record { factor = c .before .before .before .before .before .before .before .pre .0 .factor; long = c .before .before .before .gather-row .kept .1 .1 .0 ∙ c .before .before .before .before .before .before .before .pre .0 .long }, c .before .before .before .before .before .before .before .pre .1)
+add-get : tie.Need-add-get
+add-get c = search needs
 
--- src/lib.rt:45:1
+get-requires : tie.Need-get-requires
+get-requires c κs =
+    let pre = c .before .before .before .pre in
+    (pre .0 .factor .roomy, (pre .0 .factor .sound, (omega arith, pre .1 .0)))
+
+add-less-rows : tie.Need-add-less-rows
+add-less-rows c = search needs
+
+less-rows-requires : tie.Need-less-rows-requires
+less-rows-requires c κs =
+    let pre = c .before .before .before .before .before .pre in
+    (pre .0, (omega arith, omega (arith, pre .1 .0)))
+
+get-requires-2 : tie.Need-get-requires-2
+get-requires-2 c κs =
+    let pre = c .before .before .before .before .before .before .pre in
+    (pre .0 .factor .roomy, (pre .0 .factor .sound, (omega arith, omega (arith, pre .1 .0))))
+
+mul-b : tie.Need-mul-b
+mul-b c = search needs
+
+slice-write-b : tie.Need-slice-write-b
+slice-write-b c = search needs
+
 same-length : tie.Need-same-length
 same-length c = search needs
 
--- src/lib.rt:45:1
 returns : tie.Need-returns
-unfolding transposedRow
-returns c = c .before .before .divide-one .ensures ∙ ap (divideOne _ _) (c .before .before .before .before .before .before .gather-row .ensures)
+returns c =
+    let pre = c .before .before .before .before .before .before .before .pre in
+    let get = c .before .before .before .get in
+    found _ _ _ _ (pre .0 .long) (pre .1 .0) (get .ensures) (pre .1 .1) (c .before .less-rows .ensures) (c .get2 .ensures)
 
 pub transposed-row-spec : {M : Type 1} → statement M
 transposed-row-spec =
-    tie.close (tie.spec add-gather-row gather-row-requires divide-one-requires same-length returns)
+    tie.close
+    (tie.spec
+    mul-first
+    slice-read-first
+    add-get
+    get-requires
+    add-less-rows
+    less-rows-requires
+    get-requires-2
+    mul-b
+    slice-write-b
+    same-length
+    returns)

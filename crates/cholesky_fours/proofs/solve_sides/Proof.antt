@@ -1,5 +1,7 @@
+-- `solve_sides` solves four columns at a time, and then those that are left.
 use native.Mathlib.Omega.{arith}
 use mathlib.Core.Path.{ap, _∙_}
+use Rattle.cholesky_fours.proofs.Steps.{one-column}
 use Prim.Native.Nat.{_-_}
 use Rattle.matrix.specs.Grid.{load}
 use Rattle.matrix.specs.Layouts.{lower}
@@ -12,10 +14,6 @@ use Rattle.cholesky_column.specs.Triangles.{solveTriangles}
 use borrow.Author.Needs.{needs}
 use Rattle.cholesky_fours.proofs.solve_sides.Statement.{statement}
 use Rattle.cholesky_fours.proofs.solve_sides.Tie as tie
-use Rattle.cholesky_fours.proofs.solve_sides.Reads as reads
-use Rattle.cholesky_fours.proofs.solve_sides.Lts as lts
-use Rattle.cholesky_fours.proofs.solve_at.Reads as solve-at-reads
-use Rattle.cholesky_fours.proofs.solve_group.Reads as solve-group-reads
 
 abbrev Inv-loop : tie.InvT-loop
 Inv-loop y a b₀ columns j₀ b j = Turning 0 columns (atColumn (y .order) (solveTriangles (y .order) (load (lower y) a))) b₀ j b
@@ -29,58 +27,83 @@ Inv-loop2 y a b₀ columns j₀ b j = Turning j₀ columns (atColumn (y .order) 
 abbrev μ-loop2 : tie.MeasureT-loop2
 μ-loop2 y a b₀ columns j₀ b j = columns - j
 
--- src/lib.rt:126:5
+solve-at-requires : tie.Need-solve-at-requires Inv-loop μ-loop Inv-loop2 μ-loop2
+solve-at-requires c κs =
+    let pre = c .before .before .before .before .pre in
+    (pre .0, (pre .1, omega (arith, c .before .if1 .taken)))
+
+same-length : tie.Need-same-length Inv-loop μ-loop Inv-loop2 μ-loop2
+same-length c = search needs
+
+returns : tie.Need-returns Inv-loop μ-loop Inv-loop2 μ-loop2
+returns c =
+    let if1 = c .before .before .before .before .if1 in
+    one-column _ _ _ (if1 .taken) (c .before .before .solve-at .ensures)
+
 loop-holds : tie.Need-loop-holds Inv-loop μ-loop Inv-loop2 μ-loop2
 loop-holds c = turning-none (omega arith)
 
--- src/lib.rt:126:11
 add-loop : tie.Need-add-loop Inv-loop μ-loop Inv-loop2 μ-loop2
-add-loop c = omega (arith, c .loop .inv .ran .upto, c .before .before .before .pre .1 .few)
+add-loop c =
+    let pre = c .before .before .before .before .pre in
+    omega (arith, c .loop .inv .ran .upto, pre .1 .few)
 
--- src/lib.rt:127:9
 solve-group-requires : tie.Need-solve-group-requires Inv-loop μ-loop Inv-loop2 μ-loop2
-solve-group-requires c κs = (c .before .before .before .before .before .pre .0, (record { few = c .before .before .before .before .before .pre .1 .few; long = c .before .before .loop .inv .long ∙ c .before .before .before .before .before .pre .1 .long }, c .before .loop-test .taken))
+solve-group-requires c κs =
+    let pre = c .before .before .before .before .before .before .pre in
+    (pre .0, (record { few = pre .1 .few; long = c .before .before .loop .inv .long ∙ pre .1 .long }, c .before .loop-test .taken))
 
--- src/lib.rt:128:9
 add-j : tie.Need-add-j Inv-loop μ-loop Inv-loop2 μ-loop2
-add-j c = omega (arith, c .before .before .before .before .loop-test .taken, c .before .before .before .before .before .before .before .before .pre .1 .few)
+add-j c =
+    let loop-test = c .before .before .before .before .loop-test in
+    let pre = c .before .before .before .before .before .before .before .before .before .pre in
+    omega (arith, loop-test .taken, pre .1 .few)
 
--- src/lib.rt:126:5
 loop-less : tie.Need-loop-less Inv-loop μ-loop Inv-loop2 μ-loop2
 loop-less c = search needs
 
--- src/lib.rt:126:5
 loop-again : tie.Need-loop-again Inv-loop μ-loop Inv-loop2 μ-loop2
-loop-again c = turning-on 4 (c .before .before .before .before .before .loop .inv) (c .before .before .before .before .loop-test .taken) (c .before .before .solve-group .ensures) (c .before .before .solve-group .kept .1 .1 .0)
+loop-again c =
+    let loop = c .before .before .before .before .before .loop in
+    let loop-test = c .before .before .before .before .loop-test in
+    let solve-group = c .before .before .solve-group in
+    turning-on 4 (loop .inv) (loop-test .taken) (solve-group .ensures) (solve-group .kept .1 .1 .0)
 
--- src/lib.rt:130:5
 loop2-holds : tie.Need-loop2-holds Inv-loop μ-loop Inv-loop2 μ-loop2
 loop2-holds c = turning-none (c .before .loop .inv .ran .upto)
 
--- src/lib.rt:131:9
-solve-at-requires : tie.Need-solve-at-requires Inv-loop μ-loop Inv-loop2 μ-loop2
-solve-at-requires c κs = (c .before .before .before .before .before .before .before .pre .0, (record { few = c .before .before .before .before .before .before .before .pre .1 .few; long = c .before .before .loop2 .inv .long ∙ c .before .before .before .before .loop .inv .long ∙ c .before .before .before .before .before .before .before .pre .1 .long }, c .before .loop2-test .taken))
+solve-at-requires-2 : tie.Need-solve-at-requires-2 Inv-loop μ-loop Inv-loop2 μ-loop2
+solve-at-requires-2 c κs =
+    let pre = c .before .before .before .before .before .before .before .before .pre in
+    let loop = c .before .before .before .before .loop in
+    (pre .0, (record { few = pre .1 .few; long = c .before .before .loop2 .inv .long ∙ loop .inv .long ∙ pre .1 .long }, c .before .loop2-test .taken))
 
--- src/lib.rt:132:9
 add-j-2 : tie.Need-add-j-2 Inv-loop μ-loop Inv-loop2 μ-loop2
-add-j-2 c = omega (arith, c .before .before .before .before .loop2-test .taken, c .before .before .before .before .before .before .before .before .before .before .pre .1 .few)
+add-j-2 c =
+    let loop2-test = c .before .before .before .before .loop2-test in
+    let pre = c .before .before .before .before .before .before .before .before .before .before .before .pre in
+    omega (arith, loop2-test .taken, pre .1 .few)
 
--- src/lib.rt:130:5
 loop2-less : tie.Need-loop2-less Inv-loop μ-loop Inv-loop2 μ-loop2
 loop2-less c = search needs
 
--- src/lib.rt:130:5
 loop2-again : tie.Need-loop2-again Inv-loop μ-loop Inv-loop2 μ-loop2
-loop2-again c = turning-more (c .before .before .before .before .before .loop2 .inv) (c .before .before .before .before .loop2-test .taken) (c .before .before .solve-at .ensures) (c .before .before .solve-at .kept .1 .1 .0)
+loop2-again c =
+    let loop2 = c .before .before .before .before .before .loop2 in
+    let loop2-test = c .before .before .before .before .loop2-test in
+    let solve-at2 = c .before .before .solve-at2 in
+    turning-more (loop2 .inv) (loop2-test .taken) (solve-at2 .ensures) (solve-at2 .kept .1 .1 .0)
 
--- src/lib.rt:120:1
-same-length : tie.Need-same-length Inv-loop μ-loop Inv-loop2 μ-loop2
-same-length c = c .before .loop2 .inv .long ∙ c .before .before .before .loop .inv .long
+same-length-2 : tie.Need-same-length-2 Inv-loop μ-loop Inv-loop2 μ-loop2
+same-length-2 c =
+    let loop = c .before .before .before .loop in
+    c .before .loop2 .inv .long ∙ loop .inv .long
 
--- src/lib.rt:120:1
-returns : tie.Need-returns Inv-loop μ-loop Inv-loop2 μ-loop2
+returns-2 : tie.Need-returns-2 Inv-loop μ-loop Inv-loop2 μ-loop2
 unfolding eachColumn
-returns c = turning-all (c .before .loop2 .inv) (c .loop2-test .left) ∙ ap (for _ _ _) (c .before .before .before .loop .inv .ran .is) ∙ for-join _ _ _ _ _ (omega arith) (c .before .before .before .loop .inv .ran .upto)
+returns-2 c =
+    let loop = c .before .before .before .loop in
+    turning-all (c .before .loop2 .inv) (c .loop2-test .left) ∙ ap (for _ _ _) (loop .inv .ran .is) ∙ for-join _ _ _ _ _ (omega arith) (loop .inv .ran .upto)
 
 pub solve-sides-spec : {M : Type 1} → statement M
 solve-sides-spec =
@@ -90,6 +113,9 @@ solve-sides-spec =
     μ-loop
     Inv-loop2
     μ-loop2
+    solve-at-requires
+    same-length
+    returns
     loop-holds
     add-loop
     solve-group-requires
@@ -97,9 +123,9 @@ solve-sides-spec =
     loop-less
     loop-again
     loop2-holds
-    solve-at-requires
+    solve-at-requires-2
     add-j-2
     loop2-less
     loop2-again
-    same-length
-    returns)
+    same-length-2
+    returns-2)

@@ -1,3 +1,4 @@
+-- `solve_transposed` goes back from the last row, in four columns.
 use native.Mathlib.Omega.{arith}
 use mathlib.Core.Path.{_≡_, refl, _∙_}
 use lib.ListN.{length}
@@ -11,9 +12,6 @@ use Rattle.cholesky_column.proofs.Keeps.{transposed-row-keeps}
 use borrow.Author.Needs.{needs}
 use Rattle.cholesky_fours.proofs.solve_transposed.Statement.{statement}
 use Rattle.cholesky_fours.proofs.solve_transposed.Tie as tie
-use Rattle.cholesky_fours.proofs.solve_transposed.Reads as reads
-use Rattle.cholesky_fours.proofs.solve_transposed.Lts as lts
-use Rattle.cholesky_fours.proofs.transposed_row.Reads as transposed-row-reads
 
 abbrev Inv-loop : tie.InvT-loop
 Inv-loop y a b₀ i₀ b i = Fell (y .order) (λ i. eachColumn (y .order) 4 (transposedRow (y .order) (load (lower y) a) i)) b₀ i b × (length b ≡ length b₀)
@@ -21,34 +19,36 @@ Inv-loop y a b₀ i₀ b i = Fell (y .order) (λ i. eachColumn (y .order) 4 (tra
 abbrev μ-loop : tie.MeasureT-loop
 μ-loop y a b₀ i₀ b i = i
 
--- src/lib.rt:79:5
 loop-holds : tie.Need-loop-holds Inv-loop μ-loop
 loop-holds c = (fell-none, refl)
 
--- src/lib.rt:80:9
 sub-i : tie.Need-sub-i Inv-loop μ-loop
 sub-i c = search needs
 
--- src/lib.rt:81:9
 transposed-row-requires : tie.Need-transposed-row-requires Inv-loop μ-loop
-transposed-row-requires c κs = (record { factor = c .before .before .before .before .before .pre .factor; long = c .before .before .loop .inv .1 ∙ c .before .before .before .before .before .pre .long }, omega (arith, c .before .before .loop .inv .0 .upto, c .before .loop-test .taken))
+transposed-row-requires c κs =
+    let pre = c .before .before .before .before .before .pre in
+    let loop = c .before .before .loop in
+    (record { factor = pre .factor; long = loop .inv .1 ∙ pre .long }, omega (arith, loop .inv .0 .upto, c .before .loop-test .taken))
 
--- src/lib.rt:79:5
 loop-less : tie.Need-loop-less Inv-loop μ-loop
 loop-less c = search needs
 
--- src/lib.rt:79:5
 loop-again : tie.Need-loop-again Inv-loop μ-loop
-loop-again c = (fell-more (c .before .before .before .before .before .loop .inv .0) (c .before .before .before .before .loop-test .taken) (c .before .before .transposed-row .ensures), c .before .before .transposed-row .kept .1 .1 .0 ∙ c .before .before .before .before .before .loop .inv .1)
+loop-again c =
+    let loop = c .before .before .before .before .before .loop in
+    let loop-test = c .before .before .before .before .loop-test in
+    let transposed-row = c .before .before .transposed-row in
+    (fell-more (loop .inv .0) (loop-test .taken) (transposed-row .ensures), transposed-row .kept .1 .1 .0 ∙ loop .inv .1)
 
--- src/lib.rt:74:1
 same-length : tie.Need-same-length Inv-loop μ-loop
 same-length c = c .before .loop .inv .1
 
--- src/lib.rt:74:1
 returns : tie.Need-returns Inv-loop μ-loop
 unfolding solveTransposed
-returns c = fell-all (c .before .loop .inv .0) (c .loop-test .left) ∙ each-falling _ _ _ (transposed-row-keeps _ _) _ _ (c .before .before .before .before .pre .long)
+returns c =
+    let pre = c .before .before .before .before .pre in
+    fell-all (c .before .loop .inv .0) (c .loop-test .left) ∙ each-falling _ _ _ (transposed-row-keeps _ _) _ _ (pre .long)
 
 pub solve-transposed-spec : {M : Type 1} → statement M
 solve-transposed-spec =
