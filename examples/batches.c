@@ -1,4 +1,4 @@
-/* Grows a Cholesky factor by batches of rows, and leaves out a batch that came twice. */
+/* Grows a Cholesky factor by batches of rows, leaves out a batch that came twice, and solves by the factor. */
 #include "urgyelpat.h"
 #include <stdio.h>
 
@@ -26,12 +26,14 @@ int main(void)
 {
     /* row 1 comes twice: the factor alone would take it, with 2e-8 on its diagonal */
     static const double batches[][3] = {{4}, {2, 3}, {2, 3, 3}, {2, 1, 10}};
+    static const double sides[] = {14, 11, 11, 34}; /* the right-hand side of each row */
+    double x[ROOM] = {0};                           /* those of the rows that were taken, and then the solution */
     size_t order = 0;
 
     for (unsigned batch = 0; batch < 4; batch++) {
         uint64_t answer = take(batches[batch], order, order + 1);
         if (answer == URGYELPAT_DONE) {
-            order++;
+            x[order++] = sides[batch];
         } else if (urgyelpat_is_pair(answer)) {
             printf("rows %u and %u are the same: ", urgyelpat_twin_p(answer), urgyelpat_twin_q(answer));
             printf("batch %u is left out\n", batch);
@@ -43,6 +45,16 @@ int main(void)
     printf("diagonal");
     for (size_t i = 0; i < order; i++)
         printf(" %g", factor[i + i * ROOM]);
+    printf("\n");
+
+    uint64_t answer = urgyelpat_cholesky_solve(factor, LENGTH, x, order, ROOM, order, 1);
+    if (answer != URGYELPAT_DONE) {
+        printf("refused: code %u, place %u\n", urgyelpat_code(answer), urgyelpat_place(answer));
+        return 1;
+    }
+    printf("x =");
+    for (size_t i = 0; i < order; i++)
+        printf(" %g", x[i]);
     printf("\n");
     return 0;
 }

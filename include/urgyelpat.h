@@ -125,6 +125,13 @@ URGYELPAT_MUST_USE uint64_t urgyelpat_cholesky_factor(double *a, size_t a_length
  * Answers 0, 1, 2, 3 (a), 7. */
 URGYELPAT_MUST_USE uint64_t urgyelpat_cholesky_extend(double *a, size_t a_length, size_t room, size_t earlier, size_t n);
 
+/* Solves A X = B in b (n*columns numbers, n for each column, whatever the room) by the factor that stands in a. The solution
+ * of a column depends on the factor and that column alone. No number of the factor is refused: a zero on its diagonal gives
+ * infinities or NaN, and what a refused factor left is read as it stands.
+ * Answers 0, 1, 2, 3 (a), 4 (b). */
+URGYELPAT_MUST_USE uint64_t urgyelpat_cholesky_solve(const double *a, size_t a_length, double *b, size_t b_length, size_t room,
+                                                     size_t n, size_t columns);
+
 /* Fills l (n*n numbers, entry (i, j) at i + j*n) with the factor that stands in a, zero above the diagonal.
  * Answers 0, 1, 2, 3 (a), 4 (l). */
 URGYELPAT_MUST_USE uint64_t urgyelpat_cholesky_l(const double *a, size_t a_length, double *l, size_t l_length, size_t room,

@@ -182,9 +182,9 @@ static void many_columns(void)
     for (size_t n = 1; n <= LARGEST; n++)
         for (size_t columns = 4; columns <= MOST; columns++) {
             for (size_t i = 0; i < n * n; i++)
-                a[i] = (double)((chance = chance * 1664525u + 1013904223u) >> 8) / 16777216.0 - 0.5;
+                a[i] = by_chance(&chance);
             for (size_t i = 0; i < n * columns; i++)
-                left[i] = b[i] = (double)((chance = chance * 1664525u + 1013904223u) >> 8) / 16777216.0 - 0.5;
+                left[i] = b[i] = by_chance(&chance);
             answered(urgyelpat_lblt_factor(a, n * n, record, 2 * n + 1, n), 0);
             for (size_t j = 0; j < columns; j++)
                 answered(urgyelpat_lblt_solve(a, n * n, record, 2 * n + 1, left + j * n, n, n, 1), 0);

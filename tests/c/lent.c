@@ -33,6 +33,12 @@ double from_bits(uint64_t bits)
     return number;
 }
 
+double by_chance(uint32_t *state)
+{
+    *state = *state * 1664525u + 1013904223u;
+    return (double)(*state >> 8) / 16777216.0 - 0.5;
+}
+
 static uint64_t to_bits(double number)
 {
     uint64_t bits;

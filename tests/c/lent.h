@@ -26,6 +26,8 @@ typedef struct {
 
 /* The double with these bits. */
 double from_bits(uint64_t bits);
+/* A double from -0.5 to 0.5 that looks like chance and is the same in every run; moves the state on. */
+double by_chance(uint32_t *state);
 
 #define INF __builtin_inf()
 /* A NaN that a call works out: any NaN meets it. */

@@ -8,7 +8,7 @@ use std::ops::Range;
 
 use crate::refusal::{done, value, Refusal};
 use crate::twins::{first_twin, first_twin_since, Twins};
-use crate::{ffi, kept, LARGEST};
+use crate::{ffi, kept, whole_columns, LARGEST};
 
 /// Factors the first n rows and columns of the lower part of `a` (room·room numbers) in place.
 ///
@@ -46,6 +46,28 @@ pub fn factor(a: &mut [f64], room: usize, n: usize) -> Result<(), Refusal> {
 pub fn extend(a: &mut [f64], room: usize, earlier: usize, n: usize) -> Result<(), Refusal> {
     // SAFETY: the pointer and the length are a slice's, which is borrowed alone.
     done(unsafe { ffi::urgyelpat_cholesky_extend(a.as_mut_ptr(), a.len(), room, earlier, n) })
+}
+
+/// Solves A·X = B in `b` (n·columns numbers, n for each column, whatever the room), by the factor that stands in `a`.
+///
+/// The solution of a column x depends on the factor l and that column alone. For i rising, x(i) is divided by l(i, i), and
+/// then each later row r becomes x(r) + (−x(i))·l(r, i). After that, for i falling, x(i) becomes x(i) − l(r, i)·x(r) for r
+/// rising from i + 1, and is then divided by l(i, i). Each product, sum and quotient is rounded once. This order is document
+/// 02's and was not taken from nalgebra, so the last bits may differ from those of its `Cholesky::solve`.
+///
+/// No number of the factor is refused: a zero on its diagonal gives infinities or NaN, and what a refused factor left is read
+/// as it stands. Refused by [`OutOfRange`](Refusal::OutOfRange), [`OrderAboveRoom`](Refusal::OrderAboveRoom),
+/// [`MatrixLength`](Refusal::MatrixLength), [`SliceLength`](Refusal::SliceLength).
+///
+/// ```
+/// let mut b = [8.0, 11.0];
+/// urgyelpat::cholesky::solve_mut(&[2.0, 1.0, 7.0, 2.0], &mut b, 2, 2, 1)?;
+/// assert_eq!(b, [1.125, 1.75]);
+/// # Ok::<(), urgyelpat::Refusal>(())
+/// ```
+pub fn solve_mut(a: &[f64], b: &mut [f64], room: usize, n: usize, columns: usize) -> Result<(), Refusal> {
+    // SAFETY: each pointer and length are a slice's, and what is written is borrowed alone.
+    done(unsafe { ffi::urgyelpat_cholesky_solve(a.as_ptr(), a.len(), b.as_mut_ptr(), b.len(), room, n, columns) })
 }
 
 /// Fills `l` (n·n numbers) with the factor that stands in `a`, zero above the diagonal.
@@ -131,6 +153,7 @@ impl Error for BatchRefusal {}
 /// factor.extend(&[4.0])?; // row 0
 /// factor.extend(&[2.0, 5.0, 6.0, 5.0, 14.0])?; // rows 1 and 2, up to their diagonals
 /// assert_eq!(factor.l(), [2.0, 1.0, 3.0, 0.0, 2.0, 1.0, 0.0, 0.0, 2.0]);
+/// assert_eq!(factor.solve(&[12.0, 12.0, 25.0])?, [1.0, 1.0, 1.0]);
 /// assert_eq!(factor.determinant(), 64.0);
 ///
 /// // a batch that is refused leaves the factor as it was
@@ -358,6 +381,44 @@ impl Cholesky {
         self.came = moved(&self.came, self.order, self.room, room);
         self.factor = moved(&self.factor, self.order, self.room, room);
         self.room = room;
+    }
+
+    /// The solution of A·X = B. `b` has n numbers for each right-hand side, one after the other.
+    ///
+    /// The solution of a right-hand side depends on the factor and that side alone, by [these steps](solve_mut). Their order is
+    /// document 02's, so the last bits may differ from those of nalgebra's `Cholesky::solve`. Refused by
+    /// [`OutOfRange`](Refusal::OutOfRange) and [`SliceLength`](Refusal::SliceLength) for `b`, and by nothing else.
+    ///
+    /// ```
+    /// let factor = urgyelpat::Cholesky::new(vec![4.0, 2.0, 0.0, 5.0], 2)?;
+    /// assert_eq!(factor.solve(&[8.0, 11.0])?, [1.125, 1.75]);
+    /// # Ok::<(), urgyelpat::BatchRefusal>(())
+    /// ```
+    pub fn solve(&self, b: &[f64]) -> Result<Vec<f64>, Refusal> {
+        let mut x = b.to_vec();
+        self.solve_mut(&mut x)?;
+        Ok(x)
+    }
+
+    /// [`solve`](Cholesky::solve) in place; a refusal leaves `b` as it was.
+    ///
+    /// ```
+    /// use urgyelpat::{Cholesky, Refusal};
+    ///
+    /// let mut factor = Cholesky::default();
+    /// factor.extend(&[4.0])?; // row 0
+    /// let mut sides = [8.0, 2.0, 11.0];
+    /// factor.solve_mut(&mut sides)?;
+    /// assert_eq!(sides, [2.0, 0.5, 2.75]);
+    ///
+    /// factor.extend(&[2.0, 5.0])?; // row 1: a right-hand side has two numbers
+    /// assert_eq!(factor.solve_mut(&mut sides), Err(Refusal::SliceLength));
+    /// assert_eq!(sides, [2.0, 0.5, 2.75]);
+    /// # Ok::<(), urgyelpat::BatchRefusal>(())
+    /// ```
+    pub fn solve_mut(&self, b: &mut [f64]) -> Result<(), Refusal> {
+        let columns = whole_columns(b.len(), self.order);
+        solve_mut(&self.factor, b, self.room, self.order, columns)
     }
 
     /// The factor L, n·n numbers, zero above the diagonal.

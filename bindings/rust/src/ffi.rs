@@ -46,6 +46,15 @@ extern "C" {
     ) -> u64;
     pub fn urgyelpat_cholesky_factor(a: *mut f64, a_length: usize, room: usize, n: usize) -> u64;
     pub fn urgyelpat_cholesky_extend(a: *mut f64, a_length: usize, room: usize, earlier: usize, n: usize) -> u64;
+    pub fn urgyelpat_cholesky_solve(
+        a: *const f64,
+        a_length: usize,
+        b: *mut f64,
+        b_length: usize,
+        room: usize,
+        n: usize,
+        columns: usize,
+    ) -> u64;
     pub fn urgyelpat_cholesky_l(
         a: *const f64,
         a_length: usize,

@@ -5,7 +5,7 @@
 //! may be a sound one, so keep a factor and its record together, as [`LBLT`] does.
 
 use crate::refusal::{done, value, Refusal};
-use crate::{ffi, kept};
+use crate::{ffi, kept, whole_columns};
 
 /// Factors the lower part of `a` (n·n numbers) in place and writes its pivot record (2n + 1 words).
 ///
@@ -210,8 +210,7 @@ impl LBLT {
     /// # Ok::<(), Refusal>(())
     /// ```
     pub fn solve_mut(&self, b: &mut [f64]) -> Result<(), Refusal> {
-        // a rest is refused by the call, since b is then longer than the whole columns
-        let columns = b.len().checked_div(self.order).unwrap_or(0);
+        let columns = whole_columns(b.len(), self.order);
         solve_mut(&self.matrix, &self.record, b, self.order, columns)
     }
 

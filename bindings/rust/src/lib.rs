@@ -60,3 +60,9 @@ fn kept(order: usize) -> usize {
         0
     }
 }
+
+/// How many whole columns of an order stand in so many numbers. A rest is refused by the call, since the slice is then longer
+/// than the columns.
+fn whole_columns(numbers: usize, order: usize) -> usize {
+    numbers.checked_div(order).unwrap_or(0)
+}
