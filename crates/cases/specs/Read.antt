@@ -16,6 +16,8 @@ use Rattle.lblt_column.specs.Column.{solveColumn}
 use Rattle.lblt_solve.specs.Diagonal.{determinantOf}
 use Rattle.cholesky.specs.Run.{Outcome, run}
 use Rattle.cholesky.specs.Crate.{crateRule}
+use Rattle.cholesky.specs.Solve.{solveAnswer as trianglesAnswer}
+use Rattle.cholesky_column.specs.Triangles.{solveTriangles}
 use Rattle.udu.specs.Columns.{Run, run as uduRun}
 use Rattle.udu.specs.Promise.{answerOf, foundOf, uduOf as uduPromised}
 
@@ -84,6 +86,14 @@ choleskyRun rows = run crateRule 0 (length rows) (matrixOf rows)
 
 unfoldable pub choleskyOf : Rows → List ℕ
 choleskyOf rows = answered (choleskyRun rows .answer) ++ lowerBits (choleskyRun rows .cells) (length rows)
+
+-- one right-hand side by the factor, what a refused one left included
+unfoldable pub choleskySolutionOf : Rows → List ℕ → List ℕ
+choleskySolutionOf rows b = bitsOf (solveTriangles (length rows) (choleskyRun rows .cells) (floats b))
+
+-- what the solve answers, by room, order, columns, and the lengths of factor and right-hand sides
+unfoldable pub choleskySolveAnswered : ℕ → ℕ → ℕ → ℕ → ℕ → List ℕ
+choleskySolveAnswered room n columns factor sides = answered (trianglesAnswer room n columns factor sides)
 
 -- the upper part, by symmetry
 unfoldable pub upperOf : Rows → Matrix

@@ -1,7 +1,7 @@
--- The starred cases: what the definitions give, beside what they must give.
+-- Document 01's starred cases, and those of Cholesky's solve: what the definitions give, beside what they must give.
 use mathlib.Core.List.{List, [], _∷_}
 use Prim.Native.Nat.{ℕ}
-use Rattle.cases.specs.Read.{recordOf, factorOf, determinantBits, solveAnswered, solutionOf, imaxOf, choleskyOf, uduGives, rootBits}
+use Rattle.cases.specs.Read.{recordOf, factorOf, determinantBits, solveAnswered, solutionOf, imaxOf, choleskyOf, choleskySolutionOf, choleskySolveAnswered, uduGives, rootBits}
 
 pub record Case : Type 0 where
   pub gives : List ℕ
@@ -46,8 +46,20 @@ four = 0x4010_0000_0000_0000
 abbrev pub five : ℕ
 five = 0x4014_0000_0000_0000
 
+abbrev pub eight : ℕ
+eight = 0x4020_0000_0000_0000
+
+abbrev pub eleven : ℕ
+eleven = 0x4026_0000_0000_0000
+
 abbrev pub fortyNine : ℕ
 fortyNine = 0x4048_8000_0000_0000
+
+abbrev pub infinity : ℕ
+infinity = 0x7ff0_0000_0000_0000
+
+abbrev pub minusInfinity : ℕ
+minusInfinity = 0xfff0_0000_0000_0000
 
 abbrev pub nan : ℕ
 nan = 0x7ff8_0000_0000_0000
@@ -84,8 +96,19 @@ table =
     ∷ (recordOf ((zero ∷ []) ∷ (tiny ∷ zero ∷ []) ∷ (zero ∷ huge ∷ zero ∷ []) ∷ []) ⇒ 0 ∷ 1 ∷ 1 ∷ 1 ∷ 2 ∷ 1 ∷ 3 ∷ [])
     -- Cholesky [4 / 2 5]: [2 / 1 2]
     ∷ (choleskyOf ((four ∷ []) ∷ (two ∷ five ∷ []) ∷ []) ⇒ 0 ∷ 0 ∷ two ∷ one ∷ two ∷ [])
-    -- Cholesky [1 / 1 1]: code 7 at 1, leaving 0 at (1,1)
+    -- the same, by the factor: (8, 11) solves to (1.125, 1.75)
+    ∷ (choleskySolutionOf ((four ∷ []) ∷ (two ∷ five ∷ []) ∷ []) (eight ∷ eleven ∷ []) ⇒ 0x3ff2_0000_0000_0000 ∷ 0x3ffc_0000_0000_0000 ∷ [])
+    -- Cholesky [1 / 1 1]: code 7 at 1, leaving 0 at (1,1); by what is left, (1, 2) solves to (−∞, ∞)
     ∷ (choleskyOf ((one ∷ []) ∷ (one ∷ one ∷ []) ∷ []) ⇒ 7 ∷ 1 ∷ one ∷ one ∷ zero ∷ [])
+    ∷ (choleskySolutionOf ((one ∷ []) ∷ (one ∷ one ∷ []) ∷ []) (one ∷ two ∷ []) ⇒ minusInfinity ∷ infinity ∷ [])
+    -- the solve's refusals in their order, each call with the later faults too; order 0 and no columns are done
+    ∷ (choleskySolveAnswered 2 3 1025 5 7 ⇒ 1 ∷ 0 ∷ [])
+    ∷ (choleskySolveAnswered 2 3 2 5 7 ⇒ 2 ∷ 0 ∷ [])
+    ∷ (choleskySolveAnswered 3 2 2 5 7 ⇒ 3 ∷ 0 ∷ [])
+    ∷ (choleskySolveAnswered 3 2 2 9 7 ⇒ 4 ∷ 0 ∷ [])
+    ∷ (choleskySolveAnswered 3 2 2 9 4 ⇒ 0 ∷ 0 ∷ [])
+    ∷ (choleskySolveAnswered 0 0 1024 0 0 ⇒ 0 ∷ 0 ∷ [])
+    ∷ (choleskySolveAnswered 1024 1024 0 1048576 0 ⇒ 0 ∷ 0 ∷ [])
     -- Cholesky [−0]: code 7 at 0
     ∷ (choleskyOf ((minusZero ∷ []) ∷ []) ⇒ 7 ∷ 0 ∷ minusZero ∷ [])
     -- UDU [49]: u is below 1
