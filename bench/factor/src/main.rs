@@ -1,9 +1,11 @@
 //! factor [--seconds S] [--only WORD] [--orders N,N,..]: how many times the text's time the port takes less, for each call and order.
+//! What the text does not have is measured against what its line names.
 //!
 //! Both run in turn on the same matrices, many to a turn at small orders; the ratio is that of the two medians. A ratio above 1 says that the
 //! port is faster. Copies of the given matrices are made before the clock starts. What the text allocates for its result is part of its time.
 
 mod measure;
+mod plain;
 mod work;
 
 use std::process::ExitCode;
@@ -49,7 +51,7 @@ fn options() -> Option<Options> {
 }
 
 fn run(options: &Options) {
-    println!("text's time / port's time, medians of turns taken one after the other (microseconds: text, port; turns)");
+    println!("text's time / port's time, medians of turns taken one after the other (microseconds: text, or what the line names, and port; turns)");
     for work in WORKS.iter().filter(|w| w.name.contains(&options.only)) {
         println!("{}", work.name);
         for &n in &options.orders {

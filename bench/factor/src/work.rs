@@ -12,18 +12,23 @@ use oracle::{Dyn, OMatrix};
 use port::Port;
 
 use crate::measure::{Pair, pair, timed, timed_in_place};
+use crate::plain;
 
 pub struct Work {
     pub name: &'static str,
     pub measure: fn(n: usize, seconds: f64) -> Pair,
 }
 
-pub const WORKS: [Work; 8] = [
+pub const WORKS: [Work; 12] = [
     Work { name: "cholesky factor", measure: cholesky },
     Work { name: "lblt factor, random symmetric", measure: |n, s| lblt(n, s, 0.0) },
     Work { name: "lblt factor, heavy diagonal", measure: |n, s| lblt(n, s, n as f64) },
     Work { name: "lblt solve, 1 column", measure: |n, s| solve(n, s, 1) },
     Work { name: "lblt solve, 64 columns", measure: |n, s| solve(n, s, 64) },
+    Work { name: "cholesky solve, 1 column, against plain Rust", measure: |n, s| cholesky_solve(n, s, 1) },
+    Work { name: "cholesky solve, 64 columns, against plain Rust", measure: |n, s| cholesky_solve(n, s, 64) },
+    Work { name: "cholesky solve, 1 column, against the port's lblt solve", measure: |n, s| beside_lblt(n, s, 1) },
+    Work { name: "cholesky solve, 64 columns, against the port's lblt solve", measure: |n, s| beside_lblt(n, s, 64) },
     Work { name: "lblt l_permuted", measure: l_permuted },
     Work { name: "lblt l_permuted, heavy diagonal", measure: l_permuted_heavy },
     Work { name: "udu factor", measure: udu },
@@ -81,10 +86,14 @@ fn factored(n: usize, on_diagonal: f64) -> (LBLT<f64, Dyn>, Vec<f64>, Vec<u32>) 
     (text, a, record)
 }
 
+fn sides(n: usize, columns: usize) -> Vec<f64> {
+    let r = &mut Rng::new(columns as u64);
+    (0..n * columns).map(|_| r.unit()).collect()
+}
+
 fn solve(n: usize, seconds: f64, columns: usize) -> Pair {
     let (text, a, record) = factored(n, 0.0);
-    let r = &mut Rng::new(columns as u64);
-    let b: Vec<f64> = (0..n * columns).map(|_| r.unit()).collect();
+    let b = sides(n, columns);
     pair(
         seconds,
         &mut |many| {
@@ -97,6 +106,45 @@ fn solve(n: usize, seconds: f64, columns: usize) -> Pair {
                 black_box(Port.lblt_solve(&a, &record, b, n, columns));
             })
         },
+    )
+}
+
+/// The Cholesky factor of a symmetric matrix with a heavy diagonal.
+fn cholesky_factored(n: usize) -> Vec<f64> {
+    let mut a = symmetric(n, n as f64);
+    assert_eq!(Port.cholesky_factor(&mut a, n, n), 0);
+    a
+}
+
+fn cholesky_solve(n: usize, seconds: f64, columns: usize) -> Pair {
+    let a = cholesky_factored(n);
+    let b = sides(n, columns);
+    let (mut plain, mut port) = (b.clone(), b.clone());
+    plain::cholesky_solve(&a, &mut plain, n, n, columns);
+    assert_eq!(Port.cholesky_solve(&a, &mut port, n, n, columns), 0);
+    assert_eq!(plain, port);
+    pair(
+        seconds,
+        &mut |many| timed_in_place(copies(&b, many), |b| plain::cholesky_solve(black_box(&a), b, n, n, columns)),
+        &mut |many| timed_in_place(copies(&b, many), |b| {
+            black_box(Port.cholesky_solve(&a, b, n, n, columns));
+        }),
+    )
+}
+
+/// Both solves of one matrix, each by its own factor.
+fn beside_lblt(n: usize, seconds: f64, columns: usize) -> Pair {
+    let (_, lblt, record) = factored(n, n as f64);
+    let a = cholesky_factored(n);
+    let b = sides(n, columns);
+    pair(
+        seconds,
+        &mut |many| timed_in_place(copies(&b, many), |b| {
+            black_box(Port.lblt_solve(&lblt, &record, b, n, columns));
+        }),
+        &mut |many| timed_in_place(copies(&b, many), |b| {
+            black_box(Port.cholesky_solve(&a, b, n, n, columns));
+        }),
     )
 }
 

@@ -35,7 +35,7 @@ fn lower_two(y: Layout, a: &[f64], b: &mut [f64], k: usize)
     eliminate_two(y, a, b, k);
 }
 
-pub fn solve_lower(y: Layout, a: &[f64], b: &mut [f64])
+fn solve_lower(y: Layout, a: &[f64], b: &mut [f64])
     requires { ⌜ Sides y (now a) (now b) ⌝ }
     ensures { λ _. ⌜ now (b .exit) ≡ solveLower (y .order) (load (lower y) (now (a .entry))) (now (b .entry)) ⌝ }
 {
@@ -66,7 +66,7 @@ fn transposed_row(y: Layout, a: &[f64], b: &mut [f64], i: usize, last: f64) -> f
     x
 }
 
-pub fn solve_transposed(y: Layout, a: &[f64], b: &mut [f64])
+fn solve_transposed(y: Layout, a: &[f64], b: &mut [f64])
     requires { ⌜ Sides y (now a) (now b) ⌝ }
     ensures { λ _. ⌜ now (b .exit) ≡ solveTransposed (y .order) (load (lower y) (now (a .entry))) (now (b .entry)) ⌝ }
 {
