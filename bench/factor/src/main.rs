@@ -51,7 +51,9 @@ fn options() -> Option<Options> {
 }
 
 fn run(options: &Options) {
-    println!("text's time / port's time, medians of turns taken one after the other (microseconds: text, or what the line names, and port; turns)");
+    println!(
+        "text's time / port's time, medians of turns taken one after the other (microseconds: text, or what the line names, and port; turns)"
+    );
     for work in WORKS.iter().filter(|w| w.name.contains(&options.only)) {
         println!("{}", work.name);
         for &n in &options.orders {

@@ -123,13 +123,11 @@ fn cholesky_solve(n: usize, seconds: f64, columns: usize) -> Pair {
     plain::cholesky_solve(&a, &mut plain, n, n, columns);
     assert_eq!(Port.cholesky_solve(&a, &mut port, n, n, columns), 0);
     assert_eq!(plain, port);
-    pair(
-        seconds,
-        &mut |many| timed_in_place(copies(&b, many), |b| plain::cholesky_solve(black_box(&a), b, n, n, columns)),
-        &mut |many| timed_in_place(copies(&b, many), |b| {
+    pair(seconds, &mut |many| timed_in_place(copies(&b, many), |b| plain::cholesky_solve(black_box(&a), b, n, n, columns)), &mut |many| {
+        timed_in_place(copies(&b, many), |b| {
             black_box(Port.cholesky_solve(&a, b, n, n, columns));
-        }),
-    )
+        })
+    })
 }
 
 /// Both solves of one matrix, each by its own factor.
@@ -139,12 +137,16 @@ fn beside_lblt(n: usize, seconds: f64, columns: usize) -> Pair {
     let b = sides(n, columns);
     pair(
         seconds,
-        &mut |many| timed_in_place(copies(&b, many), |b| {
-            black_box(Port.lblt_solve(&lblt, &record, b, n, columns));
-        }),
-        &mut |many| timed_in_place(copies(&b, many), |b| {
-            black_box(Port.cholesky_solve(&a, b, n, n, columns));
-        }),
+        &mut |many| {
+            timed_in_place(copies(&b, many), |b| {
+                black_box(Port.lblt_solve(&lblt, &record, b, n, columns));
+            })
+        },
+        &mut |many| {
+            timed_in_place(copies(&b, many), |b| {
+                black_box(Port.cholesky_solve(&a, b, n, n, columns));
+            })
+        },
     )
 }
 
