@@ -1,4 +1,4 @@
-//! Solves a system by LBLT, and grows a Cholesky by batches of which one came twice: `cargo run --example solve`.
+//! Solves a system by LBLT, and another by a Cholesky that grows by batches, of which one came twice: `cargo run --example solve`.
 
 use urgyelpat::{first_twin, BatchRefusal, Cholesky, LBLT};
 
@@ -24,5 +24,6 @@ fn main() -> Result<(), BatchRefusal> {
         }
     }
     println!("{} rows stand, l = {:?}", batches.order(), batches.l());
+    println!("x = {:.3?}", batches.solve(&[14.0, 11.0, 34.0])?);
     Ok(())
 }
