@@ -27,6 +27,8 @@ typedef enum {
     LBLT_L_PERMUTED,
     CHOLESKY_FACTOR,
     CHOLESKY_EXTEND,
+    CHOLESKY_SOLVE_ONE,
+    CHOLESKY_SOLVE_MANY,
     CHOLESKY_L,
     CHOLESKY_UNPACK,
     CHOLESKY_DETERMINANT,
@@ -47,6 +49,8 @@ static const char *const names[CALLS] = {
     "lblt_l_permuted",
     "cholesky_factor",
     "cholesky_extend, the second half",
+    "cholesky_solve, 1 column",
+    "cholesky_solve, 67 columns",
     "cholesky_l",
     "cholesky_unpack",
     "cholesky_determinant",
@@ -123,6 +127,8 @@ static void prepare(which call, size_t n)
         fill_random(n, (double)n);
         answer = urgyelpat_cholesky_factor(a, n * n, n, n / 2);
         break;
+    case CHOLESKY_SOLVE_ONE:
+    case CHOLESKY_SOLVE_MANY:
     case CHOLESKY_L:
     case CHOLESKY_UNPACK:
     case CHOLESKY_DETERMINANT:
@@ -181,6 +187,12 @@ __attribute__((noinline)) static uint64_t called(which call, size_t n)
         break;
     case CHOLESKY_EXTEND:
         answer = urgyelpat_cholesky_extend(a, n * n, n, n / 2, n);
+        break;
+    case CHOLESKY_SOLVE_ONE:
+        answer = urgyelpat_cholesky_solve(a, n * n, b, n, n, n, 1);
+        break;
+    case CHOLESKY_SOLVE_MANY:
+        answer = urgyelpat_cholesky_solve(a, n * n, b, n * MANY, n, n, MANY);
         break;
     case CHOLESKY_L:
         answer = urgyelpat_cholesky_l(a, n * n, b, n * n, n, n);

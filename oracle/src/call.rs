@@ -1,4 +1,5 @@
-//! The calls as document 01 and the C convention give them, the two calls for rows that came twice, and a case: one call with what it is lent.
+//! The calls as documents 01 and 02 and the C convention give them, the two calls for rows that came twice, and a case: one call with what it is
+//! lent.
 
 /// An implementation of the calls. An answer is code·4,096 + place, and for a pair of twin rows p < q (4,096 + q)·4,096 + p.
 pub trait Calls {
@@ -9,6 +10,7 @@ pub trait Calls {
     fn lblt_l_permuted(&self, a: &[f64], record: &[u32], l: &mut [f64], n: usize) -> u64;
     fn cholesky_factor(&self, a: &mut [f64], room: usize, n: usize) -> u64;
     fn cholesky_extend(&self, a: &mut [f64], room: usize, earlier: usize, n: usize) -> u64;
+    fn cholesky_solve(&self, a: &[f64], b: &mut [f64], room: usize, n: usize, columns: usize) -> u64;
     fn cholesky_l(&self, a: &[f64], l: &mut [f64], room: usize, n: usize) -> u64;
     fn cholesky_unpack(&self, a: &mut [f64], room: usize, n: usize) -> u64;
     fn cholesky_determinant(&self, a: &[f64], room: usize, n: usize) -> (u64, f64);
@@ -26,6 +28,7 @@ pub enum Call {
     LbltLPermuted,
     CholeskyFactor,
     CholeskyExtend,
+    CholeskySolve,
     CholeskyL,
     CholeskyUnpack,
     CholeskyDeterminant,
@@ -51,9 +54,9 @@ pub struct Form {
 #[derive(Clone, Copy, Debug, PartialEq, Eq)]
 pub enum Number {
     N,
-    /// Columns, or room.
+    /// The columns of `lblt_solve`, or room.
     X,
-    /// Earlier order.
+    /// Earlier order, or the columns of `cholesky_solve`.
     Y,
 }
 
@@ -69,7 +72,7 @@ use Number::{N, X, Y};
 use Slice::{A, B, C, Record};
 
 #[rustfmt::skip]
-pub const FORMS: [Form; 13] = [
+pub const FORMS: [Form; 14] = [
     Form { call: LbltFactor, name: "lblt_factor", number: 1, numbers: &[N], slices: &[A, Record], valued: false },
     Form { call: LbltSolve, name: "lblt_solve", number: 2, numbers: &[N, X], slices: &[A, Record, B], valued: false },
     Form { call: LbltDeterminant, name: "lblt_determinant", number: 3, numbers: &[N], slices: &[A, Record], valued: true },
@@ -83,6 +86,7 @@ pub const FORMS: [Form; 13] = [
     Form { call: UduFactor, name: "udu_factor", number: 11, numbers: &[N], slices: &[A, B, C], valued: false },
     Form { call: FirstTwinSince, name: "first_twin_since", number: 12, numbers: &[X, Y, N], slices: &[A], valued: false },
     Form { call: FirstTwin, name: "first_twin", number: 13, numbers: &[X, N], slices: &[A], valued: false },
+    Form { call: CholeskySolve, name: "cholesky_solve", number: 14, numbers: &[X, N, Y], slices: &[A, B], valued: false },
 ];
 
 impl Call {
@@ -90,9 +94,9 @@ impl Call {
         FORMS.iter().find(|f| f.call == self).expect("every call has a form")
     }
 
-    /// The text has nothing like it: the steps stand in for the text.
+    /// The text does not have it, or not what it rests on: the steps stand in for the text.
     pub fn by_steps_alone(self) -> bool {
-        matches!(self, FirstTwinSince | FirstTwin)
+        matches!(self, CholeskySolve | FirstTwinSince | FirstTwin)
     }
 }
 
@@ -104,7 +108,7 @@ pub struct Case {
     pub n: usize,
     /// `lblt_solve`: columns; Cholesky and twin rows: room.
     pub x: usize,
-    /// `cholesky_extend`, `first_twin_since`: earlier order.
+    /// `cholesky_extend`, `first_twin_since`: earlier order; `cholesky_solve`: columns.
     pub y: usize,
     /// The first matrix.
     pub a: Vec<f64>,
@@ -153,6 +157,7 @@ impl Case {
             LbltLPermuted => (calls.lblt_l_permuted(a, record, b, n), None),
             CholeskyFactor => (calls.cholesky_factor(a, x, n), None),
             CholeskyExtend => (calls.cholesky_extend(a, x, y, n), None),
+            CholeskySolve => (calls.cholesky_solve(a, b, x, n, y), None),
             CholeskyL => (calls.cholesky_l(a, b, x, n), None),
             CholeskyUnpack => (calls.cholesky_unpack(a, x, n), None),
             CholeskyDeterminant => with_value(calls.cholesky_determinant(a, x, n)),

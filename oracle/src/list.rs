@@ -311,10 +311,15 @@ impl<'a> Machine<'a> {
                 self.set(Slice::C, &filled[..2]);
                 self.swept(h, 11, [0, 0], &[Slice::B, Slice::C])
             }
-            _ => {
+            4 => {
                 self.set(Slice::A, &lower);
                 h = self.swept(h, 12, [2, 1], &[]);
                 self.swept(h, 13, [2, 0], &[])
+            }
+            _ => {
+                self.set(Slice::A, &lower);
+                self.set(Slice::B, &[x, y, z].repeat(4));
+                self.swept(h, 14, [2, 6], &[Slice::B])
             }
         }
     }

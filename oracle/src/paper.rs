@@ -1,7 +1,8 @@
 //! The calls, written from document 01's steps and without the text: a matrix is read and written by `a[(i, j)]`, the loops run entry by entry.
+//! Cholesky's solve is written from document 02's steps.
 //! The calls for rows that came twice are written from what twin rows are: all pairs are compared, one after the other.
 
-// sums and quotients stand as document 01 writes them
+// sums and quotients stand as the documents write them
 #![allow(clippy::assign_op_pattern)]
 
 use std::ops::{Index, IndexMut};
@@ -281,6 +282,23 @@ fn solve_column(a: &[f64], record: &Record, b: &mut [f64]) {
     }
 }
 
+/// Document 02: one right-hand side by the factor l.
+fn solve_triangles(l: impl Fn(usize, usize) -> f64, b: &mut [f64]) {
+    let n = b.len();
+    for i in 0..n {
+        b[i] = b[i] / l(i, i);
+        for r in i + 1..n {
+            b[r] = b[r] + (-b[i]) * l(r, i);
+        }
+    }
+    for i in (0..n).rev() {
+        for r in i + 1..n {
+            b[i] = b[i] - l(r, i) * b[r];
+        }
+        b[i] = b[i] / l(i, i);
+    }
+}
+
 impl Calls for Paper {
     fn lblt_factor(&self, a: &mut [f64], record: &mut [u32], n: usize) -> u64 {
         if n > 1024 {
@@ -403,6 +421,23 @@ impl Calls for Paper {
         }
         let mut a = Lent { cells: a, room };
         (0..n).find(|&j| a.cholesky_column(n, earlier, j).is_none()).map_or(0, |j| code(7, j))
+    }
+
+    fn cholesky_solve(&self, a: &[f64], b: &mut [f64], room: usize, n: usize, columns: usize) -> u64 {
+        if columns > 1024 {
+            return code(1, 0);
+        }
+        let refused = in_room(a, room, 0, n);
+        if refused != 0 {
+            return refused;
+        }
+        if b.len() != n * columns {
+            return code(4, 0);
+        }
+        for j in 0..columns {
+            solve_triangles(|i, k| a[i + k * room], &mut b[j * n..(j + 1) * n]);
+        }
+        0
     }
 
     fn cholesky_l(&self, a: &[f64], l: &mut [f64], room: usize, n: usize) -> u64 {

@@ -2,7 +2,8 @@
 //!
 //! The text itself answers `LBLT::new`, `solve_mut`, `determinant`, `d`, `l_permuted`, `Cholesky::new`, `l`, `unpack`, `determinant` and
 //! `UDU::new`. What follows document 01 because the text says nothing of it is marked "document 01": the checks before a call, the room, the
-//! further batch, and what stays in the buffers after a refusal. The text has no call for rows that came twice: the steps answer it here too.
+//! further batch, and what stays in the buffers after a refusal. The text has no call for rows that came twice, and its Cholesky solve rests on
+//! triangular solves that it does not contain: the steps answer these calls here too.
 
 use crate::call::Calls;
 use crate::linalg::cholesky::Cholesky;
@@ -220,6 +221,10 @@ impl Calls for Text {
             }
         }
         DONE
+    }
+
+    fn cholesky_solve(&self, a: &[f64], b: &mut [f64], room: usize, n: usize, columns: usize) -> u64 {
+        Paper.cholesky_solve(a, b, room, n, columns)
     }
 
     fn cholesky_l(&self, a: &[f64], l: &mut [f64], room: usize, n: usize) -> u64 {

@@ -1,6 +1,6 @@
-//! Document 01's cases, answered by the text and by document 01's steps; rows that came twice, by the steps.
+//! Document 01's cases, answered by the text and by document 01's steps; Cholesky's solve and rows that came twice, by the steps.
 
-use oracle::call::{Calls, word};
+use oracle::call::{Calls, word, words};
 use oracle::cases::fill;
 use oracle::paper::Paper;
 use oracle::text::Text;
@@ -90,6 +90,49 @@ fn cholesky() {
         }
         assert_eq!(calls.cholesky_determinant(&[], 0, 0), (0, 1.0));
     }
+}
+
+#[test]
+fn cholesky_solve() {
+    let solved = |n: usize, rows: &[f64], b: &[f64]| {
+        let mut b = b.to_vec();
+        assert_eq!(Paper.cholesky_solve(&matrix(n, rows), &mut b, n, n, 1), 0);
+        b
+    };
+    assert_eq!(solved(2, &[2.0, 1.0, 2.0], &[8.0, 9.0]), [1.375, 1.25]);
+    // row 0 in the back pass: 2^60 less 1, and then less 2^60
+    let two_to = |e: i32| 2.0f64.powi(e);
+    let rows = [1.0, two_to(-30), 1.0, 1.0, 0.0, 1.0];
+    assert_eq!(solved(3, &rows, &[two_to(60), two_to(31), two_to(61)]), [0.0, two_to(30), two_to(60)]);
+    // row 2 in the forward pass: 1 less 2^60, and then plus 2^60
+    assert_eq!(solved(3, &[1.0, 0.0, 1.0, two_to(60), two_to(60), 1.0], &[1.0, -1.0, 1.0]), [1.0, -1.0, 0.0]);
+    // one product after the other is taken off, not their sum, which would leave 0.82
+    assert_eq!(solved(3, &[1.0, 0.1, 1.0, 0.1, 0.0, 1.0], &[1.0; 3]), [0.8200000000000001, 0.9, 0.9]);
+    // no number is refused
+    assert_eq!(solved(1, &[-0.0], &[1.0]), [f64::INFINITY]);
+    assert!(solved(1, &[0.0], &[0.0])[0].is_nan());
+    assert_eq!(words(&solved(2, &[1.0, 0.0, 1.0], &[-0.0, -1.0])), words(&[0.0, -1.0]));
+    // neither above the diagonal nor outside the first n rows is anything read; each column is solved by itself
+    let mut a = vec![f64::NAN; 9];
+    for (at, x) in [(0, 2.0), (1, 1.0), (4, 2.0)] {
+        a[at] = x;
+    }
+    let mut b = [8.0, 9.0, f64::NAN, 0.0, -8.0, -9.0];
+    assert_eq!(Paper.cholesky_solve(&a, &mut b, 3, 2, 3), 0);
+    assert_eq!((&b[..2], &b[4..]), (&[1.375, 1.25][..], &[-1.375, -1.25][..]));
+    // order 0, and no columns
+    assert_eq!([Paper.cholesky_solve(&[], &mut [], 0, 0, 1024), Paper.cholesky_solve(&[1.0], &mut [], 1, 1, 0)], [0; 2]);
+    let refused = |room: usize, n: usize, columns: usize, lens: [usize; 2]| {
+        let mut b = vec![3.0; lens[1]];
+        let answer = Paper.cholesky_solve(&vec![2.0; lens[0]], &mut b, room, n, columns);
+        assert_eq!(b, vec![3.0; lens[1]]);
+        assert_eq!(answer % 4096, 0);
+        answer / 4096
+    };
+    assert_eq!([refused(1025, 0, 0, [0, 0]), refused(0, 1025, 0, [0, 0]), refused(0, 1, 1025, [0, 0])], [1; 3]);
+    assert_eq!(refused(1, 2, 1, [0, 0]), 2);
+    assert_eq!([refused(2, 1, 1, [3, 0]), refused(1024, 1024, 1024, [0, 0])], [3; 2]);
+    assert_eq!([refused(2, 1, 2, [4, 1]), refused(2, 1, 2, [4, 3])], [4; 2]);
 }
 
 #[test]

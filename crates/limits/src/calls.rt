@@ -52,6 +52,12 @@ pub fn cholesky_extend(room: usize, earlier: usize, n: usize) -> u64 {
     code(cholesky::extend(&mut a, room, earlier, n))
 }
 
+pub fn cholesky_solve(room: usize, n: usize, columns: usize) -> u64 {
+    let a = [2.0];
+    let mut b = [1.0; 1024];
+    code(cholesky::solve_mut(&a, &mut b, room, n, columns))
+}
+
 pub fn cholesky_l(room: usize, n: usize) -> u64 {
     let a = [2.0];
     let mut l = [0.0];

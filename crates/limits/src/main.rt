@@ -69,6 +69,21 @@ fn cholesky() {
         calls::cholesky_extend(1024, 1025, 1024),
     );
     line(
+        b"cholesky_solve, room",
+        calls::cholesky_solve(1024, 0, 1),
+        calls::cholesky_solve(1025, 0, 1),
+    );
+    line(
+        b"cholesky_solve, order",
+        calls::cholesky_solve(1024, 1024, 1),
+        calls::cholesky_solve(1024, 1025, 1),
+    );
+    line(
+        b"cholesky_solve, columns",
+        calls::cholesky_solve(1, 1, 1024),
+        calls::cholesky_solve(1, 1, 1025),
+    );
+    line(
         b"cholesky_l, room",
         calls::cholesky_l(1024, 0),
         calls::cholesky_l(1025, 0),

@@ -55,7 +55,7 @@ pub fn call(
 ) -> Outcome {
     match which {
         1..=5 => of_lblt(which, n, x, part(a, s.a), part(b, s.b), part_words(r, s.r)),
-        6..=10 => of_cholesky(which, n, x, y, part(a, s.a), part(b, s.b)),
+        6..=10 | 14 => of_cholesky(which, n, x, y, part(a, s.a), part(b, s.b)),
         11 => of_udu(n, part(a, s.a), part(b, s.b), part(c, s.c)),
         12 | 13 => of_twins(which, n, x, y, part(a, s.a)),
         _ => no_call(),
@@ -79,20 +79,22 @@ fn of_lblt(
     }
 }
 
+// y is the earlier order, or the columns.
 fn of_cholesky(
     which: u64,
     n: usize,
     room: usize,
-    earlier: usize,
+    y: usize,
     a: &mut [f64],
     b: &mut [f64],
 ) -> Outcome {
     match which {
         6 => plain(cholesky::factor(a, room, n)),
-        7 => plain(cholesky::extend(a, room, earlier, n)),
+        7 => plain(cholesky::extend(a, room, y, n)),
         8 => plain(cholesky::l(a, b, room, n)),
         9 => plain(cholesky::unpack(a, room, n)),
-        _ => valued(cholesky::determinant(a, room, n)),
+        10 => valued(cholesky::determinant(a, room, n)),
+        _ => plain(cholesky::solve_mut(a, b, room, n, y)),
     }
 }
 

@@ -1,4 +1,5 @@
 // SWEEP: all triples of special words at order 2, a digest for each first word.
+ghost use Prim.Native.Nat.{_<_};
 use crate::calls::Outcome;
 use crate::calls::call;
 use crate::list::DIGEST_START;
@@ -134,10 +135,13 @@ fn call_of(library: u64, k: usize) -> u64 {
     if library == 4 {
         return CALLS_OF_TWINS[k % 5];
     }
-    if k == 0 {
+    if 0 < k {
+        return 0;
+    }
+    if library == 3 {
         return 11;
     }
-    0
+    14
 }
 
 // A call at order 2, after what stands before it.
@@ -172,7 +176,7 @@ fn given(
 ) -> State {
     let mut s = s;
     s.a = given_a(s.a, which, x, y, z, a);
-    s.b = given_b(s.b, which, y, z, b);
+    s.b = given_b(s.b, which, x, y, z, b);
     s.c = given_c(s.c, which, c);
     s.r = given_r(s.r, which, r);
     s
@@ -180,16 +184,17 @@ fn given(
 
 fn given_a(held: usize, which: u64, x: u64, y: u64, z: u64, a: &mut [f64]) -> usize {
     match which {
-        1 | 6 | 7 | 12 => four(a, x, y, FILLED + 2, z),
+        1 | 6 | 7 | 12 | 14 => four(a, x, y, FILLED + 2, z),
         11 => four(a, x, FILLED + 1, y, z),
         _ => held,
     }
 }
 
-fn given_b(held: usize, which: u64, y: u64, z: u64, b: &mut [f64]) -> usize {
+fn given_b(held: usize, which: u64, x: u64, y: u64, z: u64, b: &mut [f64]) -> usize {
     match which {
         2 => two(b, y, z),
         4 | 5 | 8 | 11 => four(b, FILLED, FILLED + 1, FILLED + 2, FILLED + 3),
+        14 => four_times(b, x, y, z),
         _ => held,
     }
 }
@@ -222,6 +227,23 @@ fn two(x: &mut [f64], p: u64, q: u64) -> usize {
     2
 }
 
+// Three words, four times over.
+fn four_times(x: &mut [f64], p: u64, q: u64, t: u64) -> usize {
+    three(x, 0, p, q, t);
+    three(x, 3, p, q, t);
+    three(x, 6, p, q, t);
+    three(x, 9, p, q, t);
+    12
+}
+
+fn three(x: &mut [f64], at: usize, p: u64, q: u64, t: u64)
+    requires { ⌜ at < 10 ⌝ }
+{
+    put_bits(x, at, p);
+    put_bits(x, at + 1, q);
+    put_bits(x, at + 2, t);
+}
+
 fn nines(x: &mut [u32]) -> usize {
     put_word(x, 0, 9);
     put_word(x, 1, 9);
@@ -239,7 +261,7 @@ fn called(
     c: &mut [f64],
     r: &mut [u32],
 ) -> State {
-    let found = call(s, which, 2, argument(which), 1, a, b, c, r);
+    let found = call(s, which, 2, argument(which), further(which), a, b, c, r);
     left(answered(s, found), which, a, b, c, r)
 }
 
@@ -258,13 +280,21 @@ fn argument(which: u64) -> usize {
     2
 }
 
+// Six columns, or an earlier order of 1.
+fn further(which: u64) -> usize {
+    if which == 14 {
+        return 6;
+    }
+    1
+}
+
 // The registers that a call may write go into the digest.
 fn left(s: State, which: u64, a: &[f64], b: &[f64], c: &[f64], r: &[u32]) -> State {
     match which {
         1 => digested(digested(s, A, a, b, c, r), R, a, b, c, r),
         11 => digested(digested(s, B, a, b, c, r), C, a, b, c, r),
         6 | 7 | 9 => digested(s, A, a, b, c, r),
-        2 | 4 | 5 | 8 => digested(s, B, a, b, c, r),
+        2 | 4 | 5 | 8 | 14 => digested(s, B, a, b, c, r),
         _ => s,
     }
 }

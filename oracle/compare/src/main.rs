@@ -1,6 +1,6 @@
 //! compare paper|port FIRST SEEDS: the text against document 01's steps, or against the port, on the cases that need no chance and on the
-//! families and twin rows of the seeds FIRST, FIRST + 1, .. Every word of every slice is compared, all NaNs being one. The calls that the
-//! steps alone answer are compared with the port.
+//! families, solves by Cholesky's factor and twin rows of the seeds FIRST, FIRST + 1, .. Every word of every slice is compared, all NaNs being
+//! one. The calls that the steps alone answer are compared with the port.
 
 use std::collections::BTreeMap;
 use std::process::ExitCode;
@@ -37,16 +37,20 @@ fn main() -> ExitCode {
     cases::refusals().iter().for_each(|case| tally.hold(case));
     println!("refusals and records: {} calls", tally.calls() - before);
     let before = tally.calls();
-    cases::largest().iter().chain(&cases::largest_twins()).for_each(|case| tally.hold(case));
+    cases::largest().iter().chain(&cases::largest_solves()).chain(&cases::largest_twins()).for_each(|case| tally.hold(case));
     println!("orders 1,024 and 1,025: {} calls", tally.calls() - before);
     let before = tally.calls();
     cases::many_columns().iter().for_each(|case| tally.hold(case));
     println!("solves of many columns: {} calls", tally.calls() - before);
     let before = tally.calls();
+    cases::solves_of_all_orders().iter().for_each(|case| tally.hold(case));
+    println!("solves by Cholesky's factor at all orders: {} calls", tally.calls() - before);
+    let before = tally.calls();
     for seed in first..first + seeds {
         let family = cases::family(seed);
         family.cases.iter().for_each(|case| tally.hold(case));
         family.chains.iter().for_each(|chain| tally.hold_chain(chain));
+        cases::solves(seed).iter().for_each(|case| tally.hold(case));
         cases::twins(seed).iter().for_each(|case| tally.hold(case));
     }
     println!("seeds {first} to {}: {} calls", (first + seeds).saturating_sub(1), tally.calls() - before);

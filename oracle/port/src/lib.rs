@@ -33,6 +33,7 @@ unsafe extern "C" {
     ) -> u64;
     fn urgyelpat_cholesky_factor(a: *mut f64, a_len: usize, room: usize, n: usize) -> u64;
     fn urgyelpat_cholesky_extend(a: *mut f64, a_len: usize, room: usize, earlier: usize, n: usize) -> u64;
+    fn urgyelpat_cholesky_solve(a: *const f64, a_len: usize, b: *mut f64, b_len: usize, room: usize, n: usize, columns: usize) -> u64;
     fn urgyelpat_cholesky_l(a: *const f64, a_len: usize, l: *mut f64, l_len: usize, room: usize, n: usize) -> u64;
     fn urgyelpat_cholesky_unpack(a: *mut f64, a_len: usize, room: usize, n: usize) -> u64;
     fn urgyelpat_cholesky_determinant(a: *const f64, a_len: usize, room: usize, n: usize) -> Determinant;
@@ -79,6 +80,11 @@ impl Calls for Port {
     #[inline]
     fn cholesky_extend(&self, a: &mut [f64], room: usize, earlier: usize, n: usize) -> u64 {
         unsafe { urgyelpat_cholesky_extend(a.as_mut_ptr(), a.len(), room, earlier, n) }
+    }
+
+    #[inline]
+    fn cholesky_solve(&self, a: &[f64], b: &mut [f64], room: usize, n: usize, columns: usize) -> u64 {
+        unsafe { urgyelpat_cholesky_solve(a.as_ptr(), a.len(), b.as_mut_ptr(), b.len(), room, n, columns) }
     }
 
     #[inline]

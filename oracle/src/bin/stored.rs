@@ -243,6 +243,114 @@ fn cholesky(w: &mut Writer) {
         }
     }
     w.sweep(2, &SPECIAL);
+    cholesky_solves(w);
+}
+
+/// Solves of the seeds from `seed` on with orders from `orders`, the shorter ones, until `words` more have been written.
+fn solve_families(w: &mut Writer, orders: std::ops::RangeInclusive<usize>, words: usize, seed: u64) {
+    let end = w.list.len() + words;
+    let mut seed = seed;
+    while w.list.len() < end {
+        let cases: Vec<Case> = cases::solves(seed).into_iter().filter(|case| case.b.len() <= 60).collect();
+        if cases.last().is_some_and(|last| orders.contains(&last.n)) {
+            emit_all(w, &cases);
+        }
+        seed += 1;
+    }
+}
+
+/// A solve of this many columns by what register A holds.
+fn solve(w: &mut Writer, n: usize, room: usize, columns: usize) {
+    w.random(Slice::B, n * columns, 1 + columns as u64);
+    w.call(Call::CholeskySolve, n, room, columns);
+}
+
+fn cholesky_solves(w: &mut Writer) {
+    let power = |e: i64| f64::from_bits(((1023 + e) as u64) << 52);
+    let first: [(usize, &[f64], &[f64]); 11] = [
+        (0, &[], &[]),
+        (1, &[2.0], &[3.0]),
+        (2, &[2.0, 1.0, 2.0], &[8.0, 9.0, -8.0, -9.0, 0.0, -0.0, 1.0, 0.0, 0.0, 1.0]),
+        (2, &[0.0, 0.0, -0.0], &[0.0, -0.0, 1.0, -1.0]),
+        (2, &[1.0, f64::INFINITY, 1.0], &[0.0, 1.0, 1.0, 0.0]),
+        (2, &[1.0, 0.0, f64::NAN], &[1.0, 2.0]),
+        (2, &[power(-600), power(600), 1.0], &[1.0, 1.0, power(-600), 0.0]),
+        // row 0 in the back pass: 2^60 less 1, and then less 2^60
+        (3, &[1.0, power(-30), 1.0, 1.0, 0.0, 1.0], &[power(60), power(31), power(61)]),
+        // row 2 in the forward pass: 1 less 2^60, and then plus 2^60
+        (3, &[1.0, 0.0, 1.0, power(60), power(60), 1.0], &[1.0, -1.0, 1.0]),
+        // one product after the other is taken off, not their sum
+        (3, &[1.0, 0.1, 1.0, 0.1, 0.0, 1.0], &[1.0, 1.0, 1.0]),
+        (2, &[1.0, 0.0, 1.0], &[-0.0, -1.0]),
+    ];
+    for (n, lower, b) in first {
+        let columns = if n == 0 { 3 } else { b.len() / n };
+        emit_all(w, [&Case { x: n, y: columns, b: b.to_vec(), ..Case::new(Call::CholeskySolve, n, matrix(n, lower)) }]);
+    }
+    refusals(w, &[Call::CholeskySolve]);
+    // each count by itself at the most, above it, and not that of what is lent; then two at a time, so that the order of the checks shows
+    w.case();
+    w.set(Slice::A, &[ONE]);
+    w.set(Slice::B, &[ONE]);
+    for (n, room, columns) in [
+        (1, 1, 1),
+        (0, 1024, 0),
+        (0, 1025, 0),
+        (1024, 1024, 0),
+        (1025, 1024, 1),
+        (1, 1, 1024),
+        (1, 1, 1025),
+        (2, 1, 1),
+        (1, 2, 1),
+        (1, 1, 0),
+        (1, 1, 2),
+        (0, 1, 1),
+        (2, 1, 1025),
+        (1, 2, 1025),
+        (3, 2, 1),
+        (2, 1, 2),
+        (1, 2, 2),
+    ] {
+        w.call(Call::CholeskySolve, n, room, columns);
+    }
+    solve_families(w, 1..=3, 2000, 5_000_000);
+    solve_families(w, 4..=6, 2000, 5_100_000);
+    solve_families(w, 9..=12, 1500, 5_200_000);
+    for n in ORDERS {
+        let room = (n + 2).min(64);
+        let given = |w: &mut Writer, shift: f64| {
+            w.case();
+            w.random(Slice::A, room * room, 12 + n as u64);
+            w.shift(Slice::A, n, room, shift);
+        };
+        given(w, n as f64);
+        w.call(Call::CholeskyFactor, n, room, 0);
+        for columns in (0..=9).chain([64]) {
+            solve(w, n, room, columns);
+        }
+        // in batches, each solved by before the next comes; the smaller shift makes the matrix indefinite at most orders
+        for shift in [n as f64, 0.75] {
+            given(w, shift);
+            let mut earlier = 0;
+            for cut in [n / 3, 2 * n / 3, n] {
+                let answer = w.call(Call::CholeskyExtend, cut, room, earlier);
+                solve(w, cut, room, 1);
+                solve(w, cut, room, 5);
+                if answer != 0 {
+                    break;
+                }
+                earlier = cut;
+            }
+        }
+        // NaN wherever no call may read
+        w.case();
+        w.repeat(Pattern { n, room, base: ONE, kept: ALL, rest: NANS, mask: 0 }, Spot { p: 0, q: 0, i: n, j: n });
+        w.shift(Slice::A, n, room, 1.0);
+        w.call(Call::CholeskyFactor, n, room, 0);
+        solve(w, n, room, 1);
+        solve(w, n, room, 7);
+    }
+    w.sweep(5, &SPECIAL);
 }
 
 fn udu(w: &mut Writer) {

@@ -39,7 +39,7 @@ pub(super) fn order(r: &mut Rng) -> usize {
 }
 
 /// What stands where no call may read: mostly a number of its own for each place, now and then NaN.
-fn placed(r: &mut Rng, m: &Symmetric, room: usize, lower: bool) -> Vec<f64> {
+pub(super) fn placed(r: &mut Rng, m: &Symmetric, room: usize, lower: bool) -> Vec<f64> {
     if r.one_in(8) { m.placed(room, lower, |_| f64::NAN) } else { m.placed(room, lower, fill) }
 }
 
@@ -159,7 +159,7 @@ fn cholesky(r: &mut Rng, n: usize) -> Family {
 }
 
 /// Rising, ending at n, with batches of no rows now and then.
-fn some_cuts(r: &mut Rng, n: usize) -> Vec<usize> {
+pub(super) fn some_cuts(r: &mut Rng, n: usize) -> Vec<usize> {
     let mut cuts: Vec<usize> = (0..r.below(4) + 1).map(|_| r.below(n + 1)).collect();
     cuts.push(n);
     cuts.sort_unstable();

@@ -60,6 +60,8 @@ fn on(lower: &[f64], side: [f64; 2]) -> Vec<Case> {
     let twin = Case { call: Call::FirstTwin, ..cholesky.clone() };
     let mut rooted = cholesky.clone();
     Text.cholesky_factor(&mut rooted.a, n, n);
+    let solve = |factor: &Case, b: Vec<f64>| Case { call: Call::CholeskySolve, y: b.len() / n, b, ..factor.clone() };
+    let five_columns = lower.iter().chain(&side[..n]).copied().cycle().take(5 * n).collect();
     vec![
         factor,
         Case { x: 1, b: side[..n].to_vec(), ..reader(Call::LbltSolve) },
@@ -67,6 +69,9 @@ fn on(lower: &[f64], side: [f64; 2]) -> Vec<Case> {
         reader(Call::LbltD),
         reader(Call::LbltLPermuted),
         Case { call: Call::CholeskyExtend, y: n - 1, ..cholesky.clone() },
+        solve(&cholesky, side[..n].to_vec()),
+        solve(&cholesky, five_columns),
+        solve(&rooted, side[..n].to_vec()),
         cholesky,
         Case { call: Call::CholeskyDeterminant, ..rooted.clone() },
         Case { call: Call::CholeskyL, b: filled(n * n), ..rooted },
@@ -87,9 +92,10 @@ pub fn sweep() -> impl Iterator<Item = Case> {
     ones.chain(twos)
 }
 
-const IN_A_ROOM: [Call; 7] = [
+const IN_A_ROOM: [Call; 8] = [
     Call::CholeskyFactor,
     Call::CholeskyExtend,
+    Call::CholeskySolve,
     Call::CholeskyL,
     Call::CholeskyUnpack,
     Call::CholeskyDeterminant,
@@ -116,7 +122,8 @@ pub fn refusals() -> Vec<Case> {
         }
         for room in n..n + 2 {
             for call in IN_A_ROOM {
-                let base = Case { x: room, y: n / 2, b: filled(n * n), ..Case::new(call, n, filled(room * room)) };
+                let (y, len) = if call == Call::CholeskySolve { (2, 2 * n) } else { (n / 2, n * n) };
+                let base = Case { x: room, y, b: filled(len), ..Case::new(call, n, filled(room * room)) };
                 spoiled(&mut out, &base);
             }
         }

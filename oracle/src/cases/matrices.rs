@@ -248,6 +248,20 @@ fn definite(r: &mut Rng, n: usize) -> Symmetric {
     })
 }
 
+/// Hilbert's matrix or one like it: nearly singular from order 10 or so on.
+fn hilbert(r: &mut Rng, n: usize) -> Symmetric {
+    let first = r.between(1, 4) as usize;
+    Symmetric::of(n, |i, j| 1.0 / (first + i + j) as f64)
+}
+
+/// Rows and columns that grow or shrink by a power of two from one to the next.
+fn graded(r: &mut Rng, n: usize) -> Symmetric {
+    let by = r.pick(&[-40, -9, -1, 1, 9, 40]);
+    let mut m = heavy_diagonal(r, n);
+    m.change(|i, j, x| x * power_of_two(by * i as i64) * power_of_two(by * j as i64));
+    m
+}
+
 /// U·D·Uᵀ with whole numbers and a zero in D now and then.
 fn udu_exact(r: &mut Rng, n: usize) -> Symmetric {
     let mut u = vec![0.0; n * n];
@@ -318,6 +332,19 @@ fn ties(r: &mut Rng, n: usize) -> Symmetric {
     })
 }
 
+/// Small whole numbers beside powers of two on the diagonal: a solve by it is exact as long as its numbers have room.
+fn whole_triangle(r: &mut Rng, n: usize) -> Symmetric {
+    Symmetric::of(n, |i, j| if i == j { r.pick(&[1.0, -1.0, 2.0, 0.5, -4.0]) } else { r.between(-2, 2) as f64 })
+}
+
+/// Rows that grow or shrink by a power of two from one to the next.
+fn graded_rows(r: &mut Rng, n: usize) -> Symmetric {
+    let by = r.pick(&[-200, -30, -3, 3, 30, 200]);
+    let mut m = well_scaled(r, n);
+    m.change(|i, _, x| x * power_of_two(by * i as i64));
+    m
+}
+
 /// A special number in one place.
 fn planted(r: &mut Rng, mut m: Symmetric) -> Symmetric {
     if m.n > 0 {
@@ -361,6 +388,13 @@ pub const FOR_CHOLESKY: [Maker; 9] =
 
 pub const FOR_UDU: [Maker; 10] =
     [plain, plain, well_scaled, heavy_diagonal, definite, definite_exact, udu_exact, udu_exact, twin_rows, indefinite];
+
+/// To be factored and solved by.
+pub const FOR_SOLVE: [Maker; 10] =
+    [plain, heavy_diagonal, heavy_diagonal, definite, definite, definite_exact, definite_exact, twin_rows, hilbert, graded];
+
+/// To be solved by as they are, their lower part a factor of nothing.
+pub const FOR_FACTOR: [Maker; 6] = [plain, plain, plain, whole_triangle, whole_triangle, graded_rows];
 
 pub fn symmetric(r: &mut Rng, makers: &[Maker], n: usize) -> Symmetric {
     let make = r.pick(makers);

@@ -4,10 +4,12 @@ mod families;
 mod fixed;
 mod matrices;
 mod rng;
+mod solves;
 mod twins;
 
 pub use families::{Chain, Family, alpha_case, family, largest, many_columns};
 pub use fixed::{SPECIAL, refusals, sweep};
 pub use matrices::{fill, filled};
 pub use rng::Rng;
+pub use solves::{largest_solves, solves, solves_of_all_orders};
 pub use twins::{largest_twins, twins};
