@@ -39,7 +39,7 @@ given c = c .gives
 abbrev pub wanted : Case → List ℕ
 wanted c = c .wanted
 
--- the starred cases, and twin rows
+-- the worked cases, and twin rows
 pub all-cases : map given (table ++ twinTable) ≡ map wanted (table ++ twinTable)
 unfolding ofBits toBits lt le eq add sub mul div neg isNan absOf maximumOf rootOf entry exchange turns for falling load inUpper placeSquare upper paired marked blockOf faultFrom checked choose choiceBy contest rowMax alongRow downColumn columnMax greater begun factored recorded swapBelow swapBetween interchange brought1 brought2 run step take pivot1 pivot2 firstMark rank1At rank1 scaleAt eliminate1 update1 blockBy blockAt multiplier work1 work2 rank2At rank2By rank2 update2 bySize rowsOf blocksFrom forwards blocksTo backwards readerAnswer whenDone solveAnswer swapRows lessOne lessTwo eliminateOne eliminateTwo forwardBlock divideOne blockDeterminant divideTwo divideBlock lessProduct gatherRow backwardBlock solveColumn timesBlock determinantOf positive choleskyColumns fitted sliced trianglesAnswer plusProduct spreadRow lowerRow solveLower transposedRow solveTransposed solveTriangles total squared crossed diagonal lastEntry earlierEntry entryOf withDiagonal withColumn column nothing uduColumns uduPromised matrixOf rowBits lowerBits answered blank recordOf factorMatrix factorOf determinantBits floats bitsOf solveAnswered solutionOf imaxOf choleskyRun choleskyOf choleskySolutionOf choleskySolveAnswered uduOf lbltOf upperOf lastBits diagonalBits runBits uduGives uduOfSlice rootBits
 all-cases = refl

@@ -1,1 +1,1 @@
-// Document 01's starred cases.
+// Worked cases: document 01's starred ones, Cholesky's solve, twin rows.

@@ -22,11 +22,11 @@ last-found b {i} e positive = let same : i ≡ i - 1 + 1 = omega arith in e ∙ 
 
 module _ (n : ℕ) (L : Matrix) where
   -- the first product by itself
-  gathered
+  first-product
       : (i : ℕ) → i + 1 < n → (b : List Float)
       → for (i + 1) n (lessProduct L b i) (at b i) ≡ for (i + 2) n (lessProduct L b i) (sub binary64 (at b i) (mul binary64 (L (i + 1) i) (at b (i + 1))))
   unfolding lessProduct
-  gathered i inside b =
+  first-product i inside b =
       let place : i + 1 + 1 ≡ i + 2 = omega arith in
       sym (for-join (i + 1) (i + 1 + 1) n (lessProduct L b i) (at b i) (omega arith) (omega arith))
       ∙ ap (for (i + 1 + 1) n (lessProduct L b i)) (for-one (i + 1) (lessProduct L b i) (at b i))
@@ -45,7 +45,7 @@ module _ (n : ℕ) (L : Matrix) where
       record { column = ap (set b i) value ∙ sym (row-is i b); number = sym (getD-set-same b i (div binary64 less d) nan (omega arith)) }
     where
       value : div binary64 less d ≡ div binary64 (for (i + 1) n (lessProduct L b i) (at b i)) (L i i)
-      value = rw (es, eg, el, ed, gathered i inside b)
+      value = rw (es, eg, el, ed, first-product i inside b)
 
   -- the last row has none after it
   last-row : 0 < n → (b : List Float) → transposedRow n L (n - 1) b ≡ divideOne L (n - 1) b

@@ -33,4 +33,4 @@ module _ (n : ℕ) (L : Matrix) where
 
   pub triangles-keeps : (b : List Float) → length (solveTriangles n L b) ≡ length b
   unfolding solveTriangles
-  triangles-keeps b = transposed-keeps (solveLower n L b) ∙ lower-keeps b
+  triangles-keeps b = simp (lower-keeps, transposed-keeps)

@@ -1,4 +1,4 @@
 pub mod Pairs
-pub mod Passes
+pub mod Forward
 pub mod Back
 pub mod Keeps

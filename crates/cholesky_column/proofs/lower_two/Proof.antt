@@ -1,6 +1,6 @@
 -- `lower_two` takes the steps of two rows of the way forward.
 use mathlib.Core.Path.{_∙_}
-use Rattle.cholesky_column.proofs.Passes.{lowered-two}
+use Rattle.cholesky_column.proofs.Forward.{lowered-two}
 use borrow.Author.Needs.{needs}
 use Rattle.cholesky_column.proofs.lower_two.Statement.{statement}
 use Rattle.cholesky_column.proofs.lower_two.Tie as tie

@@ -6,7 +6,7 @@ use Rattle.matrix.specs.Grid.{load}
 use Rattle.matrix.specs.Layouts.{lower}
 use Rattle.lblt_column.proofs.Turning.{Turning, turning-none, turning-all}
 use Rattle.cholesky_column.specs.Triangles.{lowerRow, solveLower}
-use Rattle.cholesky_column.proofs.Passes.{turning-two, lowered-last}
+use Rattle.cholesky_column.proofs.Forward.{turning-two, lowered-last}
 use borrow.Author.Needs.{needs}
 use Rattle.cholesky_column.proofs.solve_lower.Statement.{statement}
 use Rattle.cholesky_column.proofs.solve_lower.Tie as tie

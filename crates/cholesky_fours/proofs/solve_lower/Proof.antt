@@ -7,7 +7,7 @@ use Rattle.matrix.specs.Layouts.{lower}
 use Rattle.lblt_column.proofs.Turning.{Turning, turning-none}
 use Rattle.lblt_sides.specs.Columns.{eachColumn}
 use Rattle.cholesky_column.specs.Triangles.{lowerRow}
-use Rattle.cholesky_column.proofs.Passes.{turning-two}
+use Rattle.cholesky_column.proofs.Forward.{turning-two}
 use Rattle.cholesky_fours.proofs.Steps.{lowered-none, lowered-last}
 use borrow.Author.Needs.{needs}
 use Rattle.cholesky_fours.proofs.solve_lower.Statement.{statement}

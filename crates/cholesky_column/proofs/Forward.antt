@@ -1,5 +1,6 @@
--- The passes over a column's rows.
---     lowered-two, lowered-last      two rows more of the way forward, and the last row
+-- The way forward over a column's rows.
+--     turning-two                    a loop, two turns more
+--     lowered-two, lowered-last      the steps of two rows, and the last row
 use mathlib.Core.List.{List}
 use mathlib.Core.Path.{_≡_, sym, ap, _∙_}
 use Prim.Native.Nat.{ℕ, _+_, _<_, _≤_}
