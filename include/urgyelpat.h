@@ -1,12 +1,14 @@
 /* urgyelpat.h: LBLT, Cholesky and UDU factors of symmetric matrices of doubles, from C and C++.
  *
- * The functions stand in liburgyelpat.a (`rt staticlib urgyelpat`), for x86-64 Linux. Each is proved to give the answer and
- * to leave the buffers that this page says, on every input. docs/PROMISES.md has the exact promises.
+ * The functions stand in liburgyelpat.a (`rt staticlib urgyelpat`), for x86-64 Linux. Each is proved, on every input, to give
+ * the answer and to leave the buffers that this page and docs/PROMISES.md say. What is said to hold "on paper" holds for exact
+ * numbers: that a factor multiplies back, or that a solution solves, up to rounding, is not proved, and is not true of every
+ * matrix. The small functions that stand here in C are tested and not proved.
  *
  * MATRICES are lent and stand column by column: entry (i, j), row i and column j counted from 0, of an n-by-n matrix is at
  * i + j*n. A Cholesky matrix stands in a room s, at i + j*s; what is outside the first n rows and columns is kept. Of a
  * symmetric matrix LBLT, Cholesky and the search for twins look at the entries with i >= j alone, UDU at those with i <= j.
- * The others are neither read nor written, except where a call is said to fill a whole matrix.
+ * The others are neither read nor written, except by the calls that fill a whole matrix or say that they write there.
  *
  * SLICES. Every slice is a pointer and then its length, counted in numbers and not in bytes. What is asked of a caller:
  *   - The memory of the whole length is there, is initialised, and is aligned as its type is.
@@ -30,12 +32,13 @@
  *   3 URGYELPAT_MATRIX_LENGTH    the first matrix has the wrong length                         0
  *   4 URGYELPAT_SLICE_LENGTH     another slice has the wrong length                            0
  *   5 URGYELPAT_BAD_RECORD       the pivot record breaks its rule                              the row, or n for its mark
- *   6 URGYELPAT_ZERO_MARK        solve: the record marks a zero column                         the marked row
+ *   6 URGYELPAT_ZERO_MARK        solve: the record marks a row without a pivot                 the marked row, of the factor:
+ *                                                                                              urgyelpat_callers_row
  *   7 URGYELPAT_NOT_POSITIVE     Cholesky: a diagonal is zero, negative or NaN                 its column j
  *   8 URGYELPAT_ZERO_DIAGONAL    UDU: a diagonal is zero                                       its column j
  *
- * What stands in the buffers after 7 and 8 is said at the functions that give them. A NaN in a result is a NaN; which one
- * (its sign and payload) is not promised. Everything else is promised to the bit.
+ * What stands in the buffers after 7 and 8 is said at the functions that give them. Everything is promised to the bit but a
+ * NaN's sign and payload: a NaN is a NaN, in results and in what is kept. (That a kept NaN keeps its bits is tested.)
  */
 #ifndef URGYELPAT_H
 #define URGYELPAT_H
@@ -79,22 +82,40 @@ typedef struct urgyelpat_determined {
     double value;
 } urgyelpat_determined;
 
-/* ---- LBLT: P A P^T = L D L^T, by Bunch and Kaufman's pivoting ----
+/* ---- LBLT: P A P^T = L D L^T on paper, by Bunch and Kaufman's pivoting ----
  *
  * The pivot record has 2n + 1 words: for each row the index and the size (1 or 2) of its pivot, then the mark, 0 or marked
  * row + 1. A factor call writes it and the calls that read the factor check it, so that a damaged one is refused by 5. (The
- * record of another matrix of the same order may well be a sound one: keep a factor and its record together.) */
+ * record of another matrix of the same order may well be a sound one: keep a factor and its record together.)
+ *
+ * The rows of the factor are not in the order in which they came: for a block of size s from row k on, the row that the index
+ * names was exchanged with row k + s - 1. */
 
 /* Factors the lower part of a (n*n numbers) in place, and writes its record (2n + 1 words).
- * A column that is zero when the factor reaches it is skipped; the first such row is marked in the record, the call is done
- * all the same, and only a solve refuses it.
+ * Where the diagonal and the largest number below it are both zero in size, or one is zero and the other NaN (the largest is
+ * NaN where the first number below is), there is no pivot: the column is passed over, and the first such row is marked. The
+ * call is done all the same, and only a solve refuses the mark.
  * Answers 0, 1, 3 (a), 4 (record). */
 URGYELPAT_MUST_USE uint64_t urgyelpat_lblt_factor(double *a, size_t a_length, uint32_t *record, size_t record_length, size_t n);
 
 /* Solves A X = B in b (n*columns numbers, column by column) by a factor and its record.
- * Answers 0, 1, 3 (a), 4 (record or b), 5, 6. */
+ * Answers 0, 1, 3 (a), 4 (record or b), 5, 6 (its place is a row of the factor; urgyelpat_callers_row gives yours). */
 URGYELPAT_MUST_USE uint64_t urgyelpat_lblt_solve(const double *a, size_t a_length, const uint32_t *record, size_t record_length,
                                                  double *b, size_t b_length, size_t n, size_t columns);
+
+/* The row of the given matrix that stands at a row of the factor: the exchanges of the record, taken back from the last to the
+ * first. ([1 / 2 4]: row 1 is marked, and it is row 0 as given.) record has the 2n + 1 words that a factor call of order n
+ * wrote. */
+static inline size_t urgyelpat_callers_row(const uint32_t *record, size_t n, size_t row)
+{
+    size_t rest = n; /* the exchanges of the rows from here on are taken back */
+    while (rest > 0) {
+        size_t stands = rest - 1, came = record[2 * stands];
+        row = row == stands ? came : row == came ? stands : row;
+        rest -= rest > 1 && record[2 * stands + 1] == 2 ? 2 : 1;
+    }
+    return row;
+}
 
 /* The determinant by a factor and its record; 1 for order 0. A marked record is accepted.
  * Answers 0, 1, 3 (a), 4 (record), 5. */
@@ -106,12 +127,12 @@ URGYELPAT_MUST_USE urgyelpat_determined urgyelpat_lblt_determinant(const double 
 URGYELPAT_MUST_USE uint64_t urgyelpat_lblt_d(const double *a, size_t a_length, const uint32_t *record, size_t record_length,
                                              double *d, size_t d_length, size_t n);
 
-/* Fills l (n*n numbers) with P^T L, so that the factored matrix is l d l^T up to rounding. A marked record is accepted.
+/* Fills l (n*n numbers) with P^T L; on paper the factored matrix is l d l^T. A marked record is accepted.
  * Answers 0, 1, 3 (a), 4 (record or l), 5. */
 URGYELPAT_MUST_USE uint64_t urgyelpat_lblt_l_permuted(const double *a, size_t a_length, const uint32_t *record,
                                                       size_t record_length, double *l, size_t l_length, size_t n);
 
-/* ---- Cholesky: A = L L^T, in a room, row batch by row batch ---- */
+/* ---- Cholesky: A = L L^T on paper, in a room, row batch by row batch ---- */
 
 /* Factors the first n rows and columns of the lower part of a (room*room numbers) in place.
  * After 7 at column j: the columns before j are finished, column j is updated and not divided, later columns are as given.
@@ -137,7 +158,7 @@ URGYELPAT_MUST_USE uint64_t urgyelpat_cholesky_solve(const double *a, size_t a_l
 URGYELPAT_MUST_USE uint64_t urgyelpat_cholesky_l(const double *a, size_t a_length, double *l, size_t l_length, size_t room,
                                                  size_t n);
 
-/* Sets the entries (i, j) with i < j < n of a to zero, where they stand.
+/* Sets the entries (i, j) with i < j < n of a, above the diagonal, to zero where they stand.
  * Answers 0, 1, 2, 3 (a). */
 URGYELPAT_MUST_USE uint64_t urgyelpat_cholesky_unpack(double *a, size_t a_length, size_t room, size_t n);
 
@@ -145,7 +166,7 @@ URGYELPAT_MUST_USE uint64_t urgyelpat_cholesky_unpack(double *a, size_t a_length
  * Answers 0, 1, 2, 3 (a). */
 URGYELPAT_MUST_USE urgyelpat_determined urgyelpat_cholesky_determinant(const double *a, size_t a_length, size_t room, size_t n);
 
-/* ---- UDU: P = U D U^T ---- */
+/* ---- UDU: P = U D U^T on paper ---- */
 
 /* Fills u (n*n numbers) and d (n numbers) with the factors of p (n*n numbers), of which the upper part is read.
  * After 8 at column j: d has the zero that was found at j and zeros before it, the columns up to j of u are zero, and what

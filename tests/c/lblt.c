@@ -94,13 +94,15 @@ static void factors(void)
 {
     factor("order 0", 0, NO_NUMBERS, WORDS(9), 0, NO_NUMBERS, WORDS(0));
     factor("order 1", 1, NUMBERS(4), WORDS(9, 9, 9), 0, NUMBERS(4), WORDS(0, 1, 0));
-    factor("a zero column", 1, NUMBERS(-0.0), WORDS(9, 9, 9), 0, NUMBERS(-0.0), WORDS(0, 1, 1));
+    factor("nothing but a zero", 1, NUMBERS(-0.0), WORDS(9, 9, 9), 0, NUMBERS(-0.0), WORDS(0, 1, 1));
     factor("a lone NaN", 1, NUMBERS(NAN), WORDS(9, 9, 9), 0, NUMBERS(NAN), WORDS(0, 1, 1));
     factor("4, 2, 3", 2, NUMBERS(4, 2, KEPT, 3), WORDS(9, 9, 9, 9, 9), 0, NUMBERS(4, 0.5, KEPT, 2), WORDS(0, 1, 1, 1, 0));
     factor("a block of two", 2, NUMBERS(0, 1, KEPT, 0), WORDS(9, 9, 9, 9, 9), 0, NUMBERS(0, 1, KEPT, 0),
            WORDS(1, 2, 1, 2, 0));
     factor("an exchange", 2, NUMBERS(0, 1, KEPT, 4), WORDS(9, 9, 9, 9, 9), 0, NUMBERS(4, 0.25, KEPT, -0.25),
            WORDS(1, 1, 1, 1, 0));
+    factor("an exchange, then a mark", 2, NUMBERS(1, 2, KEPT, 4), WORDS(9, 9, 9, 9, 9), 0, NUMBERS(4, 0.5, KEPT, 0),
+           WORDS(1, 1, 1, 1, 2));
     factor("a NaN below a zero", 2, NUMBERS(0, NAN, KEPT, 5), WORDS(9, 9, 9, 9, 9), 0, NUMBERS(0, NAN, KEPT, 5),
            WORDS(0, 1, 1, 1, 1));
     factor("equal maxima", 3, NUMBERS(0, 3, -3, KEPT, 0, 0, KEPT, KEPT, 0), WORDS(9, 9, 9, 9, 9, 9, 9), 0,
@@ -193,6 +195,30 @@ static void many_columns(void)
         }
 }
 
+static void callers_row(const char *about, size_t n, words record, words rows)
+{
+    for (placement where = 0; where < PLACEMENTS; where++) {
+        lent pivots = lend_words(record, where);
+        called("callers_row", about, where);
+        for (size_t row = 0; row < n; row++)
+            answered(urgyelpat_callers_row(words_at(&pivots), n, row), rows.at[row]);
+        left_words(pivots, "record", record);
+    }
+}
+
+/* The rows of the factor, as given. A broken record gives no rows, but ends inside its words. */
+static void callers_rows(void)
+{
+    callers_row("order 0", 0, WORDS(0), NO_WORDS);
+    callers_row("nothing exchanged", 3, WORDS(0, 1, 1, 1, 2, 1, 0), WORDS(0, 1, 2));
+    callers_row("an exchange, then a mark", 2, WORDS(1, 1, 1, 1, 2), WORDS(1, 0));
+    callers_row("a block of two", 3, WORDS(2, 2, 2, 2, 2, 1, 0), WORDS(0, 2, 1));
+    callers_row("a row three times exchanged", 4, WORDS(3, 1, 3, 1, 3, 1, 3, 1, 0), WORDS(3, 0, 1, 2));
+    callers_row("a far exchange, then a block of two", 4, WORDS(2, 1, 3, 2, 3, 2, 3, 1, 0), WORDS(2, 1, 3, 0));
+    callers_row("sizes of no record", 3, WORDS(0, 0, 1, 9, 2, 7, 0), WORDS(0, 1, 2));
+    callers_row("a block before row 0", 1, WORDS(0, 2, 0), WORDS(0));
+}
+
 /* One broken record for each row, in each way that a record can be broken, and for the mark. */
 static void broken_records(void)
 {
@@ -279,6 +305,7 @@ void lblt_cases(void)
     factors_refused();
     readers();
     many_columns();
+    callers_rows();
     broken_records();
     readers_refused_by_size();
     largest_order();

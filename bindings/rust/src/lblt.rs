@@ -1,15 +1,20 @@
-//! LBLT: P·A·Pᵀ = L·D·Lᵀ by Bunch and Kaufman's pivoting, for any symmetric matrix.
+//! LBLT: P·A·Pᵀ = L·D·Lᵀ on paper, by Bunch and Kaufman's pivoting, for any symmetric matrix.
 //!
 //! The pivot record of a factor of order n has 2n + 1 words: the index and the size (1 or 2) of each row's pivot, then the
 //! mark, 0 or marked row + 1. [`factor`] writes it; the other calls check it. The record of another matrix of the same order
 //! may be a sound one, so keep a factor and its record together, as [`LBLT`] does.
+//!
+//! The rows of the factor are not in the order in which they came: [`callers_row`] gives the way back.
 
 use crate::refusal::{done, value, Refusal};
 use crate::{ffi, kept, whole_columns};
 
 /// Factors the lower part of `a` (n·n numbers) in place and writes its pivot record (2n + 1 words).
 ///
-/// A column that is zero when the factor reaches it is skipped, and the first such row is marked; only a solve refuses that.
+/// Where the diagonal and the largest number below it are both zero in size, or one is zero and the other NaN (the largest is
+/// NaN where the first number below is), there is no pivot: the column is passed over, and the first such row is marked. Only
+/// a solve refuses the mark.
+///
 /// Refused by [`OutOfRange`](Refusal::OutOfRange), [`MatrixLength`](Refusal::MatrixLength),
 /// [`SliceLength`](Refusal::SliceLength).
 ///
@@ -28,7 +33,8 @@ pub fn factor(a: &mut [f64], record: &mut [u32], n: usize) -> Result<(), Refusal
 /// Solves A·X = B in `b` (n·columns numbers), by a factor and its record.
 ///
 /// Refused by [`OutOfRange`](Refusal::OutOfRange), [`MatrixLength`](Refusal::MatrixLength),
-/// [`SliceLength`](Refusal::SliceLength), [`BadRecord`](Refusal::BadRecord), [`ZeroMark`](Refusal::ZeroMark).
+/// [`SliceLength`](Refusal::SliceLength), [`BadRecord`](Refusal::BadRecord), [`ZeroMark`](Refusal::ZeroMark), which names a row
+/// of the factor: [`callers_row`] gives yours.
 ///
 /// ```
 /// let mut b = [3.0, 5.0];
@@ -95,7 +101,7 @@ pub fn d(a: &[f64], record: &[u32], d: &mut [f64], n: usize) -> Result<(), Refus
     })
 }
 
-/// Fills `l` (n·n numbers) with Pᵀ·L, so that the factored matrix is l·d·lᵀ up to rounding.
+/// Fills `l` (n·n numbers) with Pᵀ·L; on paper the factored matrix is l·d·lᵀ.
 ///
 /// Refused by [`OutOfRange`](Refusal::OutOfRange), [`MatrixLength`](Refusal::MatrixLength),
 /// [`SliceLength`](Refusal::SliceLength), [`BadRecord`](Refusal::BadRecord).
@@ -119,6 +125,33 @@ pub fn l_permuted(a: &[f64], record: &[u32], l: &mut [f64], n: usize) -> Result<
             n,
         )
     })
+}
+
+/// The row of the given matrix that stands at a row of the factor: the exchanges of the record, taken back from the last to the
+/// first. `record` is one that [`factor`] wrote for order n. Panics where it has fewer than 2n words.
+///
+/// ```
+/// // the lower rows 1 / 2 4: row 1 is brought to the top, and the factor's row 1 has no pivot
+/// let (mut a, mut record) = ([1.0, 2.0, 0.0, 4.0], [0; 5]);
+/// urgyelpat::lblt::factor(&mut a, &mut record, 2)?;
+/// assert_eq!(record, [1, 1, 1, 1, 2]);
+/// assert_eq!(urgyelpat::lblt::callers_row(&record, 2, 1), 0);
+/// # Ok::<(), urgyelpat::Refusal>(())
+/// ```
+pub fn callers_row(record: &[u32], n: usize, row: usize) -> usize {
+    let mut row = row;
+    let mut rest = n; // the exchanges of the rows from here on are taken back
+    while rest > 0 {
+        let stands = rest - 1;
+        let came = record[2 * stands] as usize;
+        if row == stands {
+            row = came;
+        } else if row == came {
+            row = stands;
+        }
+        rest -= if rest > 1 && record[2 * stands + 1] == 2 { 2 } else { 1 };
+    }
+    row
 }
 
 /// A factored symmetric matrix with its pivot record.
@@ -145,8 +178,8 @@ const OWN: &str = "the factor call's own record and sizes are accepted";
 impl LBLT {
     /// Factors a symmetric matrix of order n, n·n numbers, of which the lower part is read.
     ///
-    /// Refused by [`OutOfRange`](Refusal::OutOfRange) and [`MatrixLength`](Refusal::MatrixLength). A matrix with no unique
-    /// solution is factored too: see [`zero_pivot`](LBLT::zero_pivot).
+    /// Refused by [`OutOfRange`](Refusal::OutOfRange) and [`MatrixLength`](Refusal::MatrixLength). A matrix in which a row has
+    /// no pivot is factored too: see [`zero_pivot`](LBLT::zero_pivot).
     pub fn new(mut matrix: Vec<f64>, n: usize) -> Result<LBLT, Refusal> {
         let mut record = vec![0; 2 * kept(n) + 1];
         factor(&mut matrix, &mut record, n)?;
@@ -179,15 +212,31 @@ impl LBLT {
             .map(|pivot| (pivot[0] as usize, pivot[1] as usize))
     }
 
-    /// The first row at which the factor met a zero column, in the factor's own order of rows.
+    /// The first row of the factor that has no pivot: the diagonal and the largest number below it were both zero in size, or
+    /// one was zero and the other NaN. [`callers_row`](LBLT::callers_row) says which row that was as given.
     pub fn zero_pivot(&self) -> Option<usize> {
         (self.record[2 * self.order] as usize).checked_sub(1)
     }
 
+    /// The row of the given matrix that stands at a row of the factor.
+    ///
+    /// ```
+    /// use urgyelpat::{Refusal, LBLT};
+    ///
+    /// let factor = LBLT::new(vec![1.0, 2.0, 0.0, 4.0], 2)?;
+    /// if let Err(Refusal::ZeroMark { row }) = factor.solve(&[1.0, 1.0]) {
+    ///     assert_eq!((row, factor.callers_row(row)), (1, 0));
+    /// }
+    /// # Ok::<(), Refusal>(())
+    /// ```
+    pub fn callers_row(&self, row: usize) -> usize {
+        callers_row(&self.record, self.order, row)
+    }
+
     /// The solution of A·X = B. `b` has n numbers for each right-hand side, one after the other.
     ///
-    /// Refused by [`OutOfRange`](Refusal::OutOfRange) and [`SliceLength`](Refusal::SliceLength) for `b`, and by
-    /// [`ZeroMark`](Refusal::ZeroMark) exactly if there is a [`zero_pivot`](LBLT::zero_pivot).
+    /// Refused by [`OutOfRange`](Refusal::OutOfRange) and [`SliceLength`](Refusal::SliceLength) for `b`. Where `b` fits, refused
+    /// by [`ZeroMark`](Refusal::ZeroMark) exactly if there is a [`zero_pivot`](LBLT::zero_pivot).
     pub fn solve(&self, b: &[f64]) -> Result<Vec<f64>, Refusal> {
         let mut x = b.to_vec();
         self.solve_mut(&mut x)?;
@@ -204,8 +253,8 @@ impl LBLT {
     /// factor.solve_mut(&mut sides)?;
     /// assert_eq!(sides, [5.0, 3.0, 0.0, 1.0]);
     ///
-    /// let singular = LBLT::new(vec![1.0, 1.0, 0.0, 1.0], 2)?;
-    /// assert_eq!(singular.solve_mut(&mut sides), Err(Refusal::ZeroMark { row: 1 }));
+    /// let marked = LBLT::new(vec![1.0, 1.0, 0.0, 1.0], 2)?;
+    /// assert_eq!(marked.solve_mut(&mut sides), Err(Refusal::ZeroMark { row: 1 }));
     /// assert_eq!(sides, [5.0, 3.0, 0.0, 1.0]);
     /// # Ok::<(), Refusal>(())
     /// ```
@@ -232,7 +281,7 @@ impl LBLT {
         filled
     }
 
-    /// The factor Pᵀ·L, n·n numbers: the matrix is l·d·lᵀ up to rounding.
+    /// The factor Pᵀ·L, n·n numbers; on paper the matrix is l·d·lᵀ.
     ///
     /// ```
     /// let factor = urgyelpat::LBLT::new(vec![0.0, 1.0, 7.0, 4.0], 2)?;

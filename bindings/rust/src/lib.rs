@@ -1,8 +1,10 @@
-//! LBLT, Cholesky and UDU factors of symmetric `f64` matrices, proved to follow nalgebra's steps to the bit.
+//! LBLT, Cholesky and UDU factors of symmetric `f64` matrices: nalgebra's, proved against its written steps to the bit and
+//! compared with its text.
 //!
 //! This crate is a safe face of `liburgyelpat.a`. Each call of that library is proved, on every input, to give the answer and
-//! to leave the slices that its page here says; docs/PROMISES.md of the repository has the exact promises. What this crate adds
-//! is tested and not proved.
+//! to leave the slices that its page here and docs/PROMISES.md of the repository say. What this crate adds is tested and not
+//! proved. What is said to hold *on paper* holds for exact numbers: that a factor multiplies back, or that a solution solves,
+//! up to rounding, is not proved, and is not true of every matrix.
 //!
 //! ```
 //! use urgyelpat::LBLT;

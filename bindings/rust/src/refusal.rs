@@ -23,9 +23,9 @@ pub enum Refusal {
         /// The first row that breaks it, or the order if the mark does.
         row: usize,
     },
-    /// Code 6: no solution is given, since the factor met a zero column.
+    /// Code 6: no solution is given, since a row of the factor has no pivot.
     ZeroMark {
-        /// The row where it did, in the factor's own order of rows.
+        /// The first such row of the factor; [`callers_row`](crate::lblt::callers_row) says which row that was as given.
         row: usize,
     },
     /// Code 7: a diagonal of Cholesky is zero, negative or NaN.
@@ -90,7 +90,7 @@ impl fmt::Display for Refusal {
             ),
             Refusal::ZeroMark { row } => write!(
                 f,
-                "the matrix has no unique solution as far as the factor can tell: at its row {row} it had nothing left to divide by. Look for a row of zeros, a broken reading or a batch that came twice"
+                "the factor found nothing to divide by at its row {row}: zeros, or NaN beside a zero. Which row of yours that is, callers_row tells. Look there for zeros, a broken reading or a batch that came twice"
             ),
             Refusal::NotPositive { column } => write!(
                 f,

@@ -40,7 +40,7 @@ contest M k top rowmax =
     cond (le (α ⊗ top .colmax ⊗ (top .colmax ⊘ rowmax)) (absOf (M k k))) (One k)
     (cond (lt (absOf (M (top .imax) (top .imax))) (α ⊗ rowmax)) (Two (top .imax)) (One (top .imax)))
 
--- a zero column, the diagonal, or the contest of two rows
+-- no pivot, the diagonal, or the contest of two rows
 unfoldable pub choiceBy : ℕ → Matrix → ℕ → Largest → Choice
 choiceBy n M k top =
     cond (eq (maximumOf (absOf (M k k)) (top .colmax)) nought) Null

@@ -23,6 +23,32 @@ fn a_marked_matrix_is_factored_and_not_solved() {
 }
 
 #[test]
+fn a_mark_leads_back_to_the_callers_row() {
+    let factor = LBLT::new(vec![1.0, 2.0, 7.0, 4.0], 2).unwrap();
+    assert_eq!(factor.record(), [1, 1, 1, 1, 2]);
+    assert_eq!(factor.zero_pivot(), Some(1));
+    assert_eq!([0, 1].map(|row| factor.callers_row(row)), [1, 0]);
+}
+
+/// Row k of L ends with the 1 in column k, and so does the caller's row of Pᵀ·L.
+#[test]
+fn each_row_of_the_factor_is_the_callers_row_of_the_permuted_one() {
+    let mut exchanged = 0;
+    for seed in 0..600 {
+        let n = 1 + seed as usize % 24;
+        let factor = LBLT::new(Numbers(seed).symmetric(n), n).unwrap();
+        let l = factor.l_permuted();
+        for row in 0..n {
+            let came = factor.callers_row(row);
+            assert_eq!(l[came + row * n], 1.0, "seed {seed}, row {row}");
+            assert!((row + 1..n).all(|j| l[came + j * n] == 0.0), "seed {seed}, row {row}");
+            exchanged += usize::from(came != row);
+        }
+    }
+    assert!(exchanged > 1000);
+}
+
+#[test]
 fn order_0_has_determinant_1() {
     let factor = LBLT::new(vec![], 0).unwrap();
     assert_eq!(factor.determinant(), 1.0);
