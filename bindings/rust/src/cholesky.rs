@@ -1,4 +1,4 @@
-//! Cholesky: A = L·Lᵀ for a positive matrix, whole or in batches of rows.
+//! Cholesky: A = L·Lᵀ on paper, for a positive matrix, whole or in batches of rows.
 //!
 //! The matrix stands in a room s: s·s numbers, entry (i, j) at `i + j * s`, of which the first n rows and columns count.
 

@@ -94,11 +94,11 @@ impl fmt::Display for Refusal {
             ),
             Refusal::NotPositive { column } => write!(
                 f,
-                "row {column} adds nothing to the rows before it, or contradicts them: its diagonal became zero, negative or NaN. Leave its batch out, or measure it again"
+                "the diagonal of row {column} became zero, negative or NaN: the row adds nothing to the rows before it, contradicts them, or is a broken reading. Leave its batch out, or measure it again"
             ),
             Refusal::ZeroDiagonal { column } => write!(
                 f,
-                "row {column} adds nothing to the rows after it: its diagonal became zero. Leave its batch out, or measure it again"
+                "the diagonal of row {column} became zero, and UDU cannot go on: perhaps the row adds nothing to the rows after it. Leave its batch out, or measure it again"
             ),
         }
     }

@@ -1,4 +1,4 @@
-//! UDU: P = U·D·Uᵀ, with U upper triangular and D diagonal.
+//! UDU: P = U·D·Uᵀ on paper, with U upper triangular and D diagonal.
 
 use crate::refusal::{done, Refusal};
 use crate::{ffi, kept};
