@@ -1,102 +1,42 @@
--- Demand 3: batches over any rising list of cuts leave what the one call on the whole matrix leaves. Assumes nothing.
+-- Demand 3: batches over any rising list of cuts give what the one call on the whole matrix gives. Assumes nothing.
 use mathlib.Core.Path.{_≡_, refl, sym, _∙_, ap, subst}
 use mathlib.Core.Bool.{Bool, true, false}
-use mathlib.Core.List.{List}
+use mathlib.Core.List.{List, [], _∷_}
 use mathlib.Core.Logic.{inl}
-use Prim.Native.Nat.{ℕ, _+_, _*_, _≤_, _<_}
+use Prim.Native.Nat.{ℕ, _≤_, _<_}
 use native.Mathlib.Omega.{arith}
+use lib.Dec.{T}
 use lib.ListN.{length}
 use lib.Ieee.{Float}
+use borrow.Author.Tests.{eqb-true, ne-eqb}
 use Rattle.answer.specs.declared.Answer.{Answer}
 use Rattle.answer.specs.declared.Answer.the-variants.{Done}
+use Rattle.answer.specs.Number.{codeOf}
 use Rattle.matrix.specs.Matrix.{Matrix}
 use Rattle.matrix.specs.Loop.{for}
-use Rattle.matrix.specs.Grid.{load, Free}
-use Rattle.matrix.specs.Layouts.{startOf, placeIn, sizeOf, lower}
-use Rattle.matrix.proofs.Loops.{for-none, for-join}
-use Rattle.matrix.proofs.Grids.{load-in, load-is}
-use Rattle.matrix.proofs.Places.{digits-row, in-lower, lower-at, lower-across}
+use Rattle.matrix.specs.Grid.{load}
+use Rattle.matrix.specs.Layouts.{lower}
+use Rattle.matrix.proofs.Loops.{for-join}
+use Rattle.matrix.proofs.Grids.{load-in, load-is, holds-unique}
+use Rattle.matrix.proofs.Places.{lower-across}
 use Rattle.cholesky.specs.Run.{Outcome, isDone, column, started, run}
 use Rattle.cholesky.specs.Crate.{crateRule}
 use Rattle.cholesky.specs.Leaves.{Ends}
 use Rattle.cholesky.specs.Promise.{in-room, Fitting, batch, Extended}
-use Rattle.cholesky.specs.Batches.{Batches, none, more, SameAsOne}
-use Rattle.cholesky.proofs.Parts.{entry-low, entry-left, agree-mask, Agree, leaves-agree, leaves-none, leaves-as}
-use Rattle.cholesky.proofs.Outcomes.{done-is, Like, stays}
+use Rattle.cholesky.specs.Batches.{Rising, Batches, refused, more, RefusedIn, SameAsOne}
+use Rattle.cholesky.proofs.Parts.{agree-mask, Agree, leaves-agree}
+use Rattle.cholesky.proofs.Outcomes.{done-is, stays}
 use Rattle.cholesky.proofs.Rows.{columns-off}
-use Rattle.cholesky.proofs.Promises.{room-sound, checked-fitting}
-use Rattle.cholesky.proofs.Batch.{batch-like}
+use Rattle.cholesky.proofs.Checks.{Checked, fit, unfit, check?}
+use Rattle.cholesky.proofs.Promises.{answered-fits, checked-fitting}
+use Rattle.cholesky.proofs.Refusals.{columns-answered, refused-in}
+use Rattle.cholesky.proofs.Handed.{batches-upto, batches-all, batches-run}
 
--- ---- one slice at two orders
-
-free-before : (room m n p : ℕ) → m ≤ n → Free (lower (in-room room n)) p → Free (lower (in-room room m)) p
-unfolding startOf placeIn lower
-free-before room m n p le free i j t e =
-    let row : i < m = entry-low (in-room room m) i j t in
-    free i j (in-lower (in-room room n) i j (entry-left (in-room room m) i j t) (omega arith)) e
-
--- a row from m on is no entry of the first m rows
-free-after : (room m i j : ℕ) → m ≤ room → i < room → m ≤ i → Free (lower (in-room room m)) (i + j * room)
-unfolding startOf placeIn lower
-free-after room m i j small under from r c t e =
-    let row : r < m = entry-low (in-room room m) r c t in
-    let same : i ≡ r = digits-row room i j r c under (omega arith) e in
-    omega arith
-
--- ---- batches
-
+-- The one call passes codes 1 to 3. One that does not leaves all as given, while batches that fit are worked on before the one that does not:
+-- `refused-alike` says what holds then.
 module _ (room n : ℕ) (l₀ : List Float) (fits : Fitting room 0 n (length l₀)) where
-  -- the matrix that is handed in
   abbrev given : Matrix
   given = load (lower (in-room room n)) l₀
-
-  batches-none : Ends (in-room room 0) l₀ l₀ Done (run crateRule 0 0 given)
-  unfolding run
-  batches-none =
-      subst (Ends (in-room room 0) l₀ l₀ Done) (sym (for-none 0 (column crateRule 0) (started given)))
-      (record {
-        answer = refl;
-        leaves = leaves-as (leaves-none (room-sound room 0 l₀ (record { ordered = omega arith; small = fits .small }) (fits .long))) (record { at = λ i j le lt. absurd (omega arith) });
-      })
-
-  batches-more : {m k : ℕ} {l l' : List Float} {r : Answer} → Ends (in-room room m) l₀ l Done (run crateRule 0 m given) → m ≤ k → k ≤ n → Extended room m k l l' r
-      → Ends (in-room room k) l₀ l' r (run crateRule 0 k given)
-  unfolding run
-  batches-more {m} {k} {l} {l'} {r} so rising upto call = record {
-    answer = call .answer ∙ checked-fitting room m k (length l) fit (batch room m k l .answer) ∙ like .answer;
-    leaves = record {
-      holds = record {
-        sound = call .leaves fit .holds .sound;
-        cells = call .leaves fit .holds .cells ∙ agree-mask (in-room room k) (like .cells);
-        kept = λ p free. call .leaves fit .holds .kept p free ∙ so .leaves .holds .kept p (free-before room m k p rising free);
-      };
-    };
-  }
-    where
-      long : length l ≡ room * room
-      long = unfold lower sizeOf in so .leaves .holds .sound .long
-
-      fit : Fitting room m k (length l)
-      fit = let inside = fits .inside in record { small = fits .small; inside = omega arith; rising = rising; long = long }
-
-      before : (i c : ℕ) → c ≤ i → i < m → load (lower (in-room room k)) l i c ≡ for 0 m (column crateRule 0) (started given) .cells i c
-      before i c le lt = lower-across room k m l i c le (omega arith) lt ∙ leaves-agree (so .leaves) .at i c le lt
-
-      after : (i c : ℕ) → c ≤ i → m ≤ i → i < k → load (lower (in-room room k)) l i c ≡ given i c
-      after i c le from lt =
-          let inside = fits .inside in
-          lower-at (in-room room k) l i c le lt
-          ∙ so .leaves .holds .kept (i + startOf (in-room room k) c) (unfold startOf in free-after room m i c (omega arith) (omega arith) from)
-          ∙ sym (lower-at (in-room room k) l₀ i c le lt)
-          ∙ lower-across room k n l₀ i c le lt (omega arith)
-
-      like : Like k (run crateRule m k (load (lower (in-room room k)) l)) (run crateRule 0 k given)
-      like = batch-like crateRule m k given (load (lower (in-room room k)) l) rising (sym (so .answer)) before after
-
-  -- batches leave what the one call on the rows handed in so far would leave
-  pub batches-run : {c : ℕ} {l : List Float} {r : Answer} → Batches room l₀ c l r → c ≤ n → Ends (in-room room c) l₀ l r (run crateRule 0 c given)
-  batches-run none upto = batches-none
-  batches-run (more so rising call) upto = batches-more (batches-run so (omega arith)) rising upto call
 
   -- ---- the one call on more rows
 
@@ -108,31 +48,76 @@ module _ (room n : ℕ) (l₀ : List Float) (fits : Fitting room 0 n (length l�
     longer-row : (i j : ℕ) → i < c → run crateRule 0 n given .cells i j ≡ run crateRule 0 c given .cells i j
     longer-row i j lt = sym (ap (λ (o : Outcome). o .cells i j) longer) ∙ columns-off crateRule i j 0 c n (run crateRule 0 c given) (λ k from below. inl (omega arith))
 
-    longer-refused : (run crateRule 0 c given .answer ≡ Done → ⊥) → run crateRule 0 c given .answer ≡ run crateRule 0 n given .answer
-    longer-refused refused = pick (isDone (run crateRule 0 c given .answer)) refl
-      where
-        pick : (b : Bool) → isDone (run crateRule 0 c given .answer) ≡ b → run crateRule 0 c given .answer ≡ run crateRule 0 n given .answer
-        pick true e = absurd (refused (done-is (run crateRule 0 c given .answer) e))
-        pick false e = ap (λ (o : Outcome). o .answer) (sym (stays crateRule 0 c n (run crateRule 0 c given) e) ∙ longer)
+    longer-refused : isDone (run crateRule 0 c given .answer) ≡ false → run crateRule 0 c given .answer ≡ run crateRule 0 n given .answer
+    longer-refused failed = ap (λ (o : Outcome). o .answer) (sym (stays crateRule 0 c n (run crateRule 0 c given) failed) ∙ longer)
 
-  pub demand3 : {c : ℕ} {l : List Float} {r : Answer} {whole : List Float} {w : Answer} → Batches room l₀ c l r → c ≤ n → Extended room 0 n l₀ whole w → SameAsOne room n l₀ c l r whole w
-  demand3 {c} {l} {r} {whole} {w} batches upto call = record {
-    refused = λ no. ends .answer ∙ longer-refused c upto (λ e. no (ends .answer ∙ e)) ∙ sym answered;
-    finished = λ all. ends .answer ∙ ap (λ (k : ℕ). run crateRule 0 k given .answer) all ∙ sym answered;
+    longer-done : run crateRule 0 c given .answer ≡ Done → RefusedIn c n (run crateRule 0 n given .answer)
+    longer-done done = subst (λ (o : Outcome). RefusedIn c n (o .answer)) longer (refused-in (columns-answered crateRule 0 c n (run crateRule 0 c given) done))
+
+  -- ---- the statement
+
+  pub demand3 : {e c : ℕ} {cuts : List ℕ} {l : List Float} {r : Answer} {whole : List Float} {w : Answer} → Rising 0 cuts e → e ≤ n → Batches room 0 l₀ cuts c l r → Extended room 0 n l₀ whole w
+      → SameAsOne room n l₀ e c l r whole w
+  demand3 {e} {c} {cuts} {l} {r} {whole} {w} rising upto batches call = record {
+    ended = λ all. pick all (isDone r) refl;
+    refused = refused;
+    within = subst (RefusedIn 0 c) (sym (ends .answer)) (unfold run in refused-in (columns-answered crateRule 0 0 c (started given) refl));
+    handed = batches-all rising batches;
+    later = λ passed. subst (RefusedIn e n) (sym answered) (longer-done e upto (subst (λ (k : ℕ). run crateRule 0 k given .answer ≡ Done) (batches-all rising batches passed) (sym (ends .answer) ∙ done-is r passed)));
     rows = ends .leaves .holds .cells ∙ agree-mask (in-room room c) same ∙ sym (load-is (lower (in-room room c)) whole (load (lower (in-room room c)) whole) (λ i j t. sym (load-in (lower (in-room room c)) whole i j t)));
     kept = ends .leaves .holds .kept;
+    buffer = λ all. holds-unique (subst (λ (k : ℕ). Ends (in-room room k) l₀ l r (run crateRule 0 k given)) all ends .leaves .holds) (call .leaves fits .holds);
   }
     where
+      inside : c ≤ n
+      inside = let stop : c ≤ e = batches-upto rising batches in omega arith
+
       ends : Ends (in-room room c) l₀ l r (run crateRule 0 c given)
-      ends = batches-run batches upto
+      ends = batches-run room n l₀ fits rising upto batches
 
       answered : w ≡ run crateRule 0 n given .answer
       answered = call .answer ∙ checked-fitting room 0 n (length l₀) fits (batch room 0 n l₀ .answer)
 
+      refused : isDone r ≡ false → r ≡ w
+      refused failed = ends .answer ∙ longer-refused c inside (ap isDone (sym (ends .answer)) ∙ failed) ∙ sym answered
+
+      pick : e ≡ n → (b : Bool) → isDone r ≡ b → r ≡ w
+      pick all true passed = ends .answer ∙ ap (λ (k : ℕ). run crateRule 0 k given .answer) (batches-all rising batches passed ∙ all) ∙ sym answered
+      pick all false failed = refused failed
+
       same : Agree c (run crateRule 0 c given .cells) (load (lower (in-room room c)) whole)
       same = record {
         at = λ i j le lt.
-            sym (longer-row c upto i j lt)
+            let under : c ≤ n = inside in
+            sym (longer-row c inside i j lt)
             ∙ sym (leaves-agree (call .leaves fits) .at i j le (omega arith))
             ∙ lower-across room n c whole i j le (omega arith) lt;
       }
+
+-- ---- every input
+
+-- an accepted call passes codes 1 to 3
+accepted-fits : {room m k : ℕ} {l l' : List Float} {r : Answer} → Extended room m k l l' r → isDone r ≡ true → Fitting room m k (length l)
+accepted-fits {room} {m} {k} {l} {r = r} call passed = answered-fits room m k (length l) (batch room m k l .answer) r (call .answer) (eqb-true (codeOf r) 0 passed)
+
+-- and so does the one call, if all batches are accepted and there is one
+batches-fit : (room m e k : ℕ) (cuts : List ℕ) {c : ℕ} {l l' : List Float} {r : Answer} → Rising m (k ∷ cuts) e → Batches room m l (k ∷ cuts) c l' r → isDone r ≡ true → Fitting room m e (length l)
+batches-fit room m e k cuts rising (refused call failed) passed = absurd (subst T (sym passed ∙ failed) tt)
+batches-fit room m e k [] {l = l} rising (more call done rest) passed = subst (λ (e : ℕ). Fitting room m e (length l)) (rising .1) (accepted-fits call done)
+batches-fit room m e k (h ∷ cuts) rising (more call done rest) passed =
+    let first = accepted-fits call done in
+    let last = batches-fit room k e h cuts (rising .1) rest passed in
+    record { small = last .small; inside = last .inside; rising = omega arith; long = first .long }
+
+-- sizes that do not fit included: a batch is refused exactly if the one call is
+pub refused-alike : (room n : ℕ) (l₀ : List Float) {k c : ℕ} {cuts : List ℕ} {l : List Float} {r : Answer} {whole : List Float} {w : Answer}
+    → Rising 0 (k ∷ cuts) n → Batches room 0 l₀ (k ∷ cuts) c l r → Extended room 0 n l₀ whole w → isDone r ≡ isDone w
+refused-alike room n l₀ {k} {cuts = cuts} {r = r} {w = w} rising batches call = pick (check? room 0 n (length l₀))
+  where
+    pick : Checked room 0 n (length l₀) → isDone r ≡ isDone w
+    pick (fit f is) = ap isDone (demand3 room n l₀ f rising (omega arith) batches call .ended refl)
+    pick (unfit out x refuses is) = by (isDone r) refl
+      where
+        by : (b : Bool) → isDone r ≡ b → isDone r ≡ isDone w
+        by true passed = absurd (out (batches-fit room 0 n k cuts rising batches passed))
+        by false failed = failed ∙ sym (ap isDone (call .answer ∙ is (batch room 0 n l₀ .answer)) ∙ ne-eqb (codeOf x) 0 refuses)

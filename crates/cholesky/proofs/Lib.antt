@@ -8,7 +8,10 @@ pub mod Checks
 pub mod Rows
 pub mod Promises
 pub mod Batch
+pub mod Refusals
+pub mod Handed
 pub mod Demand3
+pub mod Exists
 pub mod ReaderLoops
 pub mod ReaderPromises
 pub mod SolvePromises

@@ -12,7 +12,7 @@ use Rattle.answer.specs.declared.Answer.the-variants.{Done, OutOfRange, OrderAb
 use Rattle.matrix.specs.Matrix.{Matrix, entry}
 use Rattle.matrix.specs.Loop.{turns, for}
 use Rattle.cholesky.specs.Column.{updated, divided}
-use Rattle.cholesky.specs.Run.{Rule, Outcome, isDone, updates, below, earlier, judged, worked, column, run}
+use Rattle.cholesky.specs.Run.{Rule, Outcome, isDone, updates, below, earlier, judged, worked, column}
 use Rattle.cholesky.proofs.Parts.{Agree, part-agree, updated-agree, entry-agree}
 
 pub done-is : (r : Answer) → isDone r ≡ true → r ≡ Done

@@ -25,12 +25,16 @@ module _ (room m n : ℕ) where
   pub fitting-roomy : {len : ℕ} → Fitting room m n len → Roomy (in-room room n)
   fitting-roomy f = record { ordered = f .inside; small = f .small }
 
-  pub fitting-checked : (len : ℕ) (x : Answer) → x ≡ checked room m n len Done → codeOf x ≡ 0 → Fitting room m n len
-  fitting-checked len x is code = pick (check? room m n len)
+  -- a call that is answered 0 passes the checks, whatever its work answers
+  pub answered-fits : (len : ℕ) (r x : Answer) → x ≡ checked room m n len r → codeOf x ≡ 0 → Fitting room m n len
+  answered-fits len r x is code = pick (check? room m n len)
     where
       pick : Checked room m n len → Fitting room m n len
       pick (fit f e) = f
-      pick (unfit none y refused e) = absurd (refused (ap codeOf (sym (e Done)) ∙ ap codeOf (sym is) ∙ code))
+      pick (unfit none y refused e) = absurd (refused (ap codeOf (sym (e r)) ∙ ap codeOf (sym is) ∙ code))
+
+  pub fitting-checked : (len : ℕ) (x : Answer) → x ≡ checked room m n len Done → codeOf x ≡ 0 → Fitting room m n len
+  fitting-checked len = answered-fits len Done
 
   pub checked-fitting : (len : ℕ) → Fitting room m n len → (r : Answer) → checked room m n len r ≡ r
   checked-fitting len f = pick (check? room m n len)

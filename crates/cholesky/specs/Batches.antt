@@ -1,27 +1,46 @@
--- Batches of rows, and what they share with the one call on the whole matrix.
+-- Batches of rows over a list of cuts, and what they share with the one call on the whole matrix.
 use mathlib.Core.Path.{_≡_}
-use mathlib.Core.List.{List}
-use Prim.Native.Nat.{ℕ, _≤_}
+use mathlib.Core.Bool.{true, false}
+use mathlib.Core.List.{List, [], _∷_}
+use Prim.Native.Nat.{ℕ, _≤_, _<_}
 use lib.Ieee.{Float}
 use Rattle.answer.specs.declared.Answer.{Answer}
 use Rattle.answer.specs.declared.Answer.the-variants.{Done}
+use Rattle.answer.specs.Number.{placeOf}
 use Rattle.matrix.specs.Grid.{load, Kept}
 use Rattle.matrix.specs.Layouts.{lower}
+use Rattle.cholesky.specs.Run.{isDone}
 use Rattle.cholesky.specs.Promise.{in-room, Extended}
 
--- Calls of `extend` on one buffer, l₀ at first, over a rising list of cuts: c rows are handed in, the buffer is l, the last answer is r.
--- No call follows a refusal. A batch may have no rows.
-pub data Batches (room : ℕ) (l₀ : List Float) : ℕ → List Float → Answer → Type 0 where
-  none : Batches room l₀ 0 l₀ Done
-  more : {m n : ℕ} {l l' : List Float} {r : Answer} → Batches room l₀ m l Done → m ≤ n → Extended room m n l l' r → Batches room l₀ n l' r
+-- the cuts rise from m and end at e: m ≤ c₁ ≤ c₂ ≤ … ≤ e, the last one e; with no cut, m is e
+abbrev pub Rising : ℕ → List ℕ → ℕ → Type 0
+Rising m [] e = m ≡ e
+Rising m (c ∷ cuts) e = (m ≤ c) × Rising c cuts e
 
--- c rows handed in, with buffer l and last answer r, beside the one call on n rows, which leaves `whole` and answers w
-pub record SameAsOne (room n : ℕ) (l₀ : List Float) (c : ℕ) (l : List Float) (r : Answer) (whole : List Float) (w : Answer) : Type 0 where
-  -- a batch is refused as the one call is
-  pub refused : (r ≡ Done → ⊥) → r ≡ w
-  -- all rows handed in: the one call's answer
-  pub finished : c ≡ n → r ≡ w
-  -- the rows handed in are what the one call leaves
+-- Calls of `extend` on one buffer, l at first with m rows factored, for one cut after another. No call follows a refusal.
+-- They stop with c rows handed in, the buffer l' and the last answer r, `Done` where there is no cut. A batch may have no rows.
+pub data Batches (room : ℕ) : ℕ → List Float → List ℕ → ℕ → List Float → Answer → Type 0 where
+  none : {m : ℕ} {l : List Float} → Batches room m l [] m l Done
+  refused : {m c : ℕ} {l l' : List Float} {r : Answer} {cuts : List ℕ} → Extended room m c l l' r → isDone r ≡ false → Batches room m l (c ∷ cuts) c l' r
+  more : {m k c : ℕ} {l l' l″ : List Float} {r r' : Answer} {cuts : List ℕ}
+      → Extended room m k l l' r → isDone r ≡ true → Batches room k l' cuts c l″ r' → Batches room m l (k ∷ cuts) c l″ r'
+
+-- refused, if at all, at one of the rows lo to hi
+abbrev pub RefusedIn : ℕ → ℕ → Answer → Type 0
+RefusedIn lo hi r = isDone r ≡ false → (lo ≤ placeOf r) × (placeOf r < hi)
+
+-- Batches over cuts that end at e stopped with c rows handed in, the buffer l and the answer r; the one call on n rows leaves `whole` and answers w.
+pub record SameAsOne (room n : ℕ) (l₀ : List Float) (e c : ℕ) (l : List Float) (r : Answer) (whole : List Float) (w : Answer) : Type 0 where
+  -- the cuts end at n: a batch is refused exactly if the one call is, with the same code and row
+  pub ended : e ≡ n → r ≡ w
+  -- they end anywhere: a batch that is refused is refused as the one call is, at a row handed in
+  pub refused : isDone r ≡ false → r ≡ w
+  pub within : RefusedIn 0 c r
+  -- no batch is refused: all rows are handed in, and the one call is refused, if at all, at a later row
+  pub handed : isDone r ≡ true → c ≡ e
+  pub later : isDone r ≡ true → RefusedIn e n w
+  -- the rows handed in are what the one call leaves, later rows and all else are as given
   pub rows : load (lower (in-room room c)) l ≡ load (lower (in-room room c)) whole
-  -- later rows, and all else, are as given
   pub kept : Kept (lower (in-room room c)) l₀ l
+  -- so that with all n rows handed in the buffers are the same
+  pub buffer : c ≡ n → l ≡ whole

@@ -4,7 +4,6 @@ use mathlib.Core.Bool.{Bool, true, false, cond}
 use mathlib.Core.List.{List}
 use Prim.Native.Nat.{ℕ, _+_, _≤_, _<_}
 use native.Mathlib.Omega.{arith}
-use borrow.Author.Tests.{le-ltb}
 use lib.ListN.{length}
 use lib.Ieee.{Float, binary64, mul, div, neg, lt}
 use Rattle.answer.specs.declared.Answer.{Answer}
@@ -15,18 +14,19 @@ use Rattle.matrix.specs.Loop.{for}
 use Rattle.matrix.specs.Grid.{load}
 use Rattle.matrix.specs.Layouts.{lower}
 use Rattle.cholesky.specs.Column.{updated}
-use Rattle.cholesky.specs.Run.{Outcome, isDone, updates, worked, column, run}
+use Rattle.cholesky.specs.Run.{Outcome, isDone, column, run}
 use Rattle.cholesky.specs.Crate.{zero, positive, crateRule}
 use Rattle.cholesky.specs.Leaves.{Ends}
 use Rattle.cholesky.specs.Promise.{in-room, Fitting, Extended}
-use Rattle.cholesky.specs.Batches.{Batches, more}
+use Rattle.cholesky.specs.Batches.{Rising, Batches}
 use Rattle.cholesky.proofs.Parts.{leaves-agree}
 use Rattle.cholesky.proofs.Outcomes.{stays}
-use Rattle.cholesky.proofs.Demand3.{batches-run}
-use Rattle.lblt.proofs.Loops.{for-keeps}
+use Rattle.cholesky.proofs.Refusals.{Answered, columns-answered, positive-refused}
+use Rattle.cholesky.proofs.Refusals as refusals
+use Rattle.cholesky.proofs.Handed.{batches-more, batches-run}
 use Rattle.twins.specs.Twins.{Twins}
 use Rattle.twins.proofs.Clauses.{Lower, lower-of-twins}
-use Rattle.twin_laws.proofs.Cholesky.{reduced, reduced-same, remainder, ruled, judged-answer, After, Accepted, Updated, onward, accepted-before, stands, right-of, diagonal-of, refused-diagonal, twin-left, twin-diagonal, twin-beside, twin-rest, twin-next, twin-refused, twin-between}
+use Rattle.twin_laws.proofs.Cholesky.{reduced, reduced-same, remainder, ruled, After, Accepted, Updated, onward, accepted-before, stands, right-of, diagonal-of, refused-diagonal, twin-left, twin-diagonal, twin-beside, twin-rest, twin-next, twin-refused, twin-between}
 
 -- ---- what is said of the call
 
@@ -76,27 +76,20 @@ ruled-is x j = pick (lt zero x)
     pick true = refl
     pick false = refl
 
-module _ (lo hi : ℕ) where
-  one-answers : (j : ℕ) → lo ≤ j → j < hi → (b : Bool) → Answers lo hi (cond b Done (NotPositive j))
-  one-answers j from upto true = done refl
-  one-answers j from upto false = refused j from upto refl
-
-  answers : (o : Outcome) → o .answer ≡ Done → Answers lo hi (for lo hi (column crateRule 0) o .answer)
-  unfolding column worked
-  answers o start = for-keeps (λ (x : Outcome). Answers lo hi (x .answer)) lo hi (column crateRule 0) o (done start) (λ j x from upto h. more-answers j x from upto h (isDone (x .answer)))
-    where
-      more-answers : (j : ℕ) (x : Outcome) → lo ≤ j → j < hi → Answers lo hi (x .answer) → (b : Bool) → Answers lo hi (cond {A = Outcome} b (worked crateRule 0 j (x .cells)) x .answer)
-      more-answers j x from upto h true =
-          let U = updates j j (x .cells) in
-          rw (le-ltb j 0 (omega arith)) (subst (Answers lo hi) (sym (judged-answer crateRule j U ∙ ruled-is (U j j) j)) (one-answers j from upto (lt zero (U j j))))
-      more-answers j x from upto h false = h
+answers : (lo hi : ℕ) (o : Outcome) → o .answer ≡ Done → Answers lo hi (for lo hi (column crateRule 0) o .answer)
+answers lo hi o start = pick (columns-answered crateRule 0 lo hi o start)
+  where
+    pick : {r : Answer} → Answered crateRule lo hi r → Answers lo hi r
+    pick (refusals.done is) = done is
+    pick (refusals.refused d j from upto turned is) = refused j from upto (is ∙ positive-refused d j turned)
 
 -- ---- the call
 
--- l₀ holds the rows as they were handed in. Batches up to row m were accepted and left l; then a call on rows m to n left l' and answered r.
-module _ (room m n p q : ℕ) (l₀ l l' : List Float) (r : Answer)
+-- l₀ holds the rows as they were handed in. Batches over cuts up to row m were accepted and left l; then a call on rows m to n left l' and answered r.
+module _ (room m n p q : ℕ) (cuts : List ℕ) (l₀ l l' : List Float) (r : Answer)
     (fits : Fitting room 0 n (length l₀))
-    (before : Batches room l₀ m l Done)
+    (rising : Rising 0 cuts m)
+    (before : Batches room 0 l₀ cuts m l Done)
     (call : Extended room m n l l' r)
     (earlier : p < m)
     (later : m ≤ q)
@@ -111,11 +104,14 @@ module _ (room m n p q : ℕ) (l₀ l l' : List Float) (r : Answer)
   given : Lower n A p q
   given = lower-of-twins n A p q (omega arith) within twins
 
+  ends-before : Ends (in-room room m) l₀ l Done (run crateRule 0 m A)
+  ends-before = batches-run room n l₀ fits rising (omega arith) before
+
   ends : Ends (in-room room n) l₀ l' r (run crateRule 0 n A)
-  ends = batches-run room n l₀ fits (more before (omega arith) call) (omega arith)
+  ends = batches-more room n l₀ fits ends-before (omega arith) (omega arith) call
 
   before-done : run crateRule 0 m A .answer ≡ Done
-  before-done = sym (batches-run room n l₀ fits before (omega arith) .answer)
+  before-done = sym (ends-before .answer)
 
   accepted-p : Accepted crateRule A (p + 1)
   accepted-p = accepted-before crateRule A (p + 1) m (omega arith) (ap isDone before-done)
