@@ -5,14 +5,19 @@ use std::process::Command;
 use std::{env, fs};
 
 fn main() {
-    println!("cargo:rerun-if-env-changed=URGYELPAT_PORT");
-    let given = match env::var_os("URGYELPAT_PORT") {
+    println!("cargo::rerun-if-env-changed=URGYELPAT_PORT");
+    let file = match env::var_os("URGYELPAT_PORT").filter(|file| !file.is_empty()) {
         Some(file) => PathBuf::from(file),
-        None => Path::new(&env::var_os("CARGO_MANIFEST_DIR").expect("cargo names it")).join("../../target/staticlib/liburgyelpat.a"),
+        None => repository().join("target/staticlib/liburgyelpat.a"),
     };
-    let file = fs::canonicalize(&given)
-        .unwrap_or_else(|e| panic!("{}: {e}. URGYELPAT_PORT names the port's archive or object file", given.display()));
-    println!("cargo:rerun-if-changed={}", file.display());
+    println!("cargo::rerun-if-changed={}", file.display());
+    if !file.is_file() {
+        let missing = format!("there is no {}", file.display());
+        println!(
+            "cargo::error=the port is not at hand: {missing}; `rt staticlib urgyelpat` writes the archive, and URGYELPAT_PORT can name another"
+        );
+        return;
+    }
     let out = PathBuf::from(env::var_os("OUT_DIR").expect("cargo names it"));
     let archive = out.join("liburgyelpat_port.a");
     if file.extension().is_some_and(|e| e == "a") {
@@ -22,6 +27,11 @@ fn main() {
         let made = Command::new("ar").arg("crs").arg(&archive).arg(&file).status().expect("ar");
         assert!(made.success(), "ar could not make an archive of {}", file.display());
     }
-    println!("cargo:rustc-link-search=native={}", out.display());
-    println!("cargo:rustc-link-lib=static=urgyelpat_port");
+    println!("cargo::rustc-link-search=native={}", out.display());
+    println!("cargo::rustc-link-lib=static=urgyelpat_port");
+}
+
+fn repository() -> PathBuf {
+    let here = env::var_os("CARGO_MANIFEST_DIR").expect("cargo names it");
+    fs::canonicalize(Path::new(&here).join("../..")).expect("the repository")
 }

@@ -30,11 +30,11 @@ impl IndexMut<(usize, usize)> for Lent<'_> {
     }
 }
 
-/// `max` drops a NaN if the other number is none.
+/// Of two sizes: `max` drops a NaN if the other number is none. Sizes have the order of their bits.
 fn max(x: f64, y: f64) -> f64 {
     if x.is_nan() {
         y
-    } else if y.is_nan() || x >= y {
+    } else if y.is_nan() || x.to_bits() >= y.to_bits() {
         x
     } else {
         y

@@ -1,11 +1,16 @@
 //! Document 01's cases, answered by the text and by document 01's steps; Cholesky's solve and rows that came twice, by the steps.
 
+use std::hint::black_box;
+
+use oracle::RealField;
 use oracle::call::{Calls, word, words};
 use oracle::cases::fill;
 use oracle::paper::Paper;
 use oracle::text::Text;
 
 const BOTH: [&dyn Calls; 2] = [&Text, &Paper];
+
+const SIGNALLING: f64 = f64::from_bits(0x7ff0_0000_0000_0001);
 
 /// A matrix by its lower rows.
 fn matrix(n: usize, lower: &[f64]) -> Vec<f64> {
@@ -29,6 +34,25 @@ fn factored(calls: &dyn Calls, n: usize, rows: &[f64]) -> (Vec<f64>, Vec<u32>) {
     (a, record)
 }
 
+/// The stand-in's `max`, on numbers that the compiler does not know.
+#[test]
+fn max() {
+    let max = |x: f64, y: f64| RealField::max(black_box(x), black_box(y));
+    for nan in [f64::NAN, -f64::NAN, SIGNALLING, -SIGNALLING] {
+        for x in [0.0, 1.0, -1.0, f64::INFINITY, f64::NEG_INFINITY] {
+            assert_eq!([max(nan, x), max(x, nan)], [x, x]);
+        }
+        assert!(max(nan, f64::NAN).is_nan() && max(f64::NAN, nan).is_nan());
+    }
+    assert_eq!(
+        [max(1.0, 2.0), max(2.0, 1.0), max(-1.0, -2.0), max(-1.0, 0.0), max(0.0, f64::INFINITY)],
+        [2.0, 2.0, -1.0, 0.0, f64::INFINITY]
+    );
+    // from 0 on, as the text takes it along a row: the compiler knows that one of the two is no NaN
+    let along = |row: &[f64]| row.iter().fold(0.0, |most, x| RealField::max(most, black_box(*x).abs()));
+    assert_eq!([along(&[SIGNALLING]), along(&[1.0, -SIGNALLING])], [0.0, 1.0]);
+}
+
 #[test]
 fn lblt() {
     for calls in BOTH {
@@ -48,8 +72,10 @@ fn lblt() {
         assert_eq!(calls.lblt_solve(&a, &record, &mut b, 2, 1), 6 * 4096);
         assert_eq!(b, [5.0, 3.0]);
 
-        let (_, record) = factored(calls, 1, &[f64::NAN]);
-        assert_eq!(record, [0, 1, 1]);
+        for nan in [f64::NAN, SIGNALLING] {
+            let (_, record) = factored(calls, 1, &[nan]);
+            assert_eq!(record, [0, 1, 1]);
+        }
 
         let (_, record) = factored(calls, 3, &[0.0, 3.0, 0.0, -3.0, 0.0, 0.0]);
         assert_eq!(record[0], 1);

@@ -26,11 +26,12 @@ fn reaches(left: f64, v: f64) -> bool {
 
 /// A share as a power of two and a number below 1, its digits cut off.
 fn power(x: f64) -> String {
-    if x == 0.0 || x.is_infinite() {
+    if !x.is_normal() {
         return x.to_string();
     }
-    let e = x.log2().floor() as i32 + 1;
-    format!("{:.5}·2^{e}", (x * 2f64.powi(-e) * 1e5).floor() / 1e5)
+    let (exponent, digits) = ((x.to_bits() >> 52) as i32, x.to_bits() << 12 >> 12);
+    let below_one = f64::from_bits(1022 << 52 | digits);
+    format!("{:.5}·2^{}", (below_one * 1e5).floor() / 1e5, exponent - 1022)
 }
 
 #[derive(Clone, Copy, Default)]
