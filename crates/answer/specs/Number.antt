@@ -1,5 +1,7 @@
 -- The numbers that come back: the code and the place of each answer, and the one number that holds both.
+use mathlib.Core.Bool.{Bool}
 use Prim.Native.Nat.{ℕ, _+_, _*_}
+use lib.Dec.{eqb}
 use Rattle.answer.specs.declared.Answer.{Answer}
 use Rattle.answer.specs.declared.Answer.the-variants.{Done, OutOfRange, OrderAboveRoom, MatrixLength, SliceLength, BadRecord, ZeroMark, NotPositive, ZeroDiagonal, BadLine}
 
@@ -14,6 +16,10 @@ codeOf (ZeroMark row) = 6
 codeOf (NotPositive column) = 7
 codeOf (ZeroDiagonal column) = 8
 codeOf (BadLine line) = 20
+
+-- done in every promise: code 0
+abbrev pub isDone : Answer → Bool
+isDone a = eqb (codeOf a) 0
 
 -- 0 where the answer names no row, column or line
 abbrev pub placeOf : Answer → ℕ

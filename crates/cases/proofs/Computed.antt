@@ -18,7 +18,7 @@ use Rattle.lblt.specs.Interchange.{swapBelow, swapBetween, interchange, brought
 use Rattle.lblt.specs.Step.{run, step, take, pivot1, pivot2, firstMark}
 use Rattle.lblt.specs.Update.{rank1At, rank1, scaleAt, eliminate1, update1, blockBy, blockAt, multiplier, work1, work2, rank2At, rank2By, rank2, update2}
 use Rattle.lblt_column.specs.Blocks.{bySize, rowsOf, blocksFrom, forwards, blocksTo, backwards}
-use Rattle.lblt_solve.specs.Calls.{readerAnswer, whenDone, solveAnswer}
+use Rattle.lblt_solve.specs.Calls.{readerAnswer, solveAnswer}
 use Rattle.lblt_column.specs.Column.{swapRows, lessOne, lessTwo, eliminateOne, eliminateTwo, forwardBlock, divideOne, blockDeterminant, divideTwo, divideBlock, lessProduct, gatherRow, backwardBlock, solveColumn}
 use Rattle.lblt_solve.specs.Diagonal.{timesBlock, determinantOf}
 use Rattle.cholesky.specs.Crate.{positive}
@@ -41,5 +41,5 @@ wanted c = c .wanted
 
 -- the worked cases, and twin rows
 pub all-cases : map given (table ++ twinTable) ≡ map wanted (table ++ twinTable)
-unfolding ofBits toBits lt le eq add sub mul div neg isNan absOf maximumOf rootOf entry exchange turns for falling load inUpper placeSquare upper paired marked blockOf faultFrom checked choose choiceBy contest rowMax alongRow downColumn columnMax greater begun factored recorded swapBelow swapBetween interchange brought1 brought2 run step take pivot1 pivot2 firstMark rank1At rank1 scaleAt eliminate1 update1 blockBy blockAt multiplier work1 work2 rank2At rank2By rank2 update2 bySize rowsOf blocksFrom forwards blocksTo backwards readerAnswer whenDone solveAnswer swapRows lessOne lessTwo eliminateOne eliminateTwo forwardBlock divideOne blockDeterminant divideTwo divideBlock lessProduct gatherRow backwardBlock solveColumn timesBlock determinantOf positive choleskyColumns fitted sliced trianglesAnswer plusProduct spreadRow lowerRow solveLower transposedRow solveTransposed solveTriangles total squared crossed diagonal lastEntry earlierEntry entryOf withDiagonal withColumn column nothing uduColumns uduPromised matrixOf rowBits lowerBits answered blank recordOf factorMatrix factorOf determinantBits floats bitsOf solveAnswered solutionOf imaxOf choleskyRun choleskyOf choleskySolutionOf choleskySolveAnswered uduOf lbltOf upperOf lastBits diagonalBits runBits uduGives uduOfSlice rootBits
+unfolding ofBits toBits lt le eq add sub mul div neg isNan absOf maximumOf rootOf entry exchange turns for falling load inUpper placeSquare upper paired marked blockOf faultFrom checked choose choiceBy contest rowMax alongRow downColumn columnMax greater begun factored recorded swapBelow swapBetween interchange brought1 brought2 run step take pivot1 pivot2 firstMark rank1At rank1 scaleAt eliminate1 update1 blockBy blockAt multiplier work1 work2 rank2At rank2By rank2 update2 bySize rowsOf blocksFrom forwards blocksTo backwards readerAnswer solveAnswer swapRows lessOne lessTwo eliminateOne eliminateTwo forwardBlock divideOne blockDeterminant divideTwo divideBlock lessProduct gatherRow backwardBlock solveColumn timesBlock determinantOf positive choleskyColumns fitted sliced trianglesAnswer plusProduct spreadRow lowerRow solveLower transposedRow solveTransposed solveTriangles total squared crossed diagonal lastEntry earlierEntry entryOf withDiagonal withColumn column nothing uduColumns uduPromised matrixOf rowBits lowerBits answered blank recordOf factorMatrix factorOf determinantBits floats bitsOf solveAnswered solutionOf imaxOf choleskyRun choleskyOf choleskySolutionOf choleskySolveAnswered uduOf lbltOf upperOf lastBits diagonalBits runBits uduGives uduOfSlice rootBits
 all-cases = refl

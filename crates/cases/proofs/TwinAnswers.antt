@@ -1,6 +1,6 @@
 -- What `first_twin_since` answers for some slices of two rows, and so `first_twin`. Assumes nothing.
-use mathlib.Core.Path.{_≡_, refl, ap, subst}
-use mathlib.Core.Bool.{true≢false}
+use mathlib.Core.Path.{_≡_, refl, sym, _∙_, ap, subst}
+use mathlib.Core.Bool.{true, true≢false}
 use mathlib.Core.List.{List}
 use Prim.Native.Nat.{ℕ, _≤_, _<_}
 use native.Mathlib.Decide.{decLe}
@@ -8,7 +8,7 @@ use native.Mathlib.Omega.{arith}
 use lib.Dec.{lit<}
 use lib.ListN.{length}
 use lib.Ieee.{Float, binary64, ofBits, eq}
-use Rattle.answer.specs.declared.Answer.the-variants.{Done}
+use Rattle.answer.specs.Number.{isDone}
 use Rattle.matrix.specs.Matrix.{Matrix}
 use Rattle.matrix.specs.Grid.{load}
 use Rattle.matrix.specs.Layouts.{startOf, inLower, placeIn, lower}
@@ -21,13 +21,13 @@ use Rattle.cases.specs.Twins.{upperTwins, cameTwice, cameOnce, factoredT
 
 -- ---- two rows, of which the first m came earlier
 
-module _ (m : ℕ) (slice : List ℕ) (fits : sizes 2 m 2 (length (floats slice)) ≡ Done) where
+module _ (m : ℕ) (slice : List ℕ) (fits : isDone (sizes 2 m 2 (length (floats slice))) ≡ true) where
   abbrev rows : Matrix
   rows = rowsIn 2 2 (floats slice)
 
   no-twins : (Twins 2 rows 0 1 → ⊥) → FirstTwinSince (floats slice) 2 m 2 Nothing
   no-twins differ = record {
-    refused = λ wrong. absurd (wrong fits);
+    refused = λ wrong. absurd (true≢false (sym fits ∙ wrong));
     found = λ done. none (λ r s apart since below twins. differ (only r s apart below twins));
   }
     where
@@ -39,7 +39,7 @@ module _ (m : ℕ) (slice : List ℕ) (fits : sizes 2 m 2 (length (floats slice)
 
   are-twins : m ≤ 1 → Twins 2 rows 0 1 → FirstTwinSince (floats slice) 2 m 2 (Pair 0 1)
   are-twins early twins = record {
-    refused = λ wrong. absurd (wrong fits);
+    refused = λ wrong. absurd (true≢false (sym fits ∙ wrong));
     found = λ done. pair (record {
       apart = lit< tt;
       since = early;

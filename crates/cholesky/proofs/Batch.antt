@@ -10,10 +10,11 @@ use lib.Dec.{ltb}
 use lib.Ieee.{binary64, div}
 use borrow.Author.Tests.{lt-ltb, le-ltb, ltb-true, ltb-false}
 use Rattle.answer.specs.declared.Answer.the-variants.{Done}
+use Rattle.answer.specs.Number.{isDone}
 use Rattle.matrix.specs.Matrix.{Matrix, entry}
 use Rattle.matrix.specs.Loop.{for}
 use Rattle.matrix.proofs.Loops.{for-none, for-more, for-same, for-join}
-use Rattle.cholesky.specs.Run.{Rule, Outcome, isDone, updates, below, earlier, judged, worked, column, started, run}
+use Rattle.cholesky.specs.Run.{Rule, Outcome, updates, below, earlier, judged, worked, column, started, run}
 use Rattle.cholesky.proofs.Parts.{Where, within, above, beside, where?, updated-agree}
 use Rattle.cholesky.proofs.Outcomes.{Like, stays, columns-like}
 use Rattle.cholesky.proofs.Rows.{Off, updates-in, updates-above, below-in, below-above, entry-off, columns-off, judged-passed}

@@ -7,13 +7,13 @@ use lib.Dec.{eqb, ltb}
 use borrow.Author.Tests.{lt-ltb, le-ltb, eq-eqb, ne-eqb, ltb-true, ltb-false, eqb-true, eqb-false}
 use Rattle.answer.specs.declared.Answer.{Answer}
 use Rattle.answer.specs.declared.Answer.the-variants.{OutOfRange, OrderAboveRoom, MatrixLength}
-use Rattle.answer.specs.Number.{codeOf}
+use Rattle.answer.specs.Number.{isDone}
 use Rattle.cholesky.specs.Promise.{checked, Fitting}
 
 module _ (room m n len : ℕ) where
   pub data Checked : Type 0 where
     fit : Fitting room m n len → ((r : Answer) → checked room m n len r ≡ r) → Checked
-    unfit : (Fitting room m n len → ⊥) → (x : Answer) → (codeOf x ≡ 0 → ⊥) → ((r : Answer) → checked room m n len r ≡ x) → Checked
+    unfit : (Fitting room m n len → ⊥) → (x : Answer) → isDone x ≡ false → ((r : Answer) → checked room m n len r ≡ x) → Checked
 
   -- each answer of the checks
   pub room-above : 1024 < room → (r : Answer) → checked room m n len r ≡ OutOfRange
@@ -48,14 +48,14 @@ module _ (room m n len : ℕ) where
   check? = pick (ltb 1024 room) (ltb 1024 n) (ltb 1024 m) (ltb room n) (ltb n m) (eqb len (room * room)) refl refl refl refl refl refl
     where
       pick : (a b c d e f : Bool) → ltb 1024 room ≡ a → ltb 1024 n ≡ b → ltb 1024 m ≡ c → ltb room n ≡ d → ltb n m ≡ e → eqb len (room * room) ≡ f → Checked
-      pick true b c d e f p q r s t u = unfit (λ x. omega (arith, ltb-true)) OutOfRange (λ z. omega arith) (room-above (ltb-true 1024 room p))
-      pick false true c d e f p q r s t u = unfit (λ x. omega (arith, ltb-true, ltb-false)) OutOfRange (λ z. omega arith) (order-above (ltb-false 1024 room p) (ltb-true 1024 n q))
-      pick false false true d e f p q r s t u = unfit (λ x. omega (arith, ltb-true, ltb-false)) OutOfRange (λ z. omega arith) (earlier-above (ltb-false 1024 room p) (ltb-false 1024 n q) (ltb-true 1024 m r))
-      pick false false false true e f p q r s t u = unfit (λ x. omega (arith, ltb-true)) OrderAboveRoom (λ z. omega arith) (no-room (ltb-false 1024 room p) (ltb-false 1024 n q) (ltb-false 1024 m r) (ltb-true room n s))
-      pick false false false false true f p q r s t u = unfit (λ x. omega (arith, ltb-true)) OrderAboveRoom (λ z. omega arith) (falling (ltb-false 1024 room p) (ltb-false 1024 n q) (ltb-false 1024 m r) (ltb-false room n s) (ltb-true n m t))
+      pick true b c d e f p q r s t u = unfit (λ x. omega (arith, ltb-true)) OutOfRange refl (room-above (ltb-true 1024 room p))
+      pick false true c d e f p q r s t u = unfit (λ x. omega (arith, ltb-true, ltb-false)) OutOfRange refl (order-above (ltb-false 1024 room p) (ltb-true 1024 n q))
+      pick false false true d e f p q r s t u = unfit (λ x. omega (arith, ltb-true, ltb-false)) OutOfRange refl (earlier-above (ltb-false 1024 room p) (ltb-false 1024 n q) (ltb-true 1024 m r))
+      pick false false false true e f p q r s t u = unfit (λ x. omega (arith, ltb-true)) OrderAboveRoom refl (no-room (ltb-false 1024 room p) (ltb-false 1024 n q) (ltb-false 1024 m r) (ltb-true room n s))
+      pick false false false false true f p q r s t u = unfit (λ x. omega (arith, ltb-true)) OrderAboveRoom refl (falling (ltb-false 1024 room p) (ltb-false 1024 n q) (ltb-false 1024 m r) (ltb-false room n s) (ltb-true n m t))
       pick false false false false false true p q r s t u =
           fit (record { small = ltb-false 1024 room p; inside = ltb-false room n s; rising = ltb-false n m t; long = eqb-true len (room * room) u })
           (fitted (ltb-false 1024 room p) (ltb-false 1024 n q) (ltb-false 1024 m r) (ltb-false room n s) (ltb-false n m t) (eqb-true len (room * room) u))
       pick false false false false false false p q r s t u =
-          unfit (λ x. eqb-false len (room * room) u (x .long)) MatrixLength (λ z. omega arith)
+          unfit (λ x. eqb-false len (room * room) u (x .long)) MatrixLength refl
           (wrong-length (ltb-false 1024 room p) (ltb-false 1024 n q) (ltb-false 1024 m r) (ltb-false room n s) (ltb-false n m t) (eqb-false len (room * room) u))

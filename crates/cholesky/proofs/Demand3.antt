@@ -8,10 +8,10 @@ use native.Mathlib.Omega.{arith}
 use lib.Dec.{T}
 use lib.ListN.{length}
 use lib.Ieee.{Float}
-use borrow.Author.Tests.{eqb-true, ne-eqb}
 use Rattle.answer.specs.declared.Answer.{Answer}
 use Rattle.answer.specs.declared.Answer.the-variants.{Done}
-use Rattle.answer.specs.Number.{codeOf}
+use Rattle.answer.specs.Number.{isDone}
+use Rattle.answer.proofs.Done.{done-is}
 use Rattle.matrix.specs.Matrix.{Matrix}
 use Rattle.matrix.specs.Loop.{for}
 use Rattle.matrix.specs.Grid.{load}
@@ -19,13 +19,13 @@ use Rattle.matrix.specs.Layouts.{lower}
 use Rattle.matrix.proofs.Loops.{for-join}
 use Rattle.matrix.proofs.Grids.{load-in, load-is, holds-unique}
 use Rattle.matrix.proofs.Places.{lower-across}
-use Rattle.cholesky.specs.Run.{Outcome, isDone, column, started, run}
+use Rattle.cholesky.specs.Run.{Outcome, column, started, run}
 use Rattle.cholesky.specs.Crate.{crateRule}
 use Rattle.cholesky.specs.Leaves.{Ends}
 use Rattle.cholesky.specs.Promise.{in-room, Fitting, batch, Extended}
 use Rattle.cholesky.specs.Batches.{Rising, Batches, refused, more, RefusedIn, SameAsOne}
 use Rattle.cholesky.proofs.Parts.{agree-mask, Agree, leaves-agree}
-use Rattle.cholesky.proofs.Outcomes.{done-is, stays}
+use Rattle.cholesky.proofs.Outcomes.{stays}
 use Rattle.cholesky.proofs.Rows.{columns-off}
 use Rattle.cholesky.proofs.Checks.{Checked, fit, unfit, check?}
 use Rattle.cholesky.proofs.Promises.{answered-fits, checked-fitting}
@@ -98,7 +98,7 @@ module _ (room n : ℕ) (l₀ : List Float) (fits : Fitting room 0 n (length l�
 
 -- an accepted call passes codes 1 to 3
 accepted-fits : {room m k : ℕ} {l l' : List Float} {r : Answer} → Extended room m k l l' r → isDone r ≡ true → Fitting room m k (length l)
-accepted-fits {room} {m} {k} {l} {r = r} call passed = answered-fits room m k (length l) (batch room m k l .answer) r (call .answer) (eqb-true (codeOf r) 0 passed)
+accepted-fits {room} {m} {k} {l} {r = r} call passed = answered-fits room m k (length l) (batch room m k l .answer) r (call .answer) passed
 
 -- and so does the one call, if all batches are accepted and there is one
 batches-fit : (room m e k : ℕ) (cuts : List ℕ) {c : ℕ} {l l' : List Float} {r : Answer} → Rising m (k ∷ cuts) e → Batches room m l (k ∷ cuts) c l' r → isDone r ≡ true → Fitting room m e (length l)
@@ -120,4 +120,4 @@ refused-alike room n l₀ {k} {cuts = cuts} {r = r} {w = w} rising batches call 
       where
         by : (b : Bool) → isDone r ≡ b → isDone r ≡ isDone w
         by true passed = absurd (out (batches-fit room 0 n k cuts rising batches passed))
-        by false failed = failed ∙ sym (ap isDone (call .answer ∙ is (batch room 0 n l₀ .answer)) ∙ ne-eqb (codeOf x) 0 refuses)
+        by false failed = failed ∙ sym (ap isDone (call .answer ∙ is (batch room 0 n l₀ .answer)) ∙ refuses)

@@ -12,13 +12,13 @@ use lib.Ieee.{Float, nan}
 use lib.Ieee.Bits.{is-true}
 use Rattle.answer.specs.declared.Answer.{Answer}
 use Rattle.answer.specs.declared.Answer.the-variants.{Done}
+use Rattle.answer.specs.Number.{isDone}
 use Rattle.matrix.specs.declared.Layout.{Layout}
 use Rattle.matrix.specs.Matrix.{Matrix}
 use Rattle.matrix.specs.Grid.{Sound, Free}
 use Rattle.matrix.specs.Layouts.{Roomy, startOf, placeIn, lower}
 use Rattle.matrix.proofs.Grids.{load-is}
 use Rattle.matrix.proofs.Places.{digits-row, digits-column}
-use Rattle.cholesky.specs.Run.{isDone}
 use Rattle.cholesky.specs.Leaves.{Leaves}
 use Rattle.cholesky.specs.Promise.{in-room, batch, Extended}
 use Rattle.cholesky.specs.Batches.{Batches, none, refused, more}

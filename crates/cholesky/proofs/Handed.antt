@@ -9,19 +9,21 @@ use lib.ListN.{length}
 use lib.Ieee.{Float}
 use Rattle.answer.specs.declared.Answer.{Answer}
 use Rattle.answer.specs.declared.Answer.the-variants.{Done}
+use Rattle.answer.specs.Number.{isDone}
+use Rattle.answer.proofs.Done.{done-is}
 use Rattle.matrix.specs.Matrix.{Matrix}
 use Rattle.matrix.specs.Loop.{for}
 use Rattle.matrix.specs.Grid.{load, Free}
 use Rattle.matrix.specs.Layouts.{startOf, placeIn, sizeOf, lower}
 use Rattle.matrix.proofs.Loops.{for-none}
 use Rattle.matrix.proofs.Places.{digits-row, in-lower, lower-at, lower-across}
-use Rattle.cholesky.specs.Run.{isDone, column, started, run}
+use Rattle.cholesky.specs.Run.{column, started, run}
 use Rattle.cholesky.specs.Crate.{crateRule}
 use Rattle.cholesky.specs.Leaves.{Ends}
 use Rattle.cholesky.specs.Promise.{in-room, Fitting, batch, Extended}
 use Rattle.cholesky.specs.Batches.{Rising, Batches, none, refused, more}
 use Rattle.cholesky.proofs.Parts.{entry-low, entry-left, agree-mask, leaves-agree, leaves-none, leaves-as}
-use Rattle.cholesky.proofs.Outcomes.{done-is, Like}
+use Rattle.cholesky.proofs.Outcomes.{Like}
 use Rattle.cholesky.proofs.Promises.{room-sound, checked-fitting}
 use Rattle.cholesky.proofs.Batch.{batch-like}
 

@@ -1,31 +1,20 @@
 -- The run on two matrices that agree on the first n rows: its columns below n answer alike and leave matrices that agree there.
 -- Assumes nothing.
 use mathlib.Core.Path.{_≡_, refl, _∙_, ap, ap₂, subst}
-use mathlib.Core.Bool.{Bool, true, false, cond, not}
+use mathlib.Core.Bool.{Bool, true, false, cond}
 use Prim.Native.Nat.{ℕ, zero, suc, _+_, _-_, _≤_, _<_}
 use native.Mathlib.Omega.{arith}
-use lib.Dec.{T, ltb}
+use lib.Dec.{ltb}
 use lib.Ieee.{Float, binary64, div}
 use borrow.Author.Tests.{ltb-true}
 use Rattle.answer.specs.declared.Answer.{Answer}
-use Rattle.answer.specs.declared.Answer.the-variants.{Done, OutOfRange, OrderAboveRoom, MatrixLength, SliceLength, BadRecord, ZeroMark, NotPositive, ZeroDiagonal, BadLine}
+use Rattle.answer.specs.declared.Answer.the-variants.{Done}
+use Rattle.answer.specs.Number.{isDone}
 use Rattle.matrix.specs.Matrix.{Matrix, entry}
 use Rattle.matrix.specs.Loop.{turns, for}
 use Rattle.cholesky.specs.Column.{updated, divided}
-use Rattle.cholesky.specs.Run.{Rule, Outcome, isDone, updates, below, earlier, judged, worked, column}
+use Rattle.cholesky.specs.Run.{Rule, Outcome, updates, below, earlier, judged, worked, column}
 use Rattle.cholesky.proofs.Parts.{Agree, part-agree, updated-agree, entry-agree}
-
-pub done-is : (r : Answer) → isDone r ≡ true → r ≡ Done
-done-is Done e = refl
-done-is OutOfRange e = absurd (subst (λ (b : Bool). T (not b)) e tt)
-done-is OrderAboveRoom e = absurd (subst (λ (b : Bool). T (not b)) e tt)
-done-is MatrixLength e = absurd (subst (λ (b : Bool). T (not b)) e tt)
-done-is SliceLength e = absurd (subst (λ (b : Bool). T (not b)) e tt)
-done-is (BadRecord k) e = absurd (subst (λ (b : Bool). T (not b)) e tt)
-done-is (ZeroMark k) e = absurd (subst (λ (b : Bool). T (not b)) e tt)
-done-is (NotPositive k) e = absurd (subst (λ (b : Bool). T (not b)) e tt)
-done-is (ZeroDiagonal k) e = absurd (subst (λ (b : Bool). T (not b)) e tt)
-done-is (BadLine k) e = absurd (subst (λ (b : Bool). T (not b)) e tt)
 
 pub record Like (n : ℕ) (o p : Outcome) : Type 0 where
   pub answer : o .answer ≡ p .answer

@@ -1,12 +1,13 @@
 -- The promise of `extend`: refused, worked, and unique. Assumes nothing.
 use mathlib.Core.Path.{_≡_, refl, sym, _∙_, ap}
+use mathlib.Core.Bool.{true, false, true≢false}
 use mathlib.Core.List.{List}
 use Prim.Native.Nat.{ℕ, _*_}
 use lib.ListN.{length}
 use lib.Ieee.{Float}
 use Rattle.answer.specs.declared.Answer.{Answer}
 use Rattle.answer.specs.declared.Answer.the-variants.{Done}
-use Rattle.answer.specs.Number.{codeOf}
+use Rattle.answer.specs.Number.{isDone}
 use Rattle.matrix.specs.Grid.{Sound, load}
 use Rattle.matrix.specs.Layouts.{Roomy, sizeOf, lower}
 use Rattle.matrix.proofs.Grids.{holds-unique}
@@ -25,15 +26,15 @@ module _ (room m n : ℕ) where
   pub fitting-roomy : {len : ℕ} → Fitting room m n len → Roomy (in-room room n)
   fitting-roomy f = record { ordered = f .inside; small = f .small }
 
-  -- a call that is answered 0 passes the checks, whatever its work answers
-  pub answered-fits : (len : ℕ) (r x : Answer) → x ≡ checked room m n len r → codeOf x ≡ 0 → Fitting room m n len
-  answered-fits len r x is code = pick (check? room m n len)
+  -- a call that is done passes the checks, whatever its work answers
+  pub answered-fits : (len : ℕ) (r x : Answer) → x ≡ checked room m n len r → isDone x ≡ true → Fitting room m n len
+  answered-fits len r x is done = pick (check? room m n len)
     where
       pick : Checked room m n len → Fitting room m n len
       pick (fit f e) = f
-      pick (unfit none y refused e) = absurd (refused (ap codeOf (sym (e r)) ∙ ap codeOf (sym is) ∙ code))
+      pick (unfit none y refused e) = absurd (true≢false (sym done ∙ ap isDone (is ∙ e r) ∙ refused))
 
-  pub fitting-checked : (len : ℕ) (x : Answer) → x ≡ checked room m n len Done → codeOf x ≡ 0 → Fitting room m n len
+  pub fitting-checked : (len : ℕ) (x : Answer) → x ≡ checked room m n len Done → isDone x ≡ true → Fitting room m n len
   fitting-checked len = answered-fits len Done
 
   pub checked-fitting : (len : ℕ) → Fitting room m n len → (r : Answer) → checked room m n len r ≡ r
@@ -44,16 +45,16 @@ module _ (room m n : ℕ) where
       pick (unfit none y refused e) = absurd (none f)
 
   -- a call that the checks refuse is answered so whatever its work would answer
-  pub checked-unfit : (len : ℕ) (x : Answer) → x ≡ checked room m n len Done → (codeOf x ≡ 0 → ⊥) → (Fitting room m n len → ⊥) × ((r : Answer) → x ≡ checked room m n len r)
-  checked-unfit len x is code = pick (check? room m n len)
+  pub checked-unfit : (len : ℕ) (x : Answer) → x ≡ checked room m n len Done → isDone x ≡ false → (Fitting room m n len → ⊥) × ((r : Answer) → x ≡ checked room m n len r)
+  checked-unfit len x is refused = pick (check? room m n len)
     where
       pick : Checked room m n len → (Fitting room m n len → ⊥) × ((r : Answer) → x ≡ checked room m n len r)
-      pick (fit f e) = absurd (code (ap codeOf (is ∙ e Done)))
-      pick (unfit none y refused e) = (none, λ r. is ∙ e Done ∙ sym (e r))
+      pick (fit f e) = absurd (true≢false (ap isDone (sym (is ∙ e Done)) ∙ refused))
+      pick (unfit none y wrong e) = (none, λ r. is ∙ e Done ∙ sym (e r))
 
-  pub extended-unfit : (l : List Float) (x : Answer) → x ≡ checked room m n (length l) Done → (codeOf x ≡ 0 → ⊥) → Extended room m n l l x
-  extended-unfit l x is code =
-      let none = checked-unfit (length l) x is code in
+  pub extended-unfit : (l : List Float) (x : Answer) → x ≡ checked room m n (length l) Done → isDone x ≡ false → Extended room m n l l x
+  extended-unfit l x is refused =
+      let none = checked-unfit (length l) x is refused in
       record { answer = none .1 (batch room m n l .answer); leaves = λ f. absurd (none .0 f); unchanged = λ h. refl }
 
   pub extended-fit : {l₀ l : List Float} {r : Answer} → Fitting room m n (length l₀) → Ends (in-room room n) l₀ l r (run crateRule m n (load (lower (in-room room n)) l₀)) → Extended room m n l₀ l r

@@ -7,10 +7,10 @@ use lib.Dec.{T, ltb}
 use lib.Ieee.{Float, lt}
 use Rattle.answer.specs.declared.Answer.{Answer}
 use Rattle.answer.specs.declared.Answer.the-variants.{Done, NotPositive}
-use Rattle.answer.specs.Number.{placeOf}
+use Rattle.answer.specs.Number.{placeOf, isDone}
 use Rattle.matrix.specs.Matrix.{Matrix, entry}
 use Rattle.matrix.specs.Loop.{turns, for}
-use Rattle.cholesky.specs.Run.{Rule, Outcome, isDone, updates, below, earlier, judged, worked, column}
+use Rattle.cholesky.specs.Run.{Rule, Outcome, updates, below, earlier, judged, worked, column}
 use Rattle.cholesky.specs.Crate.{positive, crateRule}
 use Rattle.cholesky.specs.Crate as crate
 use Rattle.cholesky.specs.Batches.{RefusedIn}

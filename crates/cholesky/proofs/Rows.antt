@@ -8,10 +8,11 @@ use lib.Dec.{T, eqb, ltb}
 use lib.Ieee.{Float, binary64, div}
 use borrow.Author.Tests.{ltb-true, eq-eqb, ne-eqb}
 use Rattle.answer.specs.declared.Answer.the-variants.{Done}
+use Rattle.answer.specs.Number.{isDone}
 use Rattle.matrix.specs.Matrix.{Matrix, entry}
 use Rattle.matrix.specs.Loop.{turns, for}
 use Rattle.cholesky.specs.Column.{updated, divided, part}
-use Rattle.cholesky.specs.Run.{Rule, Outcome, isDone, updates, below, earlier, judged, worked, column}
+use Rattle.cholesky.specs.Run.{Rule, Outcome, updates, below, earlier, judged, worked, column}
 use Rattle.cholesky.proofs.Parts.{part-in, part-above, part-beside}
 
 -- ---- entries of an updated and of a divided column

@@ -1,14 +1,15 @@
 -- The laws of the engine's loop over columns. Assumes nothing.
 use mathlib.Core.Path.{_≡_, refl, sym, _∙_, ap, subst}
-use mathlib.Core.Bool.{true}
+use mathlib.Core.Bool.{true, false}
 use mathlib.Core.List.{List}
 use Prim.Native.Nat.{ℕ, _+_, _≤_, _<_}
 use native.Mathlib.Omega.{arith}
 use lib.Ieee.{Float}
-use borrow.Author.Tests.{lt-ltb, le-ltb, eq-eqb, ne-eqb}
+use borrow.Author.Tests.{lt-ltb, le-ltb}
 use Rattle.answer.specs.declared.Answer.{Answer}
 use Rattle.answer.specs.declared.Answer.the-variants.{Done}
-use Rattle.answer.specs.Number.{codeOf}
+use Rattle.answer.specs.Number.{isDone}
+use Rattle.answer.proofs.Done.{done-is}
 use Rattle.matrix.specs.declared.Layout.{Layout}
 use Rattle.matrix.specs.Matrix.{Matrix, entry}
 use Rattle.matrix.specs.Loop.{for}
@@ -17,12 +18,12 @@ use Rattle.matrix.specs.Layouts.{lower}
 use Rattle.matrix.proofs.Loops.{for-none, for-one, for-join}
 use Rattle.cholesky.specs.declared.engine.Verdict.{Verdict}
 use Rattle.cholesky.specs.declared.engine.Step.{Step}
-use Rattle.cholesky.specs.Run.{Rule, Outcome, isDone, updates, below, earlier, judged, worked, column, started, run}
+use Rattle.cholesky.specs.Run.{Rule, Outcome, updates, below, earlier, judged, worked, column, started, run}
 use Rattle.cholesky.specs.Crate.{crateRule}
 use Rattle.cholesky.specs.Leaves.{Leaves, Ends}
 use Rattle.cholesky.specs.Engine.{Judgement, Advanced}
 use Rattle.cholesky.proofs.Parts.{leaves-agree, leaves-none, leaves-then}
-use Rattle.cholesky.proofs.Outcomes.{done-is, Like, stays, judged-like, below-agree, columns-like}
+use Rattle.cholesky.proofs.Outcomes.{Like, stays, judged-like, below-agree, columns-like}
 
 -- ---- one column
 
@@ -30,11 +31,10 @@ module _ (y : Layout) (l₀ : List Float) (j : ℕ) (d : Float) (v : Verdict) (i
   verdict-is : v .answer ≡ crateRule .verdict (load (lower y) l₀ j j) j
   verdict-is = by .answer ∙ ap (λ (d : Float). crateRule .verdict d j) is
 
-  pub finish-done : {l l' : List Float} → codeOf (v .answer) ≡ 0
+  pub finish-done : {l l' : List Float} → isDone (v .answer) ≡ true
       → Holds (lower y) l₀ l (entry (load (lower y) l₀) j j (v .root)) → Leaves y l l' (below (j + 1) j (load (lower y) l)) → Ends y l₀ l' Done (judged crateRule j (load (lower y) l₀))
   unfolding judged
-  finish-done {l} {l'} code put step =
-      let passes : isDone (v .answer) ≡ true = eq-eqb (codeOf (v .answer)) 0 code in
+  finish-done {l} {l'} passes put step =
       let rooted : load (lower y) l ≡ entry (load (lower y) l₀) j j (crateRule .root (load (lower y) l₀ j j)) =
       put .cells ∙ ap (entry (load (lower y) l₀) j j) (by .root passes ∙ ap (crateRule .root) is) in
       rw (ap isDone (sym verdict-is) ∙ passes)
@@ -49,10 +49,10 @@ module _ (y : Layout) (l₀ : List Float) (j : ℕ) (d : Float) (v : Verdict) (i
         };
       })
 
-  pub finish-refused : Sound (lower y) l₀ → (codeOf (v .answer) ≡ 0 → ⊥) → Ends y l₀ l₀ (v .answer) (judged crateRule j (load (lower y) l₀))
+  pub finish-refused : Sound (lower y) l₀ → isDone (v .answer) ≡ false → Ends y l₀ l₀ (v .answer) (judged crateRule j (load (lower y) l₀))
   unfolding judged
-  finish-refused good code =
-      rw (ap isDone (sym verdict-is) ∙ ne-eqb (codeOf (v .answer)) 0 code)
+  finish-refused good refused =
+      rw (ap isDone (sym verdict-is) ∙ refused)
       (record { answer = verdict-is; leaves = leaves-none good })
 
 module _ (ρ : Rule) (m j : ℕ) (M : Matrix) where
@@ -107,21 +107,21 @@ running-on {y} {m} {l₀} {j} {l} {l'} {s} u a =
     subst (Ends y l₀ l' (s .answer)) (for-join 0 j (s .next) (column crateRule m) (started (load (lower y) l₀)) (omega arith) (let h = a .onward in omega arith))
     (record { answer = a .ends .answer ∙ same .answer; leaves = leaves-then (u .ends .leaves) (a .ends .leaves) (same .cells) })
 
-pub running-more : {y : Layout} {m : ℕ} {l₀ : List Float} {j : ℕ} {l l' : List Float} {s : Step} → Running y m l₀ j l → Advanced y m j l l' s → codeOf (s .answer) ≡ 0
+pub running-more : {y : Layout} {m : ℕ} {l₀ : List Float} {j : ℕ} {l l' : List Float} {s : Step} → Running y m l₀ j l → Advanced y m j l l' s → isDone (s .answer) ≡ true
     → Running y m l₀ (s .next) l'
-running-more {y} {m} {l₀} {l' = l'} {s = s} u a code = record {
+running-more {y} {m} {l₀} {l' = l'} {s = s} u a done = record {
   upto = a .within;
-  ends = subst (λ (r : Answer). Ends y l₀ l' r (for 0 (s .next) (column crateRule m) (started (load (lower y) l₀)))) (done-is (s .answer) (eq-eqb (codeOf (s .answer)) 0 code)) (running-on u a);
+  ends = subst (λ (r : Answer). Ends y l₀ l' r (for 0 (s .next) (column crateRule m) (started (load (lower y) l₀)))) (done-is (s .answer) done) (running-on u a);
 }
 
-pub running-refused : {y : Layout} {m : ℕ} {l₀ : List Float} {j : ℕ} {l l' : List Float} {s : Step} → Running y m l₀ j l → Advanced y m j l l' s → (codeOf (s .answer) ≡ 0 → ⊥)
+pub running-refused : {y : Layout} {m : ℕ} {l₀ : List Float} {j : ℕ} {l l' : List Float} {s : Step} → Running y m l₀ j l → Advanced y m j l l' s → isDone (s .answer) ≡ false
     → Ends y l₀ l' (s .answer) (run crateRule m (y .order) (load (lower y) l₀))
 unfolding run
-running-refused {y} {m} {l₀} {l' = l'} {s = s} u a code =
+running-refused {y} {m} {l₀} {l' = l'} {s = s} u a refused =
     let e : Ends y l₀ l' (s .answer) (for 0 (s .next) (column crateRule m) (started (load (lower y) l₀))) = running-on u a in
     let o : Outcome = for 0 (s .next) (column crateRule m) (started (load (lower y) l₀)) in
     subst (Ends y l₀ l' (s .answer))
-    (sym (stays crateRule m (s .next) (y .order) o (ap isDone (sym (e .answer)) ∙ ne-eqb (codeOf (s .answer)) 0 code)) ∙ for-join 0 (s .next) (y .order) (column crateRule m) (started (load (lower y) l₀)) (omega arith) (a .within))
+    (sym (stays crateRule m (s .next) (y .order) o (ap isDone (sym (e .answer)) ∙ refused)) ∙ for-join 0 (s .next) (y .order) (column crateRule m) (started (load (lower y) l₀)) (omega arith) (a .within))
     e
 
 pub running-all : {y : Layout} {m : ℕ} {l₀ : List Float} {j : ℕ} {l : List Float} → Running y m l₀ j l → y .order ≤ j → Ends y l₀ l Done (run crateRule m (y .order) (load (lower y) l₀))

@@ -6,10 +6,9 @@ use Prim.Native.Nat.{ℕ, _≤_, _<_}
 use lib.Ieee.{Float}
 use Rattle.answer.specs.declared.Answer.{Answer}
 use Rattle.answer.specs.declared.Answer.the-variants.{Done}
-use Rattle.answer.specs.Number.{placeOf}
+use Rattle.answer.specs.Number.{placeOf, isDone}
 use Rattle.matrix.specs.Grid.{load, Kept}
 use Rattle.matrix.specs.Layouts.{lower}
-use Rattle.cholesky.specs.Run.{isDone}
 use Rattle.cholesky.specs.Promise.{in-room, Extended}
 
 -- the cuts rise from m and end at e: m ≤ c₁ ≤ c₂ ≤ … ≤ e, the last one e; with no cut, m is e

@@ -4,6 +4,7 @@ use mathlib.Core.Bool.{true}
 use mathlib.Core.List.{List}
 use Prim.Native.Nat.{ℕ, _≤_, _<_}
 use lib.Ieee.{Float, neg}
+use Rattle.answer.specs.Number.{isDone}
 use Rattle.matrix.specs.declared.Layout.{Layout}
 use Rattle.matrix.specs.Loop.{for}
 use Rattle.matrix.specs.Grid.{load}
@@ -12,7 +13,7 @@ use Rattle.cholesky.specs.declared.strip.Source.{Source}
 use Rattle.cholesky.specs.declared.engine.Verdict.{Verdict}
 use Rattle.cholesky.specs.declared.engine.Step.{Step}
 use Rattle.cholesky.specs.Column.{taken, part}
-use Rattle.cholesky.specs.Run.{isDone, column, started}
+use Rattle.cholesky.specs.Run.{column, started}
 use Rattle.cholesky.specs.Crate.{crateRule}
 use Rattle.cholesky.specs.Leaves.{Leaves, Ends}
 

@@ -1,6 +1,6 @@
 -- What is read from a factor.
 use mathlib.Core.Path.{_≡_}
-use mathlib.Core.Bool.{Bool, cond, _&&_}
+use mathlib.Core.Bool.{Bool, true, false, cond, _&&_}
 use mathlib.Core.List.{List}
 use Prim.Native.Nat.{ℕ, _*_}
 use lib.Dec.{eqb, leb, ltb}
@@ -9,12 +9,12 @@ use lib.Ieee.{Float, binary64, ofBits, mul}
 use Rattle.answer.specs.declared.Answer.{Answer}
 use Rattle.answer.specs.declared.Answer.the-variants.{Done, SliceLength}
 use Rattle.answer.specs.declared.Valued.{Valued}
+use Rattle.answer.specs.Number.{isDone}
 use Rattle.matrix.specs.declared.Layout.{Layout}
 use Rattle.matrix.specs.Matrix.{Matrix}
 use Rattle.matrix.specs.Loop.{for}
 use Rattle.matrix.specs.Grid.{Grid, Holds, load, mask}
 use Rattle.matrix.specs.Layouts.{placeIn, sizeOf, lower, square, Fills}
-use Rattle.cholesky.specs.Run.{isDone}
 use Rattle.cholesky.specs.Crate.{zero}
 use Rattle.cholesky.specs.Promise.{in-room, checked}
 
@@ -54,8 +54,8 @@ sliced total len = cond (eqb len total) Done SliceLength
 
 pub record Copied (room n : ℕ) (a l₀ l : List Float) (r : Answer) : Type 0 where
   pub answer : r ≡ checked room 0 n (length a) (sliced (n * n) (length l₀))
-  pub fills : r ≡ Done → Fills n l (mask (square n) (triangle (load (lower (in-room room n)) a)))
-  pub unchanged : (r ≡ Done → ⊥) → l ≡ l₀
+  pub fills : isDone r ≡ true → Fills n l (mask (square n) (triangle (load (lower (in-room room n)) a)))
+  pub unchanged : isDone r ≡ false → l ≡ l₀
 
 -- ---- unpack
 
@@ -72,5 +72,5 @@ zeroes i j = zero
 
 pub record Unpacked (room n : ℕ) (l₀ l : List Float) (r : Answer) : Type 0 where
   pub answer : r ≡ checked room 0 n (length l₀) Done
-  pub holds : r ≡ Done → Holds (strict (in-room room n)) l₀ l (mask (strict (in-room room n)) zeroes)
-  pub unchanged : (r ≡ Done → ⊥) → l ≡ l₀
+  pub holds : isDone r ≡ true → Holds (strict (in-room room n)) l₀ l (mask (strict (in-room room n)) zeroes)
+  pub unchanged : isDone r ≡ false → l ≡ l₀

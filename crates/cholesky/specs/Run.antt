@@ -1,11 +1,11 @@
 -- Cholesky over a rule for the diagonal. Rows are unlimited: the order is the number of columns, and what a slice stores.
-use mathlib.Core.Bool.{Bool, cond}
+use mathlib.Core.Bool.{cond}
 use Prim.Native.Nat.{ℕ, _+_}
-use lib.Dec.{eqb, ltb}
+use lib.Dec.{ltb}
 use lib.Ieee.{Float}
 use Rattle.answer.specs.declared.Answer.{Answer}
 use Rattle.answer.specs.declared.Answer.the-variants.{Done}
-use Rattle.answer.specs.Number.{codeOf}
+use Rattle.answer.specs.Number.{isDone}
 use Rattle.matrix.specs.Matrix.{Matrix, entry}
 use Rattle.matrix.specs.Loop.{for}
 use Rattle.cholesky.specs.Column.{updated, divided, part}
@@ -18,9 +18,6 @@ pub record Rule : Type 0 where
 pub record Outcome : Type 0 where
   pub answer : Answer
   pub cells : Matrix
-
-abbrev pub isDone : Answer → Bool
-isDone r = eqb (codeOf r) 0
 
 -- the rows from r on of column j, updated by the columns before it
 unfoldable pub updates : ℕ → ℕ → Matrix → Matrix

@@ -8,11 +8,11 @@ use lib.ListN.{length}
 use lib.Ieee.{Float}
 use Rattle.answer.specs.declared.Answer.{Answer}
 use Rattle.answer.specs.declared.Answer.the-variants.{OutOfRange}
+use Rattle.answer.specs.Number.{isDone}
 use Rattle.matrix.specs.Grid.{Grid, load}
 use Rattle.matrix.specs.Layouts.{lower}
 use Rattle.lblt_sides.specs.Columns.{eachColumn}
 use Rattle.cholesky_column.specs.Triangles.{solveTriangles}
-use Rattle.cholesky.specs.Run.{isDone}
 use Rattle.cholesky.specs.Promise.{in-room, checked}
 use Rattle.cholesky.specs.Readers.{sliced}
 

@@ -1,6 +1,6 @@
 -- The record that `factor` writes is accepted by the check, and its mark names a row of size 1 whose index is its own row.
 -- Assumes nothing.
-use mathlib.Core.Path.{_≡_, refl, sym, _∙_, subst}
+use mathlib.Core.Path.{_≡_, refl, sym, _∙_, ap, subst}
 use mathlib.Core.Bool.{Bool, true, false, cond}
 use mathlib.Core.List.{List}
 use mathlib.Core.Logic.{_⊎_, inl, inr}
@@ -12,7 +12,7 @@ use lib.Seq.{getD-set-same, getD-set-other}
 use lib.Ieee.{Float}
 use borrow.Author.Tests.{ltb-true, ltb-false, eqb-true}
 use Rattle.answer.specs.declared.Answer.{Answer}
-use Rattle.answer.specs.declared.Answer.the-variants.{Done}
+use Rattle.answer.specs.Number.{isDone}
 use Rattle.matrix.specs.Matrix.{Matrix}
 use Rattle.matrix.specs.Grid.{load}
 use Rattle.matrix.specs.Layouts.{lower}
@@ -85,11 +85,11 @@ module _ (n : ℕ) where
     own-mark = marks-kept n (factored n M words .words) (factored n M words .mark) written
 
 -- of `factor`'s promise
-module _ {n : ℕ} {a : List Float} {words : List ℕ} {r : Answer} {a' : List Float} {words' : List ℕ} (f : Factored n a words r a' words') (done : r ≡ Done) where
+module _ {n : ℕ} {a : List Float} {words : List ℕ} {r : Answer} {a' : List Float} {words' : List ℕ} (f : Factored n a words r a' words') (done : isDone r ≡ true) where
   pub factor-accepted : Accepted n words'
-  factor-accepted = subst (Accepted n) (sym (f .done done .pivots)) (accepted n (load (lower (full n)) a) words (done-sized n a words (sym (f .answer) ∙ done)))
+  factor-accepted = subst (Accepted n) (sym (f .done done .pivots)) (accepted n (load (lower (full n)) a) words (done-sized n a words (ap isDone (sym (f .answer)) ∙ done)))
 
   pub factor-marks : (markAt n words' ≡ 0) ⊎ Marks words' n (markAt n words')
   factor-marks =
       subst (λ (w : List ℕ). (markAt n w ≡ 0) ⊎ Marks w n (markAt n w)) (sym (f .done done .pivots))
-      (own-mark n (load (lower (full n)) a) words (done-sized n a words (sym (f .answer) ∙ done)))
+      (own-mark n (load (lower (full n)) a) words (done-sized n a words (ap isDone (sym (f .answer)) ∙ done)))

@@ -1,17 +1,18 @@
 -- What `factor` promises, way by way; two answers that meet the promise are equal. Assumes nothing.
-use mathlib.Core.Path.{_≡_, refl, sym, _∙_, ap}
+use mathlib.Core.Path.{_≡_, refl, sym, _∙_}
+use mathlib.Core.Bool.{true, false, true≢false}
 use mathlib.Core.List.{List}
-use mathlib.Core.Logic.{_⊎_, inl, inr, ⊎-elim}
 use Prim.Native.Nat.{ℕ, _*_, _≤_, _<_}
 use native.Mathlib.Nat.{mul-le-mul}
 use native.Mathlib.Omega.{arith}
-use lib.Dec.{ltb, eqb, lit<}
+use lib.Dec.{ltb, eqb}
 use lib.ListN.{length}
 use lib.Ieee.{Float}
 use borrow.Author.Tests.{lt-ltb, le-ltb, eq-eqb, ne-eqb, ltb-false, eqb-true}
-use Rattle.answer.specs.Number.{codeOf}
 use Rattle.answer.specs.declared.Answer.{Answer}
 use Rattle.answer.specs.declared.Answer.the-variants.{Done, OutOfRange, MatrixLength, SliceLength}
+use Rattle.answer.specs.Number.{isDone}
+use Rattle.answer.proofs.Done.{done-alike}
 use Rattle.matrix.specs.Grid.{Sound}
 use Rattle.matrix.specs.Layouts.{Roomy, lower, sizeOf}
 use Rattle.matrix.proofs.Grids.{holds-unique}
@@ -38,26 +39,23 @@ full-sound n a small long = record { fair = lower-fair (full n) (full-roomy n sm
 
 -- ---- the ways out
 
-not-done : (r : Answer) → 0 < codeOf r → r ≡ Done → ⊥
-not-done r code e = omega (arith, code, ap codeOf e)
-
 module _ {n : ℕ} {a : List Float} {words : List ℕ} where
-  refusal : {r : Answer} → r ≡ answerOf n a words → 0 < codeOf r → Factored n a words r a words
-  refusal {r} is code = record { answer = is; done = λ e. absurd (not-done r code e); refused = λ no. record { matrix = refl; pivots = refl } }
+  refusal : {r : Answer} → r ≡ answerOf n a words → isDone r ≡ false → Factored n a words r a words
+  refusal is refused = record { answer = is; done = λ e. absurd (true≢false (sym e ∙ refused)); refused = λ e. record { matrix = refl; pivots = refl } }
 
   pub out-of-range : 1024 < n → Factored n a words OutOfRange a words
   unfolding answerOf
-  out-of-range above = refusal (rw (lt-ltb 1024 n above)) (lit< tt)
+  out-of-range above = refusal (rw (lt-ltb 1024 n above)) refl
 
   module _ (small : n ≤ 1024) where
     pub matrix-length : (length a ≡ n * n → ⊥) → Factored n a words MatrixLength a words
     unfolding answerOf
-    matrix-length wrong = refusal (rw (le-ltb 1024 n small, ne-eqb (length a) (n * n) wrong)) (lit< tt)
+    matrix-length wrong = refusal (rw (le-ltb 1024 n small, ne-eqb (length a) (n * n) wrong)) refl
 
     module _ (long : length a ≡ n * n) where
       pub slice-length : (length words ≡ wordsOf n → ⊥) → Factored n a words SliceLength a words
       unfolding answerOf
-      slice-length wrong = refusal (rw (le-ltb 1024 n small, eq-eqb (length a) (n * n) long, ne-eqb (length words) (wordsOf n) wrong)) (lit< tt)
+      slice-length wrong = refusal (rw (le-ltb 1024 n small, eq-eqb (length a) (n * n) long, ne-eqb (length words) (wordsOf n) wrong)) refl
 
       pub finished : {a' : List Float} {words' words'' : List ℕ} {mark : ℕ}
           → length words ≡ wordsOf n → Steps (full n) a words a' words' mark → words'' ≡ marked n words' mark → Factored n a words Done a' words''
@@ -65,35 +63,24 @@ module _ {n : ℕ} {a : List Float} {words : List ℕ} where
       finished {a'} {words'} {words''} {mark} total steps marks = record {
         answer = rw (le-ltb 1024 n small, eq-eqb (length a) (n * n) long, eq-eqb (length words) (wordsOf n) total);
         done = λ e. record { matrix = steps .matrix; pivots = rw (steps .pairs, steps .mark) at marks };
-        refused = λ no. absurd (no refl);
+        refused = λ e. absurd (true≢false e);
       }
 
 -- ---- the promise fixes all that it speaks of
 
-abbrev Known : Answer → Type 0
-Known r = (r ≡ Done) ⊎ (r ≡ Done → ⊥)
-
-done? : (n : ℕ) (a : List Float) (words : List ℕ) → (answerOf n a words ≡ Done) ⊎ (answerOf n a words ≡ Done → ⊥)
-unfolding answerOf
-done? n a words =
-    either Known (ltb 1024 n) (λ t. inr (not-done OutOfRange (lit< tt)))
-    (λ f. either Known (eqb (length a) (n * n))
-    (λ t. either Known (eqb (length words) (wordsOf n)) (λ t. inl refl) (λ f. inr (not-done SliceLength (lit< tt))))
-    (λ f. inr (not-done MatrixLength (lit< tt))))
-
 abbrev Fit : ℕ → List ℕ → Answer → Type 0
-Fit n words r = r ≡ Done → Sized n words
+Fit n words r = isDone r ≡ true → Sized n words
 
 -- a call that is done was given an allowed order and as many words as it has
-pub done-sized : (n : ℕ) (a : List Float) (words : List ℕ) → answerOf n a words ≡ Done → Sized n words
+pub done-sized : (n : ℕ) (a : List Float) (words : List ℕ) → isDone (answerOf n a words) ≡ true → Sized n words
 unfolding answerOf
 done-sized n a words =
-    either (Fit n words) (ltb 1024 n) (λ t e. absurd (not-done OutOfRange (lit< tt) e))
+    either (Fit n words) (ltb 1024 n) (λ t e. absurd (true≢false (sym e)))
     (λ small. either (Fit n words) (eqb (length a) (n * n))
     (λ t. either (Fit n words) (eqb (length words) (wordsOf n))
     (λ total e. record { order = ltb-false 1024 n small; total = eqb-true (length words) (wordsOf n) total })
-    (λ f e. absurd (not-done SliceLength (lit< tt) e)))
-    (λ f e. absurd (not-done MatrixLength (lit< tt) e)))
+    (λ f e. absurd (true≢false (sym e))))
+    (λ f e. absurd (true≢false (sym e))))
 
 pub record Same (r r' : Answer) (a a' : List Float) (words words' : List ℕ) : Type 0 where
   pub answer : r ≡ r'
@@ -102,14 +89,14 @@ pub record Same (r r' : Answer) (a a' : List Float) (words words' : List ℕ) : 
 
 pub factored-unique : {n : ℕ} {a : List Float} {words : List ℕ} {r₁ r₂ : Answer} {a₁ a₂ : List Float} {words₁ words₂ : List ℕ}
     → Factored n a words r₁ a₁ words₁ → Factored n a words r₂ a₂ words₂ → Same r₁ r₂ a₁ a₂ words₁ words₂
-factored-unique {n} {a} {words} {r₁} {r₂} {a₁} {a₂} {words₁} {words₂} f g =
-    ⊎-elim
-    (λ done.
-    let s = f .done (f .answer ∙ done) in
-    let t = g .done (g .answer ∙ done) in
-    record { answer = f .answer ∙ sym (g .answer); matrix = holds-unique (s .matrix) (t .matrix); pivots = s .pivots ∙ sym (t .pivots) })
-    (λ no.
-    let s = f .refused (λ e. no (sym (f .answer) ∙ e)) in
-    let t = g .refused (λ e. no (sym (g .answer) ∙ e)) in
-    record { answer = f .answer ∙ sym (g .answer); matrix = s .matrix ∙ sym (t .matrix); pivots = s .pivots ∙ sym (t .pivots) })
-    (done? n a words)
+factored-unique {r₁ = r₁} {r₂} f g =
+    let same : r₁ ≡ r₂ = f .answer ∙ sym (g .answer) in
+    done-alike same
+    (λ e e'.
+    let s = f .done e in
+    let t = g .done e' in
+    record { answer = same; matrix = holds-unique (s .matrix) (t .matrix); pivots = s .pivots ∙ sym (t .pivots) })
+    (λ e e'.
+    let s = f .refused e in
+    let t = g .refused e' in
+    record { answer = same; matrix = s .matrix ∙ sym (t .matrix); pivots = s .pivots ∙ sym (t .pivots) })

@@ -1,6 +1,6 @@
 -- What `factor` promises.
 use mathlib.Core.Path.{_≡_}
-use mathlib.Core.Bool.{cond}
+use mathlib.Core.Bool.{true, false, cond}
 use mathlib.Core.List.{List}
 use Prim.Native.Nat.{ℕ, _*_}
 use lib.Dec.{ltb, eqb}
@@ -8,6 +8,7 @@ use lib.ListN.{length}
 use lib.Ieee.{Float}
 use Rattle.answer.specs.declared.Answer.{Answer}
 use Rattle.answer.specs.declared.Answer.the-variants.{Done, OutOfRange, MatrixLength, SliceLength}
+use Rattle.answer.specs.Number.{isDone}
 use Rattle.matrix.specs.Matrix.{Matrix}
 use Rattle.matrix.specs.Grid.{load, Holds}
 use Rattle.matrix.specs.Layouts.{lower}
@@ -48,5 +49,5 @@ pub record Untouched (a : List Float) (words : List ℕ) (a' : List Float) (word
 
 pub record Factored (n : ℕ) (a : List Float) (words : List ℕ) (r : Answer) (a' : List Float) (words' : List ℕ) : Type 0 where
   pub answer : r ≡ answerOf n a words
-  pub done : r ≡ Done → Stored n a words a' words'
-  pub refused : (r ≡ Done → ⊥) → Untouched a words a' words'
+  pub done : isDone r ≡ true → Stored n a words a' words'
+  pub refused : isDone r ≡ false → Untouched a words a' words'

@@ -1,5 +1,5 @@
 -- What a reader refuses, a law for each way out, and what it knows where it goes on.
-use mathlib.Core.Bool.{Bool, true, false, cond, _&&_, _||_}
+use mathlib.Core.Bool.{Bool, true, false, cond, _&&_, _||_, true≢false}
 use mathlib.Core.List.{List}
 use mathlib.Core.Path.{_≡_, refl, sym, ap, _∙_}
 use Prim.Native.Nat.{ℕ, _-_, _*_, _<_, _≤_}
@@ -9,13 +9,14 @@ use lib.Dec.{eqb, ltb}
 use lib.Ieee.{Float}
 use lib.ListN.{length}
 use Rattle.answer.specs.declared.Answer.{Answer}
-use Rattle.answer.specs.declared.Answer.the-variants.{Done, OutOfRange, MatrixLength, SliceLength, BadRecord, ZeroMark}
-use Rattle.answer.specs.Number.{codeOf}
+use Rattle.answer.specs.declared.Answer.the-variants.{Done, OutOfRange, MatrixLength, SliceLength, ZeroMark}
+use Rattle.answer.specs.Number.{isDone}
+use Rattle.answer.proofs.Done.{done-is}
 use Rattle.matrix.specs.Layouts.{Roomy, sizeOf, lower}
 use Rattle.matrix.proofs.Places.{lower-fair}
 use Rattle.pivots.specs.Words.{markAt, wordsOf}
-use Rattle.pivots.specs.Rule.{checked, Accepted, faultOf, soundMark}
-use Rattle.lblt_solve.specs.Calls.{whole, readerAnswer, whenDone, solveAnswer}
+use Rattle.pivots.specs.Rule.{checked, Accepted}
+use Rattle.lblt_solve.specs.Calls.{whole, readerAnswer, solveAnswer}
 use Rattle.lblt_column.specs.Engine.{Factored}
 
 module _ (n columns : ℕ) (a : List Float) (words : List ℕ) (other : List Float) where
@@ -72,31 +73,22 @@ pub record Admitted (n columns : ℕ) (a : List Float) (words : List ℕ) (other
   pub accepted : Accepted n words
   pub long : length other ≡ n * columns
 
-checked-done : (n : ℕ) (words : List ℕ) → codeOf (checked n words) ≡ 0 → checked n words ≡ Done
-unfolding checked
-checked-done n words = at (ltb (faultOf n words) n) (soundMark n words)
-  where
-    at : (rows mark : Bool) → codeOf (cond rows (BadRecord (faultOf n words)) (cond mark Done (BadRecord n))) ≡ 0 → cond rows (BadRecord (faultOf n words)) (cond mark Done (BadRecord n)) ≡ Done
-    at true mark e = absurd (omega arith)
-    at false true e = refl
-    at false false e = absurd (omega arith)
-
 pub admitted
     : (n columns : ℕ) (a : List Float) (words : List ℕ) (other : List Float)
-    → codeOf (readerAnswer n columns a words other) ≡ 0
+    → isDone (readerAnswer n columns a words other) ≡ true
     → Admitted n columns a words other
 unfolding readerAnswer
 admitted n columns a words other =
     at (ltb 1024 n) (ltb 1024 columns) (eqb (length a) (n * n)) (eqb (length words) (wordsOf n)) (eqb (length other) (n * columns)) refl refl refl refl refl
   where
     at : (p q r s t : Bool) → ltb 1024 n ≡ p → ltb 1024 columns ≡ q → eqb (length a) (n * n) ≡ r → eqb (length words) (wordsOf n) ≡ s → eqb (length other) (n * columns) ≡ t
-        → codeOf (cond (p || q) OutOfRange (cond r (cond (s && t) (checked n words) SliceLength) MatrixLength)) ≡ 0
+        → isDone (cond (p || q) OutOfRange (cond r (cond (s && t) (checked n words) SliceLength) MatrixLength)) ≡ true
         → Admitted n columns a words other
-    at true q r s t e₁ e₂ e₃ e₄ e₅ z = absurd (omega arith)
-    at false true r s t e₁ e₂ e₃ e₄ e₅ z = absurd (omega arith)
-    at false false false s t e₁ e₂ e₃ e₄ e₅ z = absurd (omega arith)
-    at false false true false t e₁ e₂ e₃ e₄ e₅ z = absurd (omega arith)
-    at false false true true false e₁ e₂ e₃ e₄ e₅ z = absurd (omega arith)
+    at true q r s t e₁ e₂ e₃ e₄ e₅ z = absurd (true≢false (sym z))
+    at false true r s t e₁ e₂ e₃ e₄ e₅ z = absurd (true≢false (sym z))
+    at false false false s t e₁ e₂ e₃ e₄ e₅ z = absurd (true≢false (sym z))
+    at false false true false t e₁ e₂ e₃ e₄ e₅ z = absurd (true≢false (sym z))
+    at false false true true false e₁ e₂ e₃ e₄ e₅ z = absurd (true≢false (sym z))
     at false false true true true e₁ e₂ e₃ e₄ e₅ z =
         let small : n ≤ 1024 = ltb-false 1024 n e₁ in
         record {
@@ -105,18 +97,10 @@ admitted n columns a words other =
           square = eqb-true (length a) (n * n) e₃;
           accepted = record {
             sized = record { order = small; total = eqb-true (length words) (wordsOf n) e₄ };
-            done = checked-done n words z;
+            done = z;
           };
           long = eqb-true (length other) (n * columns) e₅;
         }
-
-pub reader-done
-    : (n columns : ℕ) (a : List Float) (words : List ℕ) (other : List Float)
-    → codeOf (readerAnswer n columns a words other) ≡ 0
-    → readerAnswer n columns a words other ≡ Done
-reader-done n columns a words other z =
-    let m = admitted n columns a words other z in
-    sym (lengths-right n columns a words other (m .order) (m .few) (m .square) (m .accepted .sized .total) (m .long)) ∙ m .accepted .done
 
 -- the factor in its layout
 pub factored : {n columns : ℕ} {a : List Float} {words : List ℕ} {other : List Float} → Admitted n columns a words other → Factored (whole n) a words
@@ -130,49 +114,40 @@ factored {n} {columns} {a} m =
 
 -- ---- where a reader is done
 
-pub when-done : {S : Type 0} (r : Answer) (x y : S) → codeOf r ≡ 0 → whenDone r x y ≡ x
-unfolding whenDone
-when-done r x y e = rw (eq-eqb (codeOf r) 0 e)
-
-pub when-refused : {S : Type 0} (r : Answer) (x y : S) → (codeOf r ≡ 0 → ⊥) → whenDone r x y ≡ y
-unfolding whenDone
-when-refused r x y e = rw (ne-eqb (codeOf r) 0 e)
-
 module _ (n columns : ℕ) (a : List Float) (words : List ℕ) (b : List Float) {r : Answer} (read : r ≡ readerAnswer n columns a words b) where
-  pub solve-refused : (codeOf r ≡ 0 → ⊥) → r ≡ solveAnswer n columns a words b
+  pub solve-refused : isDone r ≡ false → r ≡ solveAnswer n columns a words b
   unfolding solveAnswer
-  solve-refused h = read ∙ sym (when-refused (readerAnswer n columns a words b) _ _ (λ z. h (ap codeOf read ∙ z)))
+  solve-refused refused = rw (ap isDone (sym read) ∙ refused) read
 
-  module _ (done : codeOf r ≡ 0) {mark : ℕ} (marks : mark ≡ markAt n words) where
+  module _ (done : isDone r ≡ true) {mark : ℕ} (marks : mark ≡ markAt n words) where
     solve-by : solveAnswer n columns a words b ≡ cond (eqb mark 0) Done (ZeroMark (mark - 1))
     unfolding solveAnswer
-    solve-by = rw marks (when-done (readerAnswer n columns a words b) _ _ (sym (ap codeOf read) ∙ done))
+    solve-by = rw (marks, ap isDone (sym read) ∙ done)
 
     pub solve-done : mark ≡ 0 → r ≡ solveAnswer n columns a words b
-    solve-done none =
-        read ∙ reader-done n columns a words b (sym (ap codeOf read) ∙ done) ∙ sym (solve-by ∙ rw (eq-eqb mark 0 none))
+    solve-done none = done-is r done ∙ sym (solve-by ∙ rw (eq-eqb mark 0 none))
 
     pub solve-marked : (mark ≡ 0 → ⊥) → ZeroMark (mark - 1) ≡ solveAnswer n columns a words b
     solve-marked set = sym (solve-by ∙ rw (ne-eqb mark 0 set))
 
 pub solve-admitted
     : (n columns : ℕ) (a : List Float) (words : List ℕ) (b : List Float)
-    → codeOf (solveAnswer n columns a words b) ≡ 0
+    → isDone (solveAnswer n columns a words b) ≡ true
     → Admitted n columns a words b
-unfolding solveAnswer whenDone
-solve-admitted n columns a words b = at (eqb (codeOf (readerAnswer n columns a words b)) 0) refl
+unfolding solveAnswer
+solve-admitted n columns a words b = at (isDone (readerAnswer n columns a words b)) refl
   where
-    at : (t : Bool) → eqb (codeOf (readerAnswer n columns a words b)) 0 ≡ t
-        → codeOf (cond t (cond (eqb (markAt n words) 0) Done (ZeroMark (markAt n words - 1))) (readerAnswer n columns a words b)) ≡ 0
+    at : (t : Bool) → isDone (readerAnswer n columns a words b) ≡ t
+        → isDone (cond t (cond (eqb (markAt n words) 0) Done (ZeroMark (markAt n words - 1))) (readerAnswer n columns a words b)) ≡ true
         → Admitted n columns a words b
-    at true e z = admitted n columns a words b (eqb-true _ _ e)
+    at true e z = admitted n columns a words b e
     at false e z = admitted n columns a words b z
 
 -- ---- by an answer that was given
 
-module _ (n columns : ℕ) (a : List Float) (words : List ℕ) (b : List Float) {r : Answer} (done : codeOf r ≡ 0) where
+module _ (n columns : ℕ) (a : List Float) (words : List ℕ) (b : List Float) {r : Answer} (done : isDone r ≡ true) where
   pub reader-admitted : r ≡ readerAnswer n columns a words b → Admitted n columns a words b
-  reader-admitted e = admitted n columns a words b (sym (ap codeOf e) ∙ done)
+  reader-admitted e = admitted n columns a words b (ap isDone (sym e) ∙ done)
 
   pub solver-admitted : r ≡ solveAnswer n columns a words b → Admitted n columns a words b
-  solver-admitted e = solve-admitted n columns a words b (sym (ap codeOf e) ∙ done)
+  solver-admitted e = solve-admitted n columns a words b (ap isDone (sym e) ∙ done)

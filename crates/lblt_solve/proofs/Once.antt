@@ -1,20 +1,14 @@
 -- Two answers that meet a public promise are equal, and so is all that they leave behind.
-use mathlib.Core.Bool.{Bool, true, false}
 use mathlib.Core.List.{List}
-use mathlib.Core.Path.{_≡_, refl, sym, ap, _∙_}
+use mathlib.Core.Path.{_≡_, sym, _∙_}
 use Prim.Native.Nat.{ℕ}
-use borrow.Author.Tests.{eqb-true, eqb-false}
-use lib.Dec.{eqb}
 use lib.Ieee.{Float}
 use Rattle.answer.specs.declared.Answer.{Answer}
 use Rattle.answer.specs.declared.Valued.{Valued}
-use Rattle.answer.specs.Number.{codeOf}
+use Rattle.answer.proofs.Done.{done-alike, value-alike}
 use Rattle.matrix.specs.Matrix.{Matrix}
 use Rattle.matrix.proofs.Squares.{fills-unique}
-use Rattle.lblt_solve.specs.Calls.{whenDone, Solved, Determined, Filled}
-
-when-same : {S : Type 0} {r r' : Answer} (x y : S) → r ≡ r' → whenDone r x y ≡ whenDone r' x y
-when-same x y e = ap (λ q. whenDone q x y) e
+use Rattle.lblt_solve.specs.Calls.{Solved, Determined, Filled}
 
 pub solved-once
     : {n columns : ℕ} {a : List Float} {words : List ℕ} {b : List Float} {r r' : Answer} {c c' : List Float}
@@ -22,7 +16,7 @@ pub solved-once
     → (r ≡ r') × (c ≡ c')
 solved-once s t =
     let same = s .answer ∙ sym (t .answer) in
-    (same, s .sides ∙ when-same _ _ same ∙ sym (t .sides))
+    (same, s .sides ∙ value-alike _ _ same ∙ sym (t .sides))
 
 pub determined-once
     : {n : ℕ} {a : List Float} {words : List ℕ} {r r' : Valued}
@@ -30,21 +24,12 @@ pub determined-once
     → (r .answer ≡ r' .answer) × (r .value ≡ r' .value)
 determined-once s t =
     let same = s .answer ∙ sym (t .answer) in
-    (same, s .value ∙ when-same _ _ same ∙ sym (t .value))
+    (same, s .value ∙ value-alike _ _ same ∙ sym (t .value))
 
 pub filled-once
     : {n : ℕ} {a : List Float} {words : List ℕ} {M : Matrix} {l : List Float} {r r' : Answer} {m m' : List Float}
     → Filled n a words M l r m → Filled n a words M l r' m'
     → (r ≡ r') × (m ≡ m')
-filled-once {r = r} {r'} {m} {m'} s t = (same, at (eqb (codeOf r) 0) refl)
-  where
-    same : r ≡ r'
-    same = s .answer ∙ sym (t .answer)
-
-    at : (d : Bool) → eqb (codeOf r) 0 ≡ d → m ≡ m'
-    at true e =
-        let done = eqb-true (codeOf r) 0 e in
-        fills-unique (s .filled done) (t .filled (sym (ap codeOf same) ∙ done))
-    at false e =
-        let refused = eqb-false (codeOf r) 0 e in
-        s .kept refused ∙ sym (t .kept (λ z. refused (ap codeOf same ∙ z)))
+filled-once s t =
+    let same = s .answer ∙ sym (t .answer) in
+    (same, done-alike same (λ e e'. fills-unique (s .filled e) (t .filled e')) (λ e e'. s .kept e ∙ sym (t .kept e')))

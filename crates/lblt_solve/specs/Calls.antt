@@ -1,5 +1,5 @@
 -- What the public calls answer and leave behind, refused ones too.
-use mathlib.Core.Bool.{cond, _&&_, _||_}
+use mathlib.Core.Bool.{true, false, cond, _&&_, _||_}
 use mathlib.Core.List.{List}
 use mathlib.Core.Path.{_≡_}
 use Prim.Native.Nat.{ℕ, _-_, _*_}
@@ -9,7 +9,7 @@ use lib.ListN.{length}
 use Rattle.answer.specs.declared.Answer.{Answer}
 use Rattle.answer.specs.declared.Answer.the-variants.{Done, OutOfRange, MatrixLength, SliceLength, ZeroMark}
 use Rattle.answer.specs.declared.Valued.{Valued}
-use Rattle.answer.specs.Number.{codeOf}
+use Rattle.answer.specs.Number.{isDone}
 use Rattle.matrix.specs.declared.Layout.{Layout}
 use Rattle.matrix.specs.Matrix.{Matrix}
 use Rattle.matrix.specs.Grid.{load}
@@ -35,28 +35,24 @@ readerAnswer n columns a words other =
     (cond (eqb (length words) (wordsOf n) && eqb (length other) (n * columns)) (checked n words) SliceLength)
     MatrixLength)
 
--- x where done, y where refused
-unfoldable pub whenDone : {S : Type 0} → Answer → S → S → S
-whenDone r x y = cond (eqb (codeOf r) 0) x y
-
 -- a zero mark refuses `solve_mut` alone, after all else
 unfoldable pub solveAnswer : ℕ → ℕ → List Float → List ℕ → List Float → Answer
-unfolding readerAnswer whenDone
+unfolding readerAnswer
 solveAnswer n columns a words b =
-    whenDone (readerAnswer n columns a words b)
+    cond (isDone (readerAnswer n columns a words b))
     (cond (eqb (markAt n words) 0) Done (ZeroMark (markAt n words - 1)))
     (readerAnswer n columns a words b)
 
 pub record Solved (n columns : ℕ) (a : List Float) (words : List ℕ) (b : List Float) (r : Answer) (b' : List Float) : Type 0 where
   pub answer : r ≡ solveAnswer n columns a words b
-  pub sides : b' ≡ whenDone r (eachColumn n columns (solveColumn n (lowerOf n a) words) b) b
+  pub sides : b' ≡ cond (isDone r) (eachColumn n columns (solveColumn n (lowerOf n a) words) b) b
 
 pub record Determined (n : ℕ) (a : List Float) (words : List ℕ) (r : Valued) : Type 0 where
   pub answer : r .answer ≡ readerAnswer n n a words a
-  pub value : r .value ≡ whenDone (r .answer) (determinantOf n (lowerOf n a) words) zeroFloat
+  pub value : r .value ≡ cond (isDone (r .answer)) (determinantOf n (lowerOf n a) words) zeroFloat
 
 -- a matrix M of n·n numbers is filled in where done, and as it was where refused
 pub record Filled (n : ℕ) (a : List Float) (words : List ℕ) (M : Matrix) (l : List Float) (r : Answer) (l' : List Float) : Type 0 where
   pub answer : r ≡ readerAnswer n n a words l
-  pub filled : codeOf r ≡ 0 → Fills n l' M
-  pub kept : (codeOf r ≡ 0 → ⊥) → l' ≡ l
+  pub filled : isDone r ≡ true → Fills n l' M
+  pub kept : isDone r ≡ false → l' ≡ l

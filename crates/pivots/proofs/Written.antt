@@ -5,12 +5,13 @@
 --     written-all             the mark is put at the end, and the record is accepted
 use mathlib.Core.List.{List}
 use mathlib.Core.Logic.{_⊎_, inl, inr}
-use mathlib.Core.Path.{_≡_, refl, sym, subst, _∙_}
+use mathlib.Core.Path.{_≡_, refl, sym, ap, subst, _∙_}
 use Prim.Native.Nat.{ℕ, _+_, _-_, _*_, _<_, _≤_}
 use native.Mathlib.Omega.{arith}
 use lib.ListN.{length, getD, set, length-set}
 use lib.Seq.{getD-set-same, getD-set-other}
 use Rattle.answer.specs.declared.Answer.the-variants.{Done}
+use Rattle.answer.specs.Number.{isDone}
 use Rattle.pivots.specs.Words.{indexWord, sizeWord, markWord, indexAt, sizeAt, markAt, Sized, paired, marked}
 use Rattle.pivots.specs.Rule.{faultOf, checked, Accepted}
 use Rattle.pivots.proofs.Blocks.{one-rows, two-rows}
@@ -197,7 +198,7 @@ passed {n} {words} (two {j = j} u t e) h =
 pub written-all : {n : ℕ} {words : List ℕ} {m : ℕ} → Written n words n m → Accepted n (marked n words m)
 unfolding marked
 written-all {n} {words} {m} w =
-    record { sized = record { order = w .sized .order; total = simp length-set (w .sized .total) }; done = sym (at (w .mark)) }
+    record { sized = record { order = w .sized .order; total = simp length-set (w .sized .total) }; done = ap isDone (sym (at (w .mark))) }
   where
     final : List ℕ
     final = marked n words m

@@ -1,11 +1,12 @@
 -- The rule of a pivot record, and what its check answers.
-use mathlib.Core.Bool.{Bool, cond, _&&_, _||_}
+use mathlib.Core.Bool.{Bool, true, cond, _&&_, _||_}
 use mathlib.Core.List.{List}
 use mathlib.Core.Path.{_≡_}
 use Prim.Native.Nat.{ℕ, zero, suc, _+_, _-_}
 use lib.Dec.{leb, ltb, eqb}
 use Rattle.answer.specs.declared.Answer.{Answer}
 use Rattle.answer.specs.declared.Answer.the-variants.{Done, BadRecord}
+use Rattle.answer.specs.Number.{isDone}
 use Rattle.pivots.specs.Words.{indexAt, sizeAt, markAt, Sized}
 
 -- size 1 at row k: an index in k..n−1
@@ -47,4 +48,4 @@ checked n words =
 -- a record that is accepted
 pub record Accepted (n : ℕ) (words : List ℕ) : Type 0 where
   pub sized : Sized n words
-  pub done : checked n words ≡ Done
+  pub done : isDone (checked n words) ≡ true

@@ -1,14 +1,14 @@
 -- The factor call on a square of at most 64 rows is done, its determinant is taken, and the page shows both.
 use mathlib.Core.Path.{_≡_, sym, ap, _∙_}
+use mathlib.Core.Bool.{Bool, true, cond}
 use mathlib.Core.List.{List}
 use Prim.Native.Nat.{ℕ, _*_, _≤_}
 use native.Mathlib.Omega.{arith}
 use borrow.Author.Tests.{le-ltb, eq-eqb}
 use lib.Ieee.{Float, binary64, toBits}
 use lib.ListN.{length}
-use Rattle.answer.specs.declared.Answer.{Answer}
-use Rattle.answer.specs.declared.Answer.the-variants.{Done}
 use Rattle.answer.specs.declared.Valued.{Valued}
+use Rattle.answer.specs.Number.{isDone}
 use Rattle.matrix.specs.Matrix.{Matrix}
 use Rattle.matrix.specs.Grid.{load}
 use Rattle.matrix.specs.Layouts.{startOf, lower}
@@ -17,7 +17,7 @@ use Rattle.pivots.specs.Words.{wordsOf, Sized}
 use Rattle.pivots.specs.Rule.{checked}
 use Rattle.lblt.specs.Factor.{answerOf, full, factored, recorded, Stored}
 use Rattle.lblt.proofs.Accepted.{accepted}
-use Rattle.lblt_solve.specs.Calls.{lowerOf, readerAnswer, whenDone, Determined}
+use Rattle.lblt_solve.specs.Calls.{lowerOf, readerAnswer, Determined}
 use Rattle.lblt_solve.specs.Diagonal.{zeroFloat, determinantOf}
 use Rattle.sheet_text.specs.Place.{places}
 use Rattle.sheet_text.proofs.EachPlace.{each-same, each-place}
@@ -38,7 +38,7 @@ unfolding pageOf pageLines
 page-same n words a F det e = rw (bits-same n a F e)
 
 module _ (n : ℕ) (a : List Float) (words : List ℕ) (q : Square n a words) where
-  pub answer-done : answerOf n a words ≡ Done
+  pub answer-done : isDone (answerOf n a words) ≡ true
   unfolding answerOf
   answer-done =
       let small = q .small in
@@ -49,10 +49,10 @@ module _ (n : ℕ) (a : List Float) (words : List ℕ) (q : Square n a words) wh
   words-sized = record { order = omega (arith, q .small); total = q .sized }
 
   module _ (a′ : List Float) (words′ : List ℕ) (s : Stored n a words a′ words′) (long : length a′ ≡ length a) (sized : length words′ ≡ length words) where
-    record-accepted : checked n words′ ≡ Done
-    record-accepted = ap (checked n) (s .pivots) ∙ accepted n (load (lower (full n)) a) words words-sized .done
+    record-accepted : isDone (checked n words′) ≡ true
+    record-accepted = ap (λ (w : List ℕ). isDone (checked n w)) (s .pivots) ∙ accepted n (load (lower (full n)) a) words words-sized .done
 
-    reader-done : readerAnswer n n a′ words′ a′ ≡ Done
+    reader-done : isDone (readerAnswer n n a′ words′ a′) ≡ true
     unfolding readerAnswer
     reader-done =
         let small = q .small in
@@ -60,10 +60,10 @@ module _ (n : ℕ) (a : List Float) (words : List ℕ) (q : Square n a words) wh
         rw (le-ltb 1024 n below, eq-eqb (length a′) (n * n) (long ∙ q .long), eq-eqb (length words′) (wordsOf n) (sized ∙ q .sized)) record-accepted
 
     determinant-is : (v : Valued) → Determined n a′ words′ v → v .value ≡ determinantOf n (factored n (load (lower (full n)) a) words .matrix) (recorded n (load (lower (full n)) a) words)
-    unfolding whenDone lowerOf
+    unfolding lowerOf
     determinant-is v d =
         d .value
-        ∙ ap (λ (r : Answer). whenDone r (determinantOf n (lowerOf n a′) words′) zeroFloat) (d .answer ∙ reader-done)
+        ∙ ap (λ (done : Bool). cond done (determinantOf n (lowerOf n a′) words′) zeroFloat) (ap isDone (d .answer) ∙ reader-done)
         ∙ ap (λ (M : Matrix). determinantOf n M words′) (s .matrix .cells)
         ∙ ap (determinantOf n (factored n (load (lower (full n)) a) words .matrix)) (s .pivots)
 

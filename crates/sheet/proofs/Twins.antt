@@ -1,11 +1,12 @@
 -- Of n·n numbers, n at most 64: an answer of `first_twin` is two of the rows or nothing.
 use mathlib.Core.Path.{_≡_}
+use mathlib.Core.Bool.{true}
 use mathlib.Core.List.{List}
 use Prim.Native.Nat.{ℕ, _*_, _<_, _≤_}
 use native.Mathlib.Omega.{arith}
 use lib.Ieee.{Float}
 use lib.ListN.{length}
-use Rattle.answer.specs.declared.Answer.the-variants.{Done}
+use Rattle.answer.specs.Number.{isDone}
 use Rattle.matrix.specs.Matrix.{Matrix}
 use Rattle.twins.specs.declared.Twin.{Twin}
 use Rattle.twins.specs.declared.Twin.the-variants.{Nothing, Pair, Refused}
@@ -19,7 +20,7 @@ OfRows n (Pair p q) = (p < n) × (q < n)
 OfRows n (Refused r) = ⊥
 
 module _ (l : List Float) (n : ℕ) (small : n ≤ 64) (long : length l ≡ n * n) where
-  accepted : sizes n 0 n (length l) ≡ Done
+  accepted : isDone (sizes n 0 n (length l)) ≡ true
   accepted = sizes-done l n 0 n (omega arith) (omega arith) (omega arith) (omega arith) (omega arith) long
 
   pub of-rows : {t : Twin} → FirstTwin l n n t → OfRows n t

@@ -8,13 +8,14 @@ use lib.ListN.{length}
 use lib.Ieee.{Float, binary64, mul, div, neg, lt}
 use Rattle.answer.specs.declared.Answer.{Answer}
 use Rattle.answer.specs.declared.Answer.the-variants.{Done, NotPositive}
+use Rattle.answer.specs.Number.{isDone}
 use Rattle.leaf.specs.Root.{rootOf}
 use Rattle.matrix.specs.Matrix.{Matrix}
 use Rattle.matrix.specs.Loop.{for}
 use Rattle.matrix.specs.Grid.{load}
 use Rattle.matrix.specs.Layouts.{lower}
 use Rattle.cholesky.specs.Column.{updated}
-use Rattle.cholesky.specs.Run.{Outcome, isDone, column, run}
+use Rattle.cholesky.specs.Run.{Outcome, column, run}
 use Rattle.cholesky.specs.Crate.{zero, positive, crateRule}
 use Rattle.cholesky.specs.Leaves.{Ends}
 use Rattle.cholesky.specs.Promise.{in-room, Fitting, Extended}
@@ -32,7 +33,7 @@ use Rattle.twin_laws.proofs.Cholesky.{reduced, reduced-same, remainder,
 
 -- done, or refused at one of the rows m to n
 pub data Answers (m n : ℕ) (r : Answer) : Type 0 where
-  done : r ≡ Done → Answers m n r
+  done : isDone r ≡ true → Answers m n r
   refused : (j : ℕ) → m ≤ j → j < n → r ≡ NotPositive j → Answers m n r
 
 -- A is the matrix as it was handed in, L what stands in the buffer after the call
@@ -80,7 +81,7 @@ answers : (lo hi : ℕ) (o : Outcome) → o .answer ≡ Done → Answers lo hi (
 answers lo hi o start = pick (columns-answered crateRule 0 lo hi o start)
   where
     pick : {r : Answer} → Answered crateRule lo hi r → Answers lo hi r
-    pick (refusals.done is) = done is
+    pick (refusals.done is) = done (ap isDone is)
     pick (refusals.refused d j from upto turned is) = refused j from upto (is ∙ positive-refused d j turned)
 
 -- ---- the call

@@ -10,11 +10,12 @@ use borrow.Author.Tests.{le-ltb}
 use lib.Ieee.{Float, binary64, add, mul, div, neg}
 use Rattle.answer.specs.declared.Answer.{Answer}
 use Rattle.answer.specs.declared.Answer.the-variants.{Done}
+use Rattle.answer.specs.Number.{isDone}
 use Rattle.matrix.specs.Matrix.{Matrix, entry}
 use Rattle.matrix.specs.Loop.{for}
 use Rattle.matrix.proofs.Loops.{for-more, for-same, for-join}
 use Rattle.cholesky.specs.Column.{less, updated}
-use Rattle.cholesky.specs.Run.{Rule, Outcome, isDone, updates, below, judged, worked, column, started, run}
+use Rattle.cholesky.specs.Run.{Rule, Outcome, updates, below, judged, worked, column, started, run}
 use Rattle.cholesky.proofs.Batch.{done-before}
 use Rattle.cholesky.proofs.Rows.{updates-in, below-in, below-above, entry-same, entry-off, columns-off, judged-passed}
 use Rattle.matrix.proofs.Products.{neg-exchanges}

@@ -1,13 +1,14 @@
 -- Asked with each batch, no twins pass unseen. Assumes nothing.
 use mathlib.Core.Path.{_≡_, refl, sym, _∙_, subst}
+use mathlib.Core.Bool.{true, true≢false}
 use mathlib.Core.List.{List}
 use Prim.Native.Nat.{ℕ, _≤_, _<_}
 use native.Mathlib.Decide.{decLe, decLt}
 use native.Mathlib.Omega.{arith}
 use lib.ListN.{length}
 use lib.Ieee.{Float}
-use Rattle.answer.specs.declared.Answer.the-variants.{Done}
-use Rattle.answer.proofs.Back.{is-done}
+use Rattle.answer.specs.Number.{isDone}
+use Rattle.answer.proofs.Done.{done-or-refused}
 use Rattle.matrix.specs.Matrix.{Matrix}
 use Rattle.matrix.proofs.Places.{lower-across}
 use Rattle.twins.specs.declared.Twin.{Twin}
@@ -39,15 +40,13 @@ fewer-twins room n k l p q fewer below below' twins c within =
 
 -- ---- the answer of one batch
 
-accepted : (l : List Float) (room m n : ℕ) → FirstTwinSince l room m n Nothing → sizes room m n (length l) ≡ Done
-accepted l room m n call = by (is-done (sizes room m n (length l)))
-  where
-    by : Dec (sizes room m n (length l) ≡ Done) → sizes room m n (length l) ≡ Done
-    by (yes done) = done
-    by (no other) =
-        let is : Nothing ≡ Refused (sizes room m n (length l)) = call .refused other in
-        let never : _≡_ {A = ℕ} 0 1 = cc in
-        absurd (omega arith)
+accepted : (l : List Float) (room m n : ℕ) → FirstTwinSince l room m n Nothing → isDone (sizes room m n (length l)) ≡ true
+accepted l room m n call =
+    done-or-refused (sizes room m n (length l)) (λ done. done)
+    (λ wrong.
+    let is : Nothing ≡ Refused (sizes room m n (length l)) = call .refused wrong in
+    let never : _≡_ {A = ℕ} 0 1 = cc in
+    absurd (omega arith))
 
 none-found : {n : ℕ} {M : Matrix} {m : ℕ} → First n M m Nothing → NoneBetween n M m n
 none-found (none h) = h
@@ -69,14 +68,14 @@ clear-none (batches.more {room} {m} {l} {room'} {n} {l'} before rising kept call
     clear-more room' m n l' rising (subst (λ (M : Matrix). NoneBetween m M 0 m) (sym kept) (clear-none before)) call
 
 -- and `first_twin` on the whole answers none
-pub clear-first : {room n : ℕ} {l : List Float} → Clear room n l → sizes room 0 n (length l) ≡ Done → FirstTwin l room n Nothing
-clear-first clear fits = record { refused = λ other. absurd (other fits); found = λ done. none (clear-none clear) }
+pub clear-first : {room n : ℕ} {l : List Float} → Clear room n l → isDone (sizes room 0 n (length l)) ≡ true → FirstTwin l room n Nothing
+clear-first clear fits = record { refused = λ e. absurd (true≢false (sym fits ∙ e)); found = λ e. none (clear-none clear) }
 
 -- ---- the batch that brings the second
 
 module _ (room n : ℕ) (l : List Float) (p q : ℕ) (apart : p < q) (twins : Twins n (rowsIn room n l) p q) where
   -- rows p and q of n rows are twins: the batch of rows m to k that brought row q is told, whatever comes after it
-  pub told : {room' m k : ℕ} {l' : List Float} {r : Twin} → FirstTwinSince l' room' m k r → sizes room' m k (length l') ≡ Done
+  pub told : {room' m k : ℕ} {l' : List Float} {r : Twin} → FirstTwinSince l' room' m k r → isDone (sizes room' m k (length l')) ≡ true
       → rowsIn room' k l' ≡ rowsIn room k l → k ≤ n → m ≤ q → q < k → ToldOf m p q r
   told {room'} {m} {k} {l'} call fits kept upto since within = by (call .found fits)
     where

@@ -1,6 +1,6 @@
 -- There is always an answer that meets the promise of `first_twin_since`. Assumes nothing.
-use mathlib.Core.Path.{_≡_, refl}
-use mathlib.Core.Bool.{Bool-discrete}
+use mathlib.Core.Path.{_≡_, refl, sym, _∙_}
+use mathlib.Core.Bool.{Bool-discrete, true≢false}
 use mathlib.Core.HLevel.{Discrete, dec→stable}
 use mathlib.Core.List.{List}
 use mathlib.Core.Logic.{Dec·and, Dec·not}
@@ -12,8 +12,7 @@ use borrow.Author.Count.{below-none, below-more}
 use lib.Ieee.{Float, nan, inf, fin}
 use lib.IntN.{ℤ-discrete}
 use lib.ListN.{length}
-use Rattle.answer.specs.declared.Answer.the-variants.{Done}
-use Rattle.answer.proofs.Back.{is-done}
+use Rattle.answer.proofs.Done.{done-or-refused}
 use Rattle.matrix.specs.Matrix.{Matrix}
 use Rattle.twins.specs.declared.Twin.{Twin}
 use Rattle.twins.specs.declared.Twin.the-variants.{Nothing, Pair, Refused}
@@ -102,8 +101,7 @@ module _ (n : ℕ) (M : Matrix) (m : ℕ) where
       go (no-one f) = (Nothing, none (λ r s before since below same. f s below (record { row = r; before = before; since = since; twins = same })))
 
 pub some-first-twin-since : (l : List Float) (room m n : ℕ) → (t : Twin) × FirstTwinSince l room m n t
-some-first-twin-since l room m n = by (is-done (sizes room m n (length l)))
-  where
-    by : Dec (sizes room m n (length l) ≡ Done) → (t : Twin) × FirstTwinSince l room m n t
-    by (yes fits) = let some = some-first n (rowsIn room n l) m in (some .0, record { refused = λ other. absurd (other fits); found = λ done. some .1 })
-    by (no other) = (Refused (sizes room m n (length l)), record { refused = λ wrong. refl; found = λ fits. absurd (other fits) })
+some-first-twin-since l room m n =
+    done-or-refused (sizes room m n (length l))
+    (λ fits. let some = some-first n (rowsIn room n l) m in (some .0, record { refused = λ e. absurd (true≢false (sym fits ∙ e)); found = λ e. some .1 }))
+    (λ wrong. (Refused (sizes room m n (length l)), record { refused = λ e. refl; found = λ e. absurd (true≢false (sym e ∙ wrong)) }))

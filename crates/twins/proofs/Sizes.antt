@@ -1,16 +1,15 @@
 -- Refusals by size, one for each test. Assumes nothing.
-use mathlib.Core.Path.{_≡_, sym, _∙_, ap}
-use mathlib.Core.Bool.{not}
+use mathlib.Core.Path.{_≡_, refl, sym, _∙_, ap}
+use mathlib.Core.Bool.{true, false, true≢false}
 use mathlib.Core.List.{List}
 use Prim.Native.Nat.{ℕ, _*_, _≤_, _<_}
 use native.Mathlib.Nat.{mul-le-mul}
-use native.Mathlib.Omega.{arith}
 use lib.ListN.{length}
 use lib.Ieee.{Float}
 use borrow.Author.Tests.{lt-ltb, le-ltb, eq-eqb, ne-eqb}
 use Rattle.answer.specs.declared.Answer.{Answer}
-use Rattle.answer.specs.declared.Answer.the-variants.{Done, OutOfRange, OrderAboveRoom, MatrixLength}
-use Rattle.answer.specs.Number.{codeOf}
+use Rattle.answer.specs.declared.Answer.the-variants.{OutOfRange, OrderAboveRoom, MatrixLength}
+use Rattle.answer.specs.Number.{isDone}
 use Rattle.matrix.specs.Grid.{Sound}
 use Rattle.matrix.specs.Layouts.{Roomy, sizeOf, lower}
 use Rattle.matrix.proofs.Places.{lower-fair}
@@ -20,43 +19,42 @@ use Rattle.twins.specs.Sizes.{sizes}
 use Rattle.twins.specs.First.{First, FirstTwinSince, layoutOf, rowsIn}
 
 module _ (l : List Float) (room m n : ℕ) where
-  -- a refusal that is not Done
-  refuse : (a : Answer) → sizes room m n (length l) ≡ a → (codeOf a ≡ 0 → ⊥) → FirstTwinSince l room m n (Refused a)
-  refuse a e code = record {
-    refused = λ not-done. ap Refused (sym e);
-    found = λ done. absurd (code (ap codeOf (sym e ∙ done)));
+  refuse : (a : Answer) → sizes room m n (length l) ≡ a → isDone a ≡ false → FirstTwinSince l room m n (Refused a)
+  refuse a is wrong = record {
+    refused = λ e. ap Refused (sym is);
+    found = λ e. absurd (true≢false (sym e ∙ ap isDone is ∙ wrong));
   }
 
   pub refuse-room : 1024 < room → FirstTwinSince l room m n (Refused OutOfRange)
-  refuse-room h = refuse OutOfRange (simp (lt-ltb 1024 room h)) (λ z. omega arith)
+  refuse-room h = refuse OutOfRange (simp (lt-ltb 1024 room h)) refl
 
   pub refuse-order : room ≤ 1024 → 1024 < n → FirstTwinSince l room m n (Refused OutOfRange)
-  refuse-order h h' = refuse OutOfRange (simp (le-ltb 1024 room h, lt-ltb 1024 n h')) (λ z. omega arith)
+  refuse-order h h' = refuse OutOfRange (simp (le-ltb 1024 room h, lt-ltb 1024 n h')) refl
 
   pub refuse-earlier : room ≤ 1024 → n ≤ 1024 → 1024 < m → FirstTwinSince l room m n (Refused OutOfRange)
-  refuse-earlier h h' h'' = refuse OutOfRange (simp (le-ltb 1024 room h, le-ltb 1024 n h', lt-ltb 1024 m h'')) (λ z. omega arith)
+  refuse-earlier h h' h'' = refuse OutOfRange (simp (le-ltb 1024 room h, le-ltb 1024 n h', lt-ltb 1024 m h'')) refl
 
   module _ (h : room ≤ 1024) (h' : n ≤ 1024) (h'' : m ≤ 1024) where
     pub refuse-above : room < n → FirstTwinSince l room m n (Refused OrderAboveRoom)
-    refuse-above above = refuse OrderAboveRoom (simp (le-ltb 1024 room h, le-ltb 1024 n h', le-ltb 1024 m h'', lt-ltb room n above)) (λ z. omega arith)
+    refuse-above above = refuse OrderAboveRoom (simp (le-ltb 1024 room h, le-ltb 1024 n h', le-ltb 1024 m h'', lt-ltb room n above)) refl
 
     pub refuse-falling : n ≤ room → n < m → FirstTwinSince l room m n (Refused OrderAboveRoom)
     refuse-falling below falling =
-        refuse OrderAboveRoom (simp (le-ltb 1024 room h, le-ltb 1024 n h', le-ltb 1024 m h'', le-ltb room n below, lt-ltb n m falling)) (λ z. omega arith)
+        refuse OrderAboveRoom (simp (le-ltb 1024 room h, le-ltb 1024 n h', le-ltb 1024 m h'', le-ltb room n below, lt-ltb n m falling)) refl
 
     module _ (below : n ≤ room) (rising : m ≤ n) where
       pub refuse-length : (length l ≡ room * room → ⊥) → FirstTwinSince l room m n (Refused MatrixLength)
       refuse-length other =
           refuse MatrixLength
-          (simp (le-ltb 1024 room h, le-ltb 1024 n h', le-ltb 1024 m h'', le-ltb room n below, le-ltb n m rising, ne-eqb (length l) (room * room) other)) (λ z. omega arith)
+          (simp (le-ltb 1024 room h, le-ltb 1024 n h', le-ltb 1024 m h'', le-ltb room n below, le-ltb n m rising, ne-eqb (length l) (room * room) other)) refl
 
-      pub sizes-done : length l ≡ room * room → sizes room m n (length l) ≡ Done
+      pub sizes-done : length l ≡ room * room → isDone (sizes room m n (length l)) ≡ true
       sizes-done same = simp (le-ltb 1024 room h, le-ltb 1024 n h', le-ltb 1024 m h'', le-ltb room n below, le-ltb n m rising, eq-eqb (length l) (room * room) same)
 
       pub accept : length l ≡ room * room → (r : Twin) → First n (rowsIn room n l) m r → FirstTwinSince l room m n r
       accept same r first = record {
-        refused = λ not-done. absurd (not-done (sizes-done same));
-        found = λ done. first;
+        refused = λ e. absurd (true≢false (sym (sizes-done same) ∙ e));
+        found = λ e. first;
       }
 
 pub roomy : (room n : ℕ) → room ≤ 1024 → n ≤ room → Roomy (layoutOf room n)

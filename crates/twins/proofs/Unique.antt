@@ -1,14 +1,15 @@
 -- The promise of `first_twin_since` fixes its answer, and its number tells the three kinds of answer apart. Assumes nothing.
 use mathlib.Core.Path.{_≡_, refl, sym, _∙_, ap, subst}
+use mathlib.Core.Bool.{false}
 use mathlib.Core.List.{List}
 use Prim.Native.Nat.{ℕ, _+_, _/_, _%_, _<_}
 use native.Mathlib.Omega.{arith}
+use borrow.Author.Tests.{eqb-false}
 use lib.ListN.{length}
 use lib.Ieee.{Float}
 use Rattle.answer.specs.declared.Answer.{Answer}
-use Rattle.answer.specs.declared.Answer.the-variants.{Done}
-use Rattle.answer.proofs.Back.{is-done}
-use Rattle.answer.specs.Number.{codeOf, placeOf, numberOf}
+use Rattle.answer.specs.Number.{codeOf, isDone, placeOf, numberOf}
+use Rattle.answer.proofs.Done.{done-or-refused}
 use Rattle.matrix.specs.Matrix.{Matrix}
 use Rattle.twins.specs.declared.Twin.{Twin}
 use Rattle.twins.specs.declared.Twin.the-variants.{Nothing, Pair, Refused}
@@ -46,11 +47,10 @@ first-unique {n} {M} {m} (pair {p} {q} f) (pair {p = r} {q = s} g) =
 
 -- two answers that meet the promise are equal
 pub first-twin-since-unique : (l : List Float) (room m n : ℕ) {t u : Twin} → FirstTwinSince l room m n t → FirstTwinSince l room m n u → t ≡ u
-first-twin-since-unique l room m n {t} {u} a b = by (is-done (sizes room m n (length l)))
-  where
-    by : Dec (sizes room m n (length l) ≡ Done) → t ≡ u
-    by (yes done) = first-unique (a .found done) (b .found done)
-    by (no other) = a .refused other ∙ sym (b .refused other)
+first-twin-since-unique l room m n a b =
+    done-or-refused (sizes room m n (length l))
+    (λ fits. first-unique (a .found fits) (b .found fits))
+    (λ wrong. a .refused wrong ∙ sym (b .refused wrong))
 
 pub first-twin-unique : (l : List Float) (room n : ℕ) {t u : Twin} → FirstTwin l room n t → FirstTwin l room n u → t ≡ u
 first-twin-unique l room n = first-twin-since-unique l room 0 n
@@ -64,5 +64,5 @@ pair-number p q below = (omega arith, omega arith)
 pub pair-above : (p q : ℕ) (a : Answer) → placeOf a < 4096 → codeOf a < 4096 → numberOf a < twinNumber (Pair p q)
 pair-above p q a place code = omega arith
 
-pub refusal-above : (a : Answer) → (codeOf a ≡ 0 → ⊥) → twinNumber Nothing < twinNumber (Refused a)
-refusal-above a code = omega arith
+pub refusal-above : (a : Answer) → isDone a ≡ false → twinNumber Nothing < twinNumber (Refused a)
+refusal-above a refused = omega (arith, eqb-false (codeOf a) 0 refused)

@@ -5,7 +5,7 @@ use mathlib.Core.List.{List}
 use Prim.Native.Nat.{ℕ, _≤_, _<_}
 use lib.ListN.{length}
 use lib.Ieee.{Float}
-use Rattle.answer.specs.declared.Answer.the-variants.{Done}
+use Rattle.answer.specs.Number.{isDone}
 use Rattle.matrix.specs.declared.Layout.{Layout}
 use Rattle.matrix.specs.Matrix.{Matrix}
 use Rattle.matrix.specs.Grid.{load}
@@ -55,8 +55,8 @@ rowsIn room n l = load (lower (layoutOf room n)) l
 
 -- a refusal by size, or the first pair of the lower triangle whose second row is at or after m
 pub record FirstTwinSince (l : List Float) (room m n : ℕ) (r : Twin) : Type 0 where
-  pub refused : (sizes room m n (length l) ≡ Done → ⊥) → r ≡ Refused (sizes room m n (length l))
-  pub found : sizes room m n (length l) ≡ Done → First n (rowsIn room n l) m r
+  pub refused : isDone (sizes room m n (length l)) ≡ false → r ≡ Refused (sizes room m n (length l))
+  pub found : isDone (sizes room m n (length l)) ≡ true → First n (rowsIn room n l) m r
 
 -- `first_twin` looks from row 0 on
 abbrev pub FirstTwin : List Float → ℕ → ℕ → Twin → Type 0

@@ -12,12 +12,13 @@ use lib.Ieee.{Float, lt}
 use Rattle.answer.specs.declared.Answer.{Answer}
 use Rattle.answer.specs.declared.Answer.the-variants.{Done, NotPositive, MatrixLength}
 use Rattle.answer.specs.declared.Valued.{Valued}
+use Rattle.answer.specs.Number.{isDone}
 use Rattle.matrix.specs.Matrix.{Matrix}
 use Rattle.matrix.specs.Loop.{for}
 use Rattle.matrix.specs.Grid.{load}
 use Rattle.matrix.specs.Layouts.{lower}
 use Rattle.matrix.proofs.Loops.{for-none, for-more}
-use Rattle.cholesky.specs.Run.{Outcome, isDone, updates, earlier, judged, worked, column, started, run}
+use Rattle.cholesky.specs.Run.{Outcome, updates, earlier, judged, worked, column, started, run}
 use Rattle.cholesky.specs.Crate.{crateRule, positive, zero as zeroFloat}
 use Rattle.cholesky.specs.Promise.{checked, in-room, Extended}
 use Rattle.cholesky.specs.Solve.{solveAnswer, Solved}

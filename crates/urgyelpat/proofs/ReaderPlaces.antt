@@ -4,20 +4,20 @@ use mathlib.Core.List.{List}
 use mathlib.Core.Path.{_≡_, sym, subst}
 use Prim.Native.Nat.{ℕ, _-_, _*_, _≤_, _<_}
 use native.Mathlib.Omega.{arith}
-use borrow.Author.Tests.{ltb-true, ltb-false, eqb-true, eqb-false}
+use borrow.Author.Tests.{ltb-true, ltb-false, eqb-false}
 use lib.Dec.{ltb, eqb}
 use lib.ListN.{length}
 use lib.Ieee.{Float}
 use Rattle.answer.specs.declared.Answer.{Answer}
 use Rattle.answer.specs.declared.Answer.the-variants.{Done, MatrixLength, SliceLength, BadRecord, ZeroMark}
 use Rattle.answer.specs.declared.Valued.{Valued}
-use Rattle.answer.specs.Number.{codeOf}
+use Rattle.answer.specs.Number.{isDone}
 use Rattle.matrix.specs.Matrix.{Matrix}
 use Rattle.pivots.specs.Words.{markAt, wordsOf}
 use Rattle.pivots.specs.Rule.{faultOf, soundMark, checked}
 use Rattle.pivots.proofs.Boundaries.{mark-row}
 use Rattle.lblt_solve.proofs.Admitted.{admitted}
-use Rattle.lblt_solve.specs.Calls.{readerAnswer, solveAnswer, whenDone, Solved, Determined, Filled}
+use Rattle.lblt_solve.specs.Calls.{readerAnswer, solveAnswer, Solved, Determined, Filled}
 use Rattle.urgyelpat.proofs.Within.{Within, within-none, within-test, left-false}
 
 record-within : (n : ℕ) (words : List ℕ) → Within n (checked n words)
@@ -39,15 +39,15 @@ reader-within n columns a words other =
     of-record small = let at : Within n (checked n words) = record-within n words in omega (arith, at, small)
 
 solve-within : (n columns : ℕ) (a : List Float) (words : List ℕ) (b : List Float) → Within 1024 (solveAnswer n columns a words b)
-unfolding solveAnswer whenDone
+unfolding solveAnswer
 solve-within n columns a words b =
-    within-test 1024 (eqb (codeOf (readerAnswer n columns a words b)) 0) _ _
+    within-test 1024 (isDone (readerAnswer n columns a words b)) _ _
     (λ e. within-test 1024 (eqb (markAt n words) 0) Done (ZeroMark (markAt n words - 1)) (λ f. within-none 1024) (λ f. marked e f))
     (λ e. reader-within n columns a words b)
   where
-    marked : eqb (codeOf (readerAnswer n columns a words b)) 0 ≡ true → eqb (markAt n words) 0 ≡ false → Within 1024 (ZeroMark (markAt n words - 1))
+    marked : isDone (readerAnswer n columns a words b) ≡ true → eqb (markAt n words) 0 ≡ false → Within 1024 (ZeroMark (markAt n words - 1))
     marked e f =
-        let m = admitted n columns a words b (eqb-true _ _ e) in
+        let m = admitted n columns a words b e in
         let row : markAt n words ≤ n = mark-row (m .accepted) (eqb-false _ _ f) .row in
         let small : n ≤ 1024 = m .order in
         omega (arith, row, small)

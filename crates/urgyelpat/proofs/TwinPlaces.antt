@@ -1,7 +1,7 @@
 -- The rows and the places that `first_twin_since` answers. Assumes nothing.
-use mathlib.Core.Bool.{Bool, true, false, cond, not, _||_}
+use mathlib.Core.Bool.{Bool, true, false, cond, not, _||_, true≢false}
 use mathlib.Core.List.{List}
-use mathlib.Core.Path.{_≡_, refl, sym, subst, ap}
+use mathlib.Core.Path.{_≡_, refl, sym, subst}
 use Prim.Native.Nat.{ℕ, _*_, _≤_, _<_}
 use native.Mathlib.Omega.{arith}
 use borrow.Author.Tests.{ltb-false}
@@ -10,8 +10,8 @@ use lib.ListN.{length}
 use lib.Ieee.{Float}
 use Rattle.answer.specs.declared.Answer.{Answer}
 use Rattle.answer.specs.declared.Answer.the-variants.{Done, OutOfRange, MatrixLength}
-use Rattle.answer.specs.Number.{codeOf}
-use Rattle.answer.proofs.Back.{is-done}
+use Rattle.answer.specs.Number.{isDone}
+use Rattle.answer.proofs.Done.{done-or-refused}
 use Rattle.matrix.specs.Matrix.{Matrix}
 use Rattle.twins.specs.declared.Twin.{Twin}
 use Rattle.twins.specs.declared.Twin.the-variants.{Nothing, Pair, Refused}
@@ -31,23 +31,22 @@ sizes-within room m n len =
     (λ e. within-test 1024 (ltb room n || ltb n m) _ _ (λ f. within-none 1024) (λ f. within-test 1024 (not (eqb len (room * room))) MatrixLength Done (λ g. within-none 1024) (λ g. within-none 1024)))
 
 -- a test that gives no code 1
-passes : (t : Bool) (r : Answer) → codeOf (cond t OutOfRange r) ≡ 0 → t ≡ false
-passes true r e = absurd (omega arith)
+passes : (t : Bool) (r : Answer) → isDone (cond t OutOfRange r) ≡ true → t ≡ false
+passes true r e = absurd (true≢false (sym e))
 passes false r e = refl
 
-order-small : (room m n len : ℕ) → sizes room m n len ≡ Done → n ≤ 1024
+order-small : (room m n len : ℕ) → isDone (sizes room m n len) ≡ true → n ≤ 1024
 order-small room m n len done =
     ltb-false 1024 n
     (right-false (ltb 1024 room) (ltb 1024 n)
-    (left-false (ltb 1024 room || ltb 1024 n) (ltb 1024 m) (passes (ltb 1024 room || ltb 1024 n || ltb 1024 m) _ (ap codeOf done))))
+    (left-false (ltb 1024 room || ltb 1024 n) (ltb 1024 m) (passes (ltb 1024 room || ltb 1024 n || ltb 1024 m) _ done)))
 
 first-small : {n : ℕ} {M : Matrix} {m : ℕ} {t : Twin} → n ≤ 1024 → First n M m t → Small t
 first-small small (none a) = tt
 first-small small (pair {p} {q} f) = let rows : p < q = f .apart in let last : q < _ = f .within in omega (arith, rows, last, small)
 
 pub twin-small : (l : List Float) (room m n : ℕ) {t : Twin} → FirstTwinSince l room m n t → Small t
-twin-small l room m n {t} x = by (is-done (sizes room m n (length l)))
-  where
-    by : Dec (sizes room m n (length l) ≡ Done) → Small t
-    by (yes done) = first-small (order-small room m n (length l) done) (x .found done)
-    by (no other) = subst Small (sym (x .refused other)) (sizes-within room m n (length l))
+twin-small l room m n x =
+    done-or-refused (sizes room m n (length l))
+    (λ fits. first-small (order-small room m n (length l) fits) (x .found fits))
+    (λ wrong. subst Small (sym (x .refused wrong)) (sizes-within room m n (length l)))

@@ -1,6 +1,6 @@
 -- `solve_mut` solves where its checks admit it, and leaves all as it was where they do not.
-use mathlib.Core.Path.{sym, _∙_}
 use native.Mathlib.Omega.{arith}
+use Rattle.answer.proofs.Done.{code-done, code-refused}
 use Rattle.cholesky.proofs.Promises.{room-sound, fitting-roomy, fitting-checked}
 use Rattle.cholesky.proofs.ReaderLoops.{square-small}
 use Rattle.cholesky.proofs.SolvePromises.{solved-wide, solved-unfit, solved-short, solved-fit}
@@ -20,13 +20,15 @@ code-requires c κs = search needs
 returns-2 : tie.Need-returns-2
 returns-2 c =
     let if1 = c .before .before .before .if1 in
-    solved-unfit _ _ _ (if1 .left) _ _ _ (c .before .before .check .ensures) (λ z. c .if2 .taken (c .before .code .ensures ∙ z))
+    let check = c .before .before .check in
+    solved-unfit _ _ _ (if1 .left) _ _ _ (check .ensures) (code-refused (check .result) (c .before .code .ensures) (c .if2 .taken))
 
 mul-if3 : tie.Need-mul-if3
 mul-if3 c =
     let args = c .before .before .before .before .before .before .args in
     let if1 = c .before .before .before .if1 in
-    let f = fitting-checked (args .room) 0 (args .n) _ _ (c .before .before .check .ensures) (sym (c .before .code .ensures) ∙ c .if2 .left) in
+    let check = c .before .before .check in
+    let f = fitting-checked (args .room) 0 (args .n) _ _ (check .ensures) (code-done (check .result) (c .before .code .ensures) (c .if2 .left)) in
     omega (arith, f .inside, f .small, square-small (args .n) (args .columns) (omega (arith, f .inside, f .small)) (if1 .left))
 
 returns-3 : tie.Need-returns-3
@@ -34,7 +36,7 @@ returns-3 c =
     let if1 = c .before .before .before .before .if1 in
     let args = c .before .before .before .before .before .before .before .args in
     let check = c .before .before .before .check in
-    solved-short _ _ _ (if1 .left) _ _ (fitting-checked (args .room) 0 (args .n) _ _ (check .ensures) (sym (c .before .before .code .ensures) ∙ c .before .if2 .left)) (c .if3 .taken)
+    solved-short _ _ _ (if1 .left) _ _ (fitting-checked (args .room) 0 (args .n) _ _ (check .ensures) (code-done (check .result) (c .before .before .code .ensures) (c .before .if2 .left))) (c .if3 .taken)
 
 solve-sides-requires : tie.Need-solve-sides-requires
 solve-sides-requires c κs =
@@ -42,7 +44,7 @@ solve-sides-requires c κs =
     let check = c .before .before .before .before .check in
     let code = c .before .before .before .code in
     let if1 = c .before .before .before .before .before .if1 in
-    let f = fitting-checked (args .room) 0 (args .n) _ _ (check .ensures) (sym (code .ensures) ∙ c .before .before .if2 .left) in
+    let f = fitting-checked (args .room) 0 (args .n) _ _ (check .ensures) (code-done (check .result) (code .ensures) (c .before .before .if2 .left)) in
     let roomy = fitting-roomy (args .room) 0 (args .n) f in
     (record { roomy = roomy; sound = room-sound (args .room) (args .n) _ roomy (f .long) }, record { few = if1 .left; long = c .before .if3 .left })
 
@@ -57,7 +59,7 @@ returns-4 c =
     let code = c .before .before .before .before .before .before .code in
     let if2 = c .before .before .before .before .before .if2 in
     let if3 = c .before .before .before .before .if3 in
-    solved-fit _ _ _ (if1 .left) _ _ (fitting-checked (args .room) 0 (args .n) _ _ (check .ensures) (sym (code .ensures) ∙ if2 .left)) (if3 .left) (c .before .before .solve-sides .ensures)
+    solved-fit _ _ _ (if1 .left) _ _ (fitting-checked (args .room) 0 (args .n) _ _ (check .ensures) (code-done (check .result) (code .ensures) (if2 .left))) (if3 .left) (c .before .before .solve-sides .ensures)
 
 pub solve-mut-spec : {M : Type 1} → statement M
 solve-mut-spec =

@@ -1,6 +1,8 @@
 -- `l_permuted` fills its matrix where its checks admit it, and leaves it as it was where they do not.
+use Rattle.answer.proofs.Done.{code-done, code-refused}
 use Rattle.lblt_solve.proofs.Admitted.{reader-admitted, factored}
 use Rattle.lblt_solve.specs.Calls.{lowerOf}
+use mathlib.Core.Bool.{true≢false}
 use mathlib.Core.Path.{refl, sym, _∙_}
 use borrow.Author.Needs.{needs}
 use Rattle.lblt_solve.proofs.l_permuted.Statement.{statement}
@@ -18,14 +20,14 @@ same-length c = search needs
 returns : tie.Need-returns
 returns c =
     let reader = c .before .before .reader in
-    record { answer = reader .ensures; filled = λ z. absurd (c .if1 .taken (c .before .code .ensures ∙ z)); kept = λ h. refl }
+    record { answer = reader .ensures; filled = λ e. absurd (true≢false (sym e ∙ code-refused (reader .result) (c .before .code .ensures) (c .if1 .taken))); kept = λ e. refl }
 
 fill-requires : tie.Need-fill-requires
 fill-requires c κs =
     let code = c .before .before .code in
     let if1 = c .before .if1 in
     let reader = c .before .before .before .reader in
-    let admitted = reader-admitted _ _ _ _ _ (sym (code .ensures) ∙ if1 .left) (reader .ensures) in
+    let admitted = reader-admitted _ _ _ _ _ (code-done (reader .result) (code .ensures) (if1 .left)) (reader .ensures) in
     (factored admitted, record { small = admitted .order; long = admitted .long })
 
 same-length-2 : tie.Need-same-length-2
@@ -38,7 +40,7 @@ returns-2 c =
     let fill = c .before .before .fill in
     let code = c .before .before .before .before .before .code in
     let if1 = c .before .before .before .before .if1 in
-    record { answer = reader .ensures; filled = λ z. fill .ensures; kept = λ h. absurd (h (sym (code .ensures) ∙ if1 .left)) }
+    record { answer = reader .ensures; filled = λ e. fill .ensures; kept = λ e. absurd (true≢false (sym (code-done (reader .result) (code .ensures) (if1 .left)) ∙ e)) }
 
 pub l-permuted-spec : {M : Type 1} → statement M
 l-permuted-spec =

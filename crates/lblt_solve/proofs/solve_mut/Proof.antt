@@ -1,7 +1,7 @@
 -- `solve_mut` solves where its checks admit it, and leaves all as it was where they do not.
-use Rattle.lblt_solve.proofs.Admitted.{solver-admitted, factored, when-done, when-refused}
+use Rattle.answer.proofs.Done.{code-done, code-refused}
+use Rattle.lblt_solve.proofs.Admitted.{solver-admitted, factored}
 use Rattle.lblt_solve.specs.Calls.{lowerOf}
-use mathlib.Core.Path.{sym, _∙_}
 use borrow.Author.Needs.{needs}
 use Rattle.lblt_solve.proofs.solve_mut.Statement.{statement}
 use Rattle.lblt_solve.proofs.solve_mut.Tie as tie
@@ -18,14 +18,14 @@ same-length c = search needs
 returns : tie.Need-returns
 returns c =
     let solver = c .before .before .solver in
-    record { answer = solver .ensures; sides = sym (when-refused _ _ _ (λ z. c .if1 .taken (c .before .code .ensures ∙ z))) }
+    record { answer = solver .ensures; sides = rw (code-refused (solver .result) (c .before .code .ensures) (c .if1 .taken)) }
 
 solve-requires : tie.Need-solve-requires
 solve-requires c κs =
     let code = c .before .before .code in
     let if1 = c .before .if1 in
     let solver = c .before .before .before .solver in
-    let admitted = solver-admitted _ _ _ _ _ (sym (code .ensures) ∙ if1 .left) (solver .ensures) in
+    let admitted = solver-admitted _ _ _ _ _ (code-done (solver .result) (code .ensures) (if1 .left)) (solver .ensures) in
     (factored admitted, record { few = admitted .few; long = admitted .long })
 
 same-length-2 : tie.Need-same-length-2
@@ -38,7 +38,7 @@ returns-2 c =
     let solve = c .before .before .solve in
     let code = c .before .before .before .before .before .code in
     let if1 = c .before .before .before .before .if1 in
-    record { answer = solver .ensures; sides = solve .ensures ∙ sym (when-done _ _ _ (sym (code .ensures) ∙ if1 .left)) }
+    record { answer = solver .ensures; sides = rw (code-done (solver .result) (code .ensures) (if1 .left)) (solve .ensures) }
 
 pub solve-mut-spec : {M : Type 1} → statement M
 solve-mut-spec =

@@ -1,6 +1,7 @@
 use borrow.Author.Needs.{needs}
-use mathlib.Core.Path.{_∙_}
+use mathlib.Core.Path.{ap, _∙_}
 use native.Mathlib.Omega.{arith}
+use Rattle.answer.specs.Number.{isDone}
 use Rattle.sheet_page.proofs.PutLaws.{put-same}
 use Rattle.sheet.proofs.Factor.{answer-done, page-is}
 use Rattle.sheet.proofs.factor_and_write.Statement.{statement}
@@ -25,7 +26,7 @@ same-length-3 : tie.Need-same-length-3
 same-length-3 c = c .before .before .put-page .ensures .long
 
 returns : tie.Need-returns
-returns c = put-same (page-is _ _ _ (c .before .before .before .before .before .before .before .before .before .before .before .before .before .before .before .before .before .before .before .pre) _ _ (c .before .before .before .before .before .before .before .before .before .before .before .before .before .factor .ensures .done (c .before .before .before .before .before .before .before .before .before .before .before .before .before .factor .ensures .answer ∙ answer-done _ _ _ (c .before .before .before .before .before .before .before .before .before .before .before .before .before .before .before .before .before .before .before .pre))) (c .before .before .before .before .before .before .before .before .before .before .before .before .before .factor .kept .0) (c .before .before .before .before .before .before .before .before .before .before .before .before .before .factor .kept .1 .0) _ (c .before .before .before .before .before .before .determinant .ensures)) (c .before .before .put-page .ensures)
+returns c = put-same (page-is _ _ _ (c .before .before .before .before .before .before .before .before .before .before .before .before .before .before .before .before .before .before .before .pre) _ _ (c .before .before .before .before .before .before .before .before .before .before .before .before .before .factor .ensures .done (ap isDone (c .before .before .before .before .before .before .before .before .before .before .before .before .before .factor .ensures .answer) ∙ answer-done _ _ _ (c .before .before .before .before .before .before .before .before .before .before .before .before .before .before .before .before .before .before .before .pre))) (c .before .before .before .before .before .before .before .before .before .before .before .before .before .factor .kept .0) (c .before .before .before .before .before .before .before .before .before .before .before .before .before .factor .kept .1 .0) _ (c .before .before .before .before .before .before .determinant .ensures)) (c .before .before .put-page .ensures)
 
 pub factor-and-write-spec : {M : Type 1} → statement M
 factor-and-write-spec =

@@ -1,7 +1,7 @@
 -- `engine::finish` meets its contract. Assumes nothing.
 use denote.Ref.{now}
-use mathlib.Core.Path.{sym, _∙_}
 use native.Mathlib.Omega.{arith}
+use Rattle.answer.proofs.Done.{code-done, code-refused}
 use Rattle.cholesky.proofs.Running.{finish-done, finish-refused}
 use borrow.Author.Needs.{needs}
 use Rattle.cholesky.proofs.engine.finish.Statement.{statement}
@@ -45,7 +45,7 @@ returns c =
     (c .before .before .before .before .before .before .before .before .before .before .judge .result)
     (c .before .before .before .before .before .before .before .before .before .before .before .get .ensures)
     (c .before .before .before .before .before .before .before .before .before .before .judge .ensures)
-    (sym (c .before .before .before .before .before .before .before .before .before .code .ensures) ∙ c .before .before .before .before .before .before .before .before .if1 .taken)
+    (code-done (c .before .before .before .before .before .before .before .before .before .before .judge .result .answer) (c .before .before .before .before .before .before .before .before .before .code .ensures) (c .before .before .before .before .before .before .before .before .if1 .taken))
     (c .before .before .before .before .before .before .put .ensures) (c .before .before .divide .ensures)
 
 same-length-2 : tie.Need-same-length-2
@@ -55,7 +55,7 @@ returns-2 : tie.Need-returns-2
 returns-2 c =
     let start = c .before .before .before .before .before .before in
     finish-refused (start .args .y) (now (start .args .a)) (start .args .j) (c .before .before .before .get .result) (c .before .before .judge .result)
-    (c .before .before .before .get .ensures) (c .before .before .judge .ensures) (start .pre .1 .0) (λ e. c .if1 .left (c .before .code .ensures ∙ e))
+    (c .before .before .before .get .ensures) (c .before .before .judge .ensures) (start .pre .1 .0) (code-refused (c .before .before .judge .result .answer) (c .before .code .ensures) (c .if1 .left))
 
 pub finish-spec : {M : Type 1} → statement M
 finish-spec =

@@ -1,7 +1,7 @@
 -- `engine::run` meets its contract. Assumes nothing.
-use mathlib.Core.Path.{sym, _∙_}
 use Prim.Native.Nat.{_-_}
 use native.Mathlib.Omega.{arith}
+use Rattle.answer.proofs.Done.{code-done, code-refused}
 use Rattle.cholesky.proofs.Running.{Running, running-none, running-more, running-refused, running-all}
 use borrow.Author.Needs.{needs}
 use Rattle.cholesky.proofs.engine.run.Statement.{statement}
@@ -28,7 +28,7 @@ same-length c = search needs
 returns : tie.Need-returns Inv-loop μ-loop
 returns c =
     running-refused (c .before .before .before .before .before .before .before .loop .inv) (c .before .before .before .before .advance .ensures)
-    (λ e. c .if1 .taken (c .before .code .ensures ∙ e))
+    (code-refused (c .before .before .before .before .advance .result .answer) (c .before .code .ensures) (c .if1 .taken))
 
 loop-less : tie.Need-loop-less Inv-loop μ-loop
 loop-less c = omega (arith, c .before .before .before .before .advance .ensures .onward, c .before .before .before .before .advance .ensures .within)
@@ -36,7 +36,7 @@ loop-less c = omega (arith, c .before .before .before .before .advance .ensures 
 loop-again : tie.Need-loop-again Inv-loop μ-loop
 loop-again c =
     running-more (c .before .before .before .before .before .before .before .loop .inv) (c .before .before .before .before .advance .ensures)
-    (sym (c .before .code .ensures) ∙ c .if1 .left)
+    (code-done (c .before .before .before .before .advance .result .answer) (c .before .code .ensures) (c .if1 .left))
 
 same-length-2 : tie.Need-same-length-2 Inv-loop μ-loop
 same-length-2 c = search needs

@@ -1,7 +1,8 @@
 -- `solver` refuses what a reader refuses, and then a mark.
+use Rattle.answer.proofs.Done.{code-done, code-refused}
 use Rattle.lblt_solve.proofs.Admitted.{reader-admitted, solve-refused, solve-done, solve-marked}
 use Rattle.pivots.proofs.Boundaries.{mark-row}
-use mathlib.Core.Path.{sym, _∙_}
+use mathlib.Core.Path.{_∙_}
 use native.Mathlib.Omega.{arith}
 use borrow.Author.Needs.{needs}
 use Rattle.lblt_solve.proofs.admit.solver.Statement.{statement}
@@ -14,12 +15,14 @@ code-requires : tie.Need-code-requires
 code-requires c κs = search needs
 
 returns : tie.Need-returns
-returns c = solve-refused _ _ _ _ _ (c .before .before .reader .ensures) (λ z. c .if1 .taken (c .before .code .ensures ∙ z))
+returns c =
+    let reader = c .before .before .reader in
+    solve-refused _ _ _ _ _ (reader .ensures) (code-refused (reader .result) (c .before .code .ensures) (c .if1 .taken))
 
 mark-requires : tie.Need-mark-requires
 mark-requires c κs =
     let reader = c .before .before .reader in
-    let admitted = reader-admitted _ _ _ _ _ (sym (c .before .code .ensures) ∙ c .if1 .left) (reader .ensures) in
+    let admitted = reader-admitted _ _ _ _ _ (code-done (reader .result) (c .before .code .ensures) (c .if1 .left)) (reader .ensures) in
     omega (arith, admitted .accepted .sized .total)
 
 returns-2 : tie.Need-returns-2
@@ -27,7 +30,7 @@ returns-2 c =
     let reader = c .before .before .before .before .reader in
     let code = c .before .before .before .code in
     let if1 = c .before .before .if1 in
-    solve-done _ _ _ _ _ (reader .ensures) (sym (code .ensures) ∙ if1 .left) (c .before .mark .ensures) (c .if2 .taken)
+    solve-done _ _ _ _ _ (reader .ensures) (code-done (reader .result) (code .ensures) (if1 .left)) (c .before .mark .ensures) (c .if2 .taken)
 
 sub-t10 : tie.Need-sub-t10
 sub-t10 c = search needs
@@ -37,7 +40,7 @@ cast-t11 c =
     let code = c .before .before .before .code in
     let if1 = c .before .before .if1 in
     let reader = c .before .before .before .before .reader in
-    let admitted = reader-admitted _ _ _ _ _ (sym (code .ensures) ∙ if1 .left) (reader .ensures) in
+    let admitted = reader-admitted _ _ _ _ _ (code-done (reader .result) (code .ensures) (if1 .left)) (reader .ensures) in
     omega (arith, mark-row (admitted .accepted) (λ z. c .if2 .left (c .before .mark .ensures ∙ z)) .row, admitted .order)
 
 returns-3 : tie.Need-returns-3
@@ -45,7 +48,7 @@ returns-3 c =
     let reader = c .before .before .before .before .reader in
     let code = c .before .before .before .code in
     let if1 = c .before .before .if1 in
-    solve-marked _ _ _ _ _ (reader .ensures) (sym (code .ensures) ∙ if1 .left) (c .before .mark .ensures) (c .if2 .left)
+    solve-marked _ _ _ _ _ (reader .ensures) (code-done (reader .result) (code .ensures) (if1 .left)) (c .before .mark .ensures) (c .if2 .left)
 
 pub solver-spec : {M : Type 1} → statement M
 solver-spec =
