@@ -25,8 +25,8 @@ pub fn factor(p: &[f64], u: &mut [f64], d: &mut [f64], n: usize) -> Answer
     if d.len() != n {
         return Answer::SliceLength;
     }
-    column::clear(u);
     column::clear(d);
+    column::clear(u);
     columns(p, u, d, n)
 }
 

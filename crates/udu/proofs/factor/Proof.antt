@@ -1,5 +1,5 @@
 -- `factor` meets its contract. Assumes nothing.
-use mathlib.Core.Path.{subst, _∙_}
+use mathlib.Core.Path.{subst}
 use Prim.Native.Nat.{_*_, _≤_}
 use native.Mathlib.Nat.{mul-le-mul, pos-of-ne-zero}
 use native.Mathlib.Omega.{arith}
@@ -41,8 +41,8 @@ clear-requires-2 c κs = search needs
 
 columns-requires : tie.Need-columns-requires
 columns-requires c κs = (
-  record { low = pos-of-ne-zero (c .before .before .before .before .before .before .before .before .before .before .before .before .before .if2 .left); high = c .before .before .before .before .before .before .before .before .before .before .before .before .before .before .if1 .left; matrix = c .before .before .before .before .before .before .before .before .before .before .before .before .if3 .left; upper = c .before .before .before .before .before .before .before .before .clear .kept .0 ∙ c .before .before .before .before .before .before .before .before .before .before .before .if4 .left; diagonal = c .before .before .before .before .clear2 .kept .0 ∙ c .before .before .before .before .before .before .before .before .before .before .if5 .left },
-  (subst (Clear _) (c .before .before .before .before .before .before .before .before .before .before .before .if4 .left) (c .before .before .before .before .before .before .before .before .clear .ensures), subst (Clear _) (c .before .before .before .before .before .before .before .before .before .before .if5 .left) (c .before .before .before .before .clear2 .ensures)),
+  record { low = search (needs, pos-of-ne-zero); high = search needs; matrix = search needs; upper = search needs; diagonal = search needs },
+  (subst (Clear _) (search needs) (c .before .before .before .before .clear2 .ensures), subst (Clear _) (search needs) (c .before .before .before .before .before .before .before .before .clear .ensures)),
 )
 
 same-length : tie.Need-same-length

@@ -15,7 +15,7 @@ same-length : tie.Need-same-length
 same-length c = search needs
 
 returns-2 : tie.Need-returns-2
-returns-2 c = brings1 _ _ _ (c .before .before .before .before .if1 .left) (c .before .before .interchange .ensures)
+returns-2 c = search (needs, brings1)
 
 pub bring1-spec : {M : Type 1} → statement M
 bring1-spec = tie.close (tie.spec returns interchange-requires same-length returns-2)

@@ -1,10 +1,7 @@
 -- `last` meets its contract. Assumes nothing.
 use mathlib.Core.Path.{refl, sym}
-use Prim.Native.Nat.{_+_, _-_, _*_}
+use Prim.Native.Nat.{_-_}
 use native.Mathlib.Omega.{arith}
-use denote.Ref.{now}
-use lib.ListN.{getD}
-use lib.Ieee.{nan}
 use Rattle.matrix.proofs.Places.{digits-within}
 use Rattle.udu.specs.Leaves.{lastDiagonal, squareOf}
 use Rattle.udu.proofs.Written.{written-none}
@@ -52,7 +49,7 @@ same-length-3 c = search needs
 
 returns-2 : tie.Need-returns-2
 unfolding lastDiagonal squareOf
-returns-2 c = record { judged = sym (c .before .before .before .before .if1 .left); diagonal = refl; column = last-column (now (c .before .before .before .before .before .before .before .before .before .args .p)) (getD (now (c .before .before .before .before .before .before .before .before .before .args .p)) (c .before .before .before .before .before .before .before .before .before .args .n - 1 + (c .before .before .before .before .before .before .before .before .before .args .n - 1) * c .before .before .before .before .before .before .before .before .before .args .n) nan) (c .before .before .before .before .before .before .before .before .before .pre .low) (c .before .before .multiply .ensures) }
+returns-2 c = record { judged = sym (search needs); diagonal = refl; column = search (needs, last-column) }
 
 pub last-spec : {M : Type 1} → statement M
 last-spec =
