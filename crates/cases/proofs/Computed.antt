@@ -1,45 +1,55 @@
--- The cases hold: the checker computes both tables whole. Assumes nothing.
-use mathlib.Core.Path.{_≡_, refl}
-use mathlib.Core.List.{List, map, _++_}
+-- The cases hold: what each call gives, written out, is computed by the checker. Assumes nothing.
+use mathlib.Core.Path.{_≡_, refl, ap, subst}
+use mathlib.Core.List.{List, [], _∷_, map, _++_}
 use Prim.Native.Nat.{ℕ}
-use lib.Ieee.{ofBits, toBits, lt, le, eq, add, sub, mul, div, neg, isNan}
+use lib.ListN.{getD, drop}
+use lib.Ieee.{ofBits, toBits, le, sub, mul, div, isNan}
 use Rattle.leaf.specs.Abs.{absOf}
 use Rattle.leaf.specs.Maximum.{maximumOf}
 use Rattle.leaf.specs.Root.{rootOf}
-use Rattle.matrix.specs.Matrix.{entry, exchange}
-use Rattle.matrix.specs.Loop.{turns, for, falling}
-use Rattle.matrix.specs.Grid.{load}
-use Rattle.matrix.specs.Layouts.{inUpper, placeSquare, upper}
+use Rattle.matrix.specs.Matrix.{exchange}
+use Rattle.matrix.specs.Loop.{for, falling}
+use Rattle.matrix.specs.Grid.{load, mask}
+use Rattle.matrix.specs.Layouts.{lower, upper, square}
 use Rattle.pivots.specs.Words.{paired, marked}
 use Rattle.pivots.specs.Rule.{blockOf, faultFrom, checked}
 use Rattle.lblt.specs.Choice.{choose, choiceBy, contest, rowMax, alongRow, downColumn, columnMax, greater}
-use Rattle.lblt.specs.Factor.{begun, factored, recorded}
-use Rattle.lblt.specs.Interchange.{swapBelow, swapBetween, interchange, brought1, brought2}
+use Rattle.lblt.specs.Factor.{answerOf, begun, factored, recorded}
+use Rattle.lblt.specs.Interchange.{interchange, brought1, brought2}
 use Rattle.lblt.specs.Step.{run, step, take, pivot1, pivot2, firstMark}
 use Rattle.lblt.specs.Update.{rank1At, rank1, scaleAt, eliminate1, update1, blockBy, blockAt, multiplier, work1, work2, rank2At, rank2By, rank2, update2}
 use Rattle.lblt_column.specs.Blocks.{bySize, rowsOf, blocksFrom, forwards, blocksTo, backwards}
-use Rattle.lblt_solve.specs.Calls.{readerAnswer, solveAnswer}
 use Rattle.lblt_column.specs.Column.{swapRows, lessOne, lessTwo, eliminateOne, eliminateTwo, forwardBlock, divideOne, blockDeterminant, divideTwo, divideBlock, lessProduct, gatherRow, backwardBlock, solveColumn}
+use Rattle.lblt_sides.specs.Columns.{eachColumn}
+use Rattle.lblt_solve.specs.Calls.{lowerOf, readerAnswer, solveAnswer}
 use Rattle.lblt_solve.specs.Diagonal.{timesBlock, determinantOf}
 use Rattle.cholesky.specs.Crate.{positive}
 use Rattle.cholesky.specs.Run.{run as choleskyColumns}
 use Rattle.cholesky.specs.Promise.{checked as fitted}
-use Rattle.cholesky.specs.Readers.{sliced}
-use Rattle.cholesky.specs.Solve.{solveAnswer as trianglesAnswer}
-use Rattle.cholesky_column.specs.Triangles.{plusProduct, spreadRow, lowerRow, solveLower, transposedRow, solveTransposed, solveTriangles}
-use Rattle.udu.specs.Columns.{total, squared, crossed, diagonal, lastEntry, earlierEntry, entryOf, withDiagonal, withColumn, column, nothing, run as uduColumns}
-use Rattle.udu.specs.Promise.{uduOf as uduPromised}
-use Rattle.cases.specs.Read.{matrixOf, rowBits, lowerBits, answered, blank, recordOf, factorMatrix, factorOf, determinantBits, floats, bitsOf, solveAnswered, solutionOf, imaxOf, choleskyRun, choleskyOf, choleskySolutionOf, choleskySolveAnswered, uduOf, lbltOf, upperOf, lastBits, diagonalBits, runBits, uduGives, uduOfSlice, rootBits}
-use Rattle.cases.specs.Table.{Case, table}
+use Rattle.cholesky.specs.Solve.{solveAnswer as trianglesAnswer, solveSides}
+use Rattle.cholesky_column.specs.Triangles.{solveTriangles}
+use Rattle.udu.specs.Columns.{diagonal, entryOf, withDiagonal, withColumn, nothing}
+use Rattle.udu.specs.Promise.{sizesOf, uduOf}
+use Rattle.cases.specs.Calls.{floats, bitsOf, Gives, Case, Hold, none, more}
+use Rattle.cases.specs.Table.{table}
 use Rattle.cases.specs.Twins.{twinTable}
+use Rattle.cases.proofs.Slices.{listed, overlaid}
+use Rattle.cases.proofs.Found.{found, gives, lbltWords, lbltSlice, determinantNumbers, solveNumbers, choleskyAnswer, choleskySlice, choleskySolveNumbers, uduNumbers}
 
-abbrev pub given : Case → List ℕ
-given c = c .gives
+abbrev foundIn : Case → List (List ℕ)
+foundIn c = found (c .call)
 
-abbrev pub wanted : Case → List ℕ
-wanted c = c .wanted
+abbrev numbersIn : Case → List (List ℕ)
+numbersIn c = c .numbers
 
--- the worked cases, and twin rows
-pub all-cases : map given (table ++ twinTable) ≡ map wanted (table ++ twinTable)
-unfolding ofBits toBits lt le eq add sub mul div neg isNan absOf maximumOf rootOf entry exchange turns for falling load inUpper placeSquare upper paired marked blockOf faultFrom checked choose choiceBy contest rowMax alongRow downColumn columnMax greater begun factored recorded swapBelow swapBetween interchange brought1 brought2 run step take pivot1 pivot2 firstMark rank1At rank1 scaleAt eliminate1 update1 blockBy blockAt multiplier work1 work2 rank2At rank2By rank2 update2 bySize rowsOf blocksFrom forwards blocksTo backwards readerAnswer solveAnswer swapRows lessOne lessTwo eliminateOne eliminateTwo forwardBlock divideOne blockDeterminant divideTwo divideBlock lessProduct gatherRow backwardBlock solveColumn timesBlock determinantOf positive choleskyColumns fitted sliced trianglesAnswer plusProduct spreadRow lowerRow solveLower transposedRow solveTransposed solveTriangles total squared crossed diagonal lastEntry earlierEntry entryOf withDiagonal withColumn column nothing uduColumns uduPromised matrixOf rowBits lowerBits answered blank recordOf factorMatrix factorOf determinantBits floats bitsOf solveAnswered solutionOf imaxOf choleskyRun choleskyOf choleskySolutionOf choleskySolveAnswered uduOf lbltOf upperOf lastBits diagonalBits runBits uduGives uduOfSlice rootBits
-all-cases = refl
+hold : (cs : List Case) → map foundIn cs ≡ map numbersIn cs → Hold cs
+hold [] e = none
+hold (c ∷ cs) e = more c cs (subst (Gives (c .call)) (ap (λ (l : List (List (List ℕ))). getD l 0 []) e) (gives (c .call))) (hold cs (ap (drop 1) e))
+
+computed : map foundIn (table ++ twinTable) ≡ map numbersIn (table ++ twinTable)
+unfolding ofBits toBits le sub mul div isNan absOf maximumOf rootOf exchange for falling load mask lower upper square paired marked blockOf faultFrom checked choose choiceBy contest rowMax alongRow downColumn columnMax greater answerOf begun factored recorded interchange brought1 brought2 run step take pivot1 pivot2 firstMark rank1At rank1 scaleAt eliminate1 update1 blockBy blockAt multiplier work1 work2 rank2At rank2By rank2 update2 bySize rowsOf blocksFrom forwards blocksTo backwards lowerOf readerAnswer solveAnswer swapRows lessOne lessTwo eliminateOne eliminateTwo forwardBlock divideOne blockDeterminant divideTwo divideBlock lessProduct gatherRow backwardBlock solveColumn eachColumn timesBlock determinantOf positive choleskyColumns fitted trianglesAnswer solveSides solveTriangles diagonal entryOf withDiagonal withColumn nothing sizesOf uduOf floats bitsOf listed overlaid lbltWords lbltSlice determinantNumbers solveNumbers choleskyAnswer choleskySlice choleskySolveNumbers uduNumbers
+computed = refl
+
+-- document 01's starred cases and those beside them, and twin rows
+pub all-cases : Hold (table ++ twinTable)
+all-cases = hold (table ++ twinTable) computed

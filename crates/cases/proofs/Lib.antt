@@ -1,2 +1,4 @@
+pub mod Slices
+pub mod Found
 pub mod Computed
 pub mod TwinAnswers

@@ -16,7 +16,7 @@ use Rattle.twins.specs.declared.Twin.the-variants.{Nothing, Pair}
 use Rattle.twins.specs.Twins.{symmetric, Twins}
 use Rattle.twins.specs.Sizes.{sizes}
 use Rattle.twins.specs.First.{rowsIn, none, pair, FirstTwinSince, FirstTwin}
-use Rattle.cases.specs.Read.{floats}
+use Rattle.cases.specs.Calls.{floats}
 use Rattle.cases.specs.Twins.{upperTwins, cameTwice, cameOnce, factoredTwice, factoredOnce}
 
 -- ---- two rows, of which the first m came earlier

@@ -1,3 +1,3 @@
-pub mod Read
+pub mod Calls
 pub mod Table
 pub mod Twins

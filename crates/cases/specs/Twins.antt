@@ -1,59 +1,64 @@
 -- Twin rows, worked: [x / x x] for x = 1, 2, 3, 7, 49, by each factor; a first batch by Cholesky; two more by UDU.
 use mathlib.Core.List.{List, [], _∷_}
 use Prim.Native.Nat.{ℕ}
-use Rattle.cases.specs.Read.{Rows, lbltOf, choleskyOf, uduGives, uduOfSlice}
-use Rattle.cases.specs.Table.{Case, _⇒_}
+use Rattle.cases.specs.Calls.{stray, lbltFactor, choleskyFactor, uduFactor, Case, _⇒_}
+use Rattle.cases.specs.Table.{zero, belowOne, one, two, three, four, fortyNine, done, refused}
 
--- [x / x x]
-abbrev pub twins : ℕ → Rows
-twins x = (x ∷ []) ∷ (x ∷ x ∷ []) ∷ []
+abbrev pub seven : ℕ
+seven = 0x401c_0000_0000_0000
 
--- a slice of order 2, 1 and 0 in column 0, 1 and 1 in column 1: the rows are twins by the upper part, not by the lower
+-- slices of order 2: [x / x x] by the lower part, and by the upper part
+abbrev pub twins : ℕ → List ℕ
+twins x = x ∷ x ∷ stray ∷ x ∷ []
+
+abbrev pub twinsAbove : ℕ → List ℕ
+twinsAbove x = x ∷ stray ∷ x ∷ x ∷ []
+
+-- 1 and 0 in column 0, 1 and 1 in column 1: the rows are twins by the upper part, not by the lower
 abbrev pub upperTwins : List ℕ
-upperTwins = 0x3ff0_0000_0000_0000 ∷ 0 ∷ 0x3ff0_0000_0000_0000 ∷ 0x3ff0_0000_0000_0000 ∷ []
+upperTwins = one ∷ zero ∷ one ∷ one ∷ []
 
 -- slices of room 2: the rows 2 and then 2, 2, as they came; the rows 4 and then 2, 2
 abbrev pub cameTwice : List ℕ
-cameTwice = 0x4000_0000_0000_0000 ∷ 0x4000_0000_0000_0000 ∷ 0 ∷ 0x4000_0000_0000_0000 ∷ []
+cameTwice = two ∷ two ∷ zero ∷ two ∷ []
 
 abbrev pub cameOnce : List ℕ
-cameOnce = 0x4010_0000_0000_0000 ∷ 0x4000_0000_0000_0000 ∷ 0 ∷ 0x4000_0000_0000_0000 ∷ []
+cameOnce = four ∷ two ∷ zero ∷ two ∷ []
 
 -- the same with row 0 factored: √2 for 2; 2 for 4, so that the numbers are those of the rows that came twice
 abbrev pub factoredTwice : List ℕ
-factoredTwice = 0x3ff6_a09e_667f_3bcd ∷ 0x4000_0000_0000_0000 ∷ 0 ∷ 0x4000_0000_0000_0000 ∷ []
+factoredTwice = 0x3ff6_a09e_667f_3bcd ∷ two ∷ zero ∷ two ∷ []
 
 abbrev pub factoredOnce : List ℕ
 factoredOnce = cameTwice
 
--- LBLT: the record, then the factor. Cholesky: the answer, then the factor. UDU: the answer, u(0,1), u(1,1), then d.
 abbrev pub twinTable : List Case
 twinTable =
     -- x = 1
-    (lbltOf (twins 0x3ff0_0000_0000_0000) ⇒ 0 ∷ 1 ∷ 1 ∷ 1 ∷ 2 ∷ 0x3ff0_0000_0000_0000 ∷ 0x3ff0_0000_0000_0000 ∷ 0 ∷ [])
-    ∷ (choleskyOf (twins 0x3ff0_0000_0000_0000) ⇒ 7 ∷ 1 ∷ 0x3ff0_0000_0000_0000 ∷ 0x3ff0_0000_0000_0000 ∷ 0 ∷ [])
-    ∷ (uduGives (twins 0x3ff0_0000_0000_0000) ⇒ 8 ∷ 0 ∷ 0x3ff0_0000_0000_0000 ∷ 0x3ff0_0000_0000_0000 ∷ 0 ∷ 0x3ff0_0000_0000_0000 ∷ [])
+    (lbltFactor 2 (twins one) ⇒ done ∷ (0 ∷ 1 ∷ 1 ∷ 1 ∷ 2 ∷ []) ∷ (one ∷ one ∷ stray ∷ zero ∷ []) ∷ [])
+    ∷ (choleskyFactor 2 2 (twins one) ⇒ refused 7 1 ∷ (one ∷ one ∷ stray ∷ zero ∷ []) ∷ [])
+    ∷ (uduFactor 2 (twinsAbove one) ⇒ refused 8 0 ∷ (zero ∷ zero ∷ one ∷ one ∷ []) ∷ (zero ∷ one ∷ []) ∷ [])
     -- x = 2
-    ∷ (lbltOf (twins 0x4000_0000_0000_0000) ⇒ 0 ∷ 1 ∷ 1 ∷ 1 ∷ 2 ∷ 0x4000_0000_0000_0000 ∷ 0x3ff0_0000_0000_0000 ∷ 0 ∷ [])
-    ∷ (choleskyOf (twins 0x4000_0000_0000_0000) ⇒ 0 ∷ 0 ∷ 0x3ff6_a09e_667f_3bcd ∷ 0x3ff6_a09e_667f_3bcc ∷ 0x3e56_a09e_667f_3bcd ∷ [])
-    ∷ (uduGives (twins 0x4000_0000_0000_0000) ⇒ 8 ∷ 0 ∷ 0x3ff0_0000_0000_0000 ∷ 0x3ff0_0000_0000_0000 ∷ 0 ∷ 0x4000_0000_0000_0000 ∷ [])
+    ∷ (lbltFactor 2 (twins two) ⇒ done ∷ (0 ∷ 1 ∷ 1 ∷ 1 ∷ 2 ∷ []) ∷ (two ∷ one ∷ stray ∷ zero ∷ []) ∷ [])
+    ∷ (choleskyFactor 2 2 (twins two) ⇒ done ∷ (0x3ff6_a09e_667f_3bcd ∷ 0x3ff6_a09e_667f_3bcc ∷ stray ∷ 0x3e56_a09e_667f_3bcd ∷ []) ∷ [])
+    ∷ (uduFactor 2 (twinsAbove two) ⇒ refused 8 0 ∷ (zero ∷ zero ∷ one ∷ one ∷ []) ∷ (zero ∷ two ∷ []) ∷ [])
     -- x = 3
-    ∷ (lbltOf (twins 0x4008_0000_0000_0000) ⇒ 0 ∷ 1 ∷ 1 ∷ 1 ∷ 2 ∷ 0x4008_0000_0000_0000 ∷ 0x3ff0_0000_0000_0000 ∷ 0 ∷ [])
-    ∷ (choleskyOf (twins 0x4008_0000_0000_0000) ⇒ 7 ∷ 1 ∷ 0x3ffb_b67a_e858_4caa ∷ 0x3ffb_b67a_e858_4cab ∷ 0xbcc0_0000_0000_0000 ∷ [])
-    ∷ (uduGives (twins 0x4008_0000_0000_0000) ⇒ 8 ∷ 0 ∷ 0x3ff0_0000_0000_0000 ∷ 0x3ff0_0000_0000_0000 ∷ 0 ∷ 0x4008_0000_0000_0000 ∷ [])
+    ∷ (lbltFactor 2 (twins three) ⇒ done ∷ (0 ∷ 1 ∷ 1 ∷ 1 ∷ 2 ∷ []) ∷ (three ∷ one ∷ stray ∷ zero ∷ []) ∷ [])
+    ∷ (choleskyFactor 2 2 (twins three) ⇒ refused 7 1 ∷ (0x3ffb_b67a_e858_4caa ∷ 0x3ffb_b67a_e858_4cab ∷ stray ∷ 0xbcc0_0000_0000_0000 ∷ []) ∷ [])
+    ∷ (uduFactor 2 (twinsAbove three) ⇒ refused 8 0 ∷ (zero ∷ zero ∷ one ∷ one ∷ []) ∷ (zero ∷ three ∷ []) ∷ [])
     -- x = 7
-    ∷ (lbltOf (twins 0x401c_0000_0000_0000) ⇒ 0 ∷ 1 ∷ 1 ∷ 1 ∷ 2 ∷ 0x401c_0000_0000_0000 ∷ 0x3ff0_0000_0000_0000 ∷ 0 ∷ [])
-    ∷ (choleskyOf (twins 0x401c_0000_0000_0000) ⇒ 0 ∷ 0 ∷ 0x4005_2a7f_a9d2_f8ea ∷ 0x4005_2a7f_a9d2_f8e9 ∷ 0x3e66_a09e_667f_3bcd ∷ [])
-    ∷ (uduGives (twins 0x401c_0000_0000_0000) ⇒ 8 ∷ 0 ∷ 0x3ff0_0000_0000_0000 ∷ 0x3ff0_0000_0000_0000 ∷ 0 ∷ 0x401c_0000_0000_0000 ∷ [])
+    ∷ (lbltFactor 2 (twins seven) ⇒ done ∷ (0 ∷ 1 ∷ 1 ∷ 1 ∷ 2 ∷ []) ∷ (seven ∷ one ∷ stray ∷ zero ∷ []) ∷ [])
+    ∷ (choleskyFactor 2 2 (twins seven) ⇒ done ∷ (0x4005_2a7f_a9d2_f8ea ∷ 0x4005_2a7f_a9d2_f8e9 ∷ stray ∷ 0x3e66_a09e_667f_3bcd ∷ []) ∷ [])
+    ∷ (uduFactor 2 (twinsAbove seven) ⇒ refused 8 0 ∷ (zero ∷ zero ∷ one ∷ one ∷ []) ∷ (zero ∷ seven ∷ []) ∷ [])
     -- x = 49
-    ∷ (lbltOf (twins 0x4048_8000_0000_0000) ⇒ 0 ∷ 1 ∷ 1 ∷ 1 ∷ 0 ∷ 0x4048_8000_0000_0000 ∷ 0x3fef_ffff_ffff_ffff ∷ 0x3d00_0000_0000_0000 ∷ [])
-    ∷ (choleskyOf (twins 0x4048_8000_0000_0000) ⇒ 7 ∷ 1 ∷ 0x401c_0000_0000_0000 ∷ 0x401c_0000_0000_0000 ∷ 0 ∷ [])
-    ∷ (uduGives (twins 0x4048_8000_0000_0000) ⇒ 0 ∷ 0 ∷ 0x3fef_ffff_ffff_ffff ∷ 0x3fef_ffff_ffff_ffff ∷ 0x3d10_0000_0000_0000 ∷ 0x4048_8000_0000_0000 ∷ [])
+    ∷ (lbltFactor 2 (twins fortyNine) ⇒ done ∷ (0 ∷ 1 ∷ 1 ∷ 1 ∷ 0 ∷ []) ∷ (fortyNine ∷ belowOne ∷ stray ∷ 0x3d00_0000_0000_0000 ∷ []) ∷ [])
+    ∷ (choleskyFactor 2 2 (twins fortyNine) ⇒ refused 7 1 ∷ (seven ∷ seven ∷ stray ∷ zero ∷ []) ∷ [])
+    ∷ (uduFactor 2 (twinsAbove fortyNine) ⇒ done ∷ (one ∷ zero ∷ belowOne ∷ belowOne ∷ []) ∷ (0x3d10_0000_0000_0000 ∷ fortyNine ∷ []) ∷ [])
     -- x = 0006200000000000, below the normal numbers: (1/x)·x, which is u(0,1), is not 1, and what is left is zero all the same
-    ∷ (uduGives (twins 0x0006_2000_0000_0000) ⇒ 8 ∷ 0 ∷ 0x3fef_ffff_ffff_ffff ∷ 0x3fef_ffff_ffff_ffff ∷ 0 ∷ 0x0006_2000_0000_0000 ∷ [])
-    -- row 0 factored, of 2 and of 4
-    ∷ (choleskyOf ((0x4000_0000_0000_0000 ∷ []) ∷ []) ⇒ 0 ∷ 0 ∷ 0x3ff6_a09e_667f_3bcd ∷ [])
-    ∷ (choleskyOf ((0x4010_0000_0000_0000 ∷ []) ∷ []) ⇒ 0 ∷ 0 ∷ 0x4000_0000_0000_0000 ∷ [])
+    ∷ (uduFactor 2 (twinsAbove 0x0006_2000_0000_0000) ⇒ refused 8 0 ∷ (zero ∷ zero ∷ belowOne ∷ belowOne ∷ []) ∷ (zero ∷ 0x0006_2000_0000_0000 ∷ []) ∷ [])
+    -- row 0 factored, of 2 and of 4, with row 1 beside it as it came
+    ∷ (choleskyFactor 2 1 cameTwice ⇒ done ∷ factoredTwice ∷ [])
+    ∷ (choleskyFactor 2 1 cameOnce ⇒ done ∷ factoredOnce ∷ [])
     -- twins by the upper part alone
-    ∷ (uduOfSlice 2 upperTwins ⇒ 8 ∷ 0 ∷ 0x3ff0_0000_0000_0000 ∷ 0x3ff0_0000_0000_0000 ∷ 0 ∷ 0x3ff0_0000_0000_0000 ∷ [])
+    ∷ (uduFactor 2 upperTwins ⇒ refused 8 0 ∷ (zero ∷ zero ∷ one ∷ one ∷ []) ∷ (zero ∷ one ∷ []) ∷ [])
     ∷ []

@@ -12,4 +12,3 @@ pub mod Neighbours
 pub mod Between
 pub mod Nearest
 pub mod Once
-pub mod Cases

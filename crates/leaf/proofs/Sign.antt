@@ -1,14 +1,16 @@
--- A float's pattern with the sign's bit taken off is the pattern of its absolute value.
+-- A float's pattern with bits taken off. Without the sign's bit it is the pattern of the absolute value.
 use mathlib.Core.Path.{_≡_, refl, sym, ap, _∙_, subst}
-use Prim.Native.Nat.{ℕ, zero, suc, _+_, _-_, _*_, _/_, _%_, _^_, _<_}
+use Prim.Native.Nat.{ℕ, zero, suc, _+_, _-_, _*_, _/_, _%_, _^_, _≤_, _<_}
 use native.Mathlib.Nat.{add-assoc, zero-add}
 use native.Mathlib.Omega.{arith}
 use mathlib.Core.Bool.{Bool, true, false, not, cond}
 use lib.IntN.{ℤ}
-use lib.Dec.{T}
+use lib.Dec.{T, ltb, nltb→le}
+use lib.Bits.{bitAnd, and-mod, and-le-l}
 use lib.Ieee.{Float, nan, inf, fin, binary64, prec, low, up, down, size, fits, isNan, ofBits, toBits, nanBits}
-use lib.Ieee.Bits.{ofBits-toBits, toBits-lt, nanBits-is}
+use lib.Ieee.Bits.{ofBits-toBits, toBits-lt, nanBits-is, nanBits-above}
 use Rattle.leaf.specs.Abs.{absOf}
+use Rattle.leaf.proofs.Nan.{no-nan-bits}
 
 -- the pattern of a finite float after its sign
 rest : ℕ → ℤ → ℕ
@@ -50,11 +52,11 @@ unsigned (fin s m e) h n =
     ap (ofBits binary64) (cut s m e h ∙ sym (zero-add (rest m e)) ∙ sym (pattern false m e))
     ∙ ofBits-toBits binary64 (fin false m e) (either-sign s false m e h)
 
-abs-no-nan : (x : Float) → T (not (isNan x)) → T (not (isNan (absOf x)))
-unfolding absOf isNan
-abs-no-nan nan n = n
-abs-no-nan (inf s) n = tt
-abs-no-nan (fin s m e) n = tt
-
-pub unsigned-no-nan : (x : Float) → T (fits binary64 x) → T (not (isNan x)) → T (not (nanBits binary64 (toBits binary64 x % 2 ^ 63)))
-unsigned-no-nan x h n = subst (λ (b : Bool). T (not b)) (sym (nanBits-is binary64 (toBits binary64 x % 2 ^ 63) ∙ ap isNan (unsigned x h n))) (abs-no-nan x n)
+-- a number with bits of its pattern taken off is a number
+pub masked-no-nan : (x : Float) (mask : ℕ) → T (fits binary64 x) → T (not (isNan x)) → T (not (nanBits binary64 (bitAnd (toBits binary64 x) mask)))
+masked-no-nan x mask h n =
+    let b = toBits binary64 x in
+    let is : isNan x ≡ ltb 0x7ff0_0000_0000_0000 (b % 2 ^ 63) = ap isNan (sym (ofBits-toBits binary64 x h)) ∙ sym (nanBits-is binary64 b) ∙ nanBits-above binary64 b in
+    let small : b % 2 ^ 63 ≤ 0x7ff0_0000_0000_0000 = nltb→le _ _ (subst (λ (t : Bool). T (not t)) is n) in
+    let less : bitAnd b mask % 2 ^ 63 ≤ b % 2 ^ 63 = subst (λ (k : ℕ). k ≤ b % 2 ^ 63) (sym (and-mod b mask 63)) (and-le-l (b % 2 ^ 63) (mask % 2 ^ 63)) in
+    no-nan-bits (bitAnd b mask) (omega arith)

@@ -1,13 +1,11 @@
 -- `abs` meets its contract: the mask takes the sign's bit off the pattern.
 use mathlib.Core.Path.{sym, ap, _∙_, subst}
-use Prim.Native.Nat.{ℕ}
-use mathlib.Core.Bool.{not}
 use lib.Dec.{T}
 use lib.Bits.{and-mask}
-use lib.Ieee.{binary64, fits, nanBits, ofBits, toBits}
+use lib.Ieee.{binary64, fits, ofBits, toBits}
 use Rattle.leaf.specs.Abs.{absOf}
 use Rattle.leaf.proofs.Nan.{is-nan, no-nan}
-use Rattle.leaf.proofs.Sign.{unsigned, unsigned-no-nan}
+use Rattle.leaf.proofs.Sign.{unsigned, masked-no-nan}
 use Rattle.leaf.proofs.abs.Statement.{statement}
 use Rattle.leaf.proofs.abs.Tie as tie
 
@@ -23,9 +21,7 @@ float-to-bits-result : tie.Need-float-to-bits-result
 float-to-bits-result c = no-nan (c .before .args .x) (c .if1 .left)
 
 float-from-bits-result : tie.Need-float-from-bits-result
-float-from-bits-result c =
-    subst (λ (b : ℕ). T (not (nanBits binary64 b))) (sym (and-mask (toBits binary64 (c .before .args .x)) 63))
-    (unsigned-no-nan (c .before .args .x) (held c) (no-nan (c .before .args .x) (c .if1 .left)))
+float-from-bits-result c = masked-no-nan (c .before .args .x) _ (held c) (no-nan (c .before .args .x) (c .if1 .left))
 
 returns-2 : tie.Need-returns-2
 returns-2 c =

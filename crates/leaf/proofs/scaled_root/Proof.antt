@@ -1,7 +1,7 @@
 -- `scaled_root` meets its contract.
 use borrow.Author.Needs.{needs}
 use mathlib.Core.Path.{sym, subst}
-use Prim.Native.Nat.{ℕ, _+_, _*_, _/_, _%_, _^_, _<_}
+use Prim.Native.Nat.{ℕ, _*_, _%_, _^_, _<_}
 use native.Mathlib.Nat.{mul-le-mul-right}
 use native.Mathlib.Omega.{arith}
 use lib.Pow.{shl-lt}
@@ -37,7 +37,7 @@ add-result-2 : tie.Need-add-result-2
 add-result-2 c = omega (arith, size c .most, c .before .before .pre .highest)
 
 float-from-bits-result : tie.Need-float-from-bits-result
-float-from-bits-result c = no-nan-bits (c .before .before .args .at / 2 * 2 ^ 52 + (c .root .result + 1) / 2) (omega (arith, size c .most, c .before .before .pre .highest))
+float-from-bits-result c = no-nan-bits _ (omega (arith, size c .most, c .before .before .pre .highest))
 
 returns : tie.Need-returns
 returns c = sym (rounded-cut (c .before .before .args .m) (c .before .before .args .at) (c .before .before .pre) (c .root .result) (cut c))

@@ -1,0 +1,162 @@
+-- What each call gives, written out: any answer and memory that meet its promise are that. Assumes nothing.
+use mathlib.Core.Path.{_≡_, refl, sym, ap, _∙_}
+use mathlib.Core.Bool.{Bool, true, false, cond}
+use mathlib.Core.List.{List, [], _∷_}
+use Prim.Native.Nat.{ℕ, _*_, _%_, _/_}
+use native.Mathlib.Nat.{le-refl}
+use lib.ListN.{length}
+use lib.Ieee.{Float, binary64, ofBits, toBits}
+use Rattle.answer.specs.declared.Answer.{Answer}
+use Rattle.answer.specs.declared.Answer.the-variants.{Done}
+use Rattle.answer.specs.declared.Valued.{Valued}
+use Rattle.answer.specs.Number.{isDone}
+use Rattle.leaf.specs.Root.{rootOf}
+use Rattle.matrix.specs.Grid.{load, mask}
+use Rattle.matrix.specs.Layouts.{lower, square}
+use Rattle.lblt.specs.Choice.{columnMax}
+use Rattle.lblt.specs.Factor.{answerOf, full, factored, recorded, Factored}
+use Rattle.lblt.proofs.Done.{Same}
+use Rattle.lblt_column.specs.Column.{solveColumn}
+use Rattle.lblt_sides.specs.Columns.{eachColumn}
+use Rattle.lblt_solve.specs.Diagonal.{zeroFloat, determinantOf}
+use Rattle.lblt_solve.specs.Calls.{lowerOf, readerAnswer, solveAnswer, Solved, Determined}
+use Rattle.cholesky.specs.Promise.{in-room, checked, batch, Extended}
+use Rattle.cholesky.specs.Solve.{solveAnswer as trianglesAnswer, solveSides, Solved as SolvedByTriangles}
+use Rattle.cholesky.proofs.Checks.{Checked, fit, unfit, check?}
+use Rattle.udu.specs.Promise.{Sizes, right, wrong, sizesOf, uduOf, answerBy, foundOf, LeftBy, Factored as FactoredUdu}
+use Rattle.cases.specs.Calls.{floats, bitsOf, answered, lentWords, lentFloats, Call, lbltFactor, lbltDeterminant, lbltSolve, lbltLargest, choleskyFactor, choleskySolve, choleskySolveSizes, uduFactor, root, Gives}
+use Rattle.cases.proofs.Slices.{listed, is-listed, overlaid, holds-overlaid, fills-listed}
+
+-- ---- LBLT's factor
+
+module _ (n : ℕ) (a : List Float) (words : List ℕ) where
+  unfoldable pub lbltWords : List ℕ
+  lbltWords = cond (isDone (answerOf n a words)) (recorded n (load (lower (full n)) a) words) words
+
+  unfoldable pub lbltSlice : List Float
+  lbltSlice = cond (isDone (answerOf n a words)) (overlaid (full n) a (factored n (load (lower (full n)) a) words .matrix)) a
+
+  pub factors : {r : Answer} {a' : List Float} {words' : List ℕ} → Factored n a words r a' words' → Same r (answerOf n a words) a' lbltSlice words' lbltWords
+  unfolding lbltWords lbltSlice
+  factors {r} {a'} {words'} f = at (isDone r) refl
+    where
+      same : {b : Bool} → isDone r ≡ b → isDone (answerOf n a words) ≡ b
+      same e = ap isDone (sym (f .answer)) ∙ e
+
+      at : (b : Bool) → isDone r ≡ b → Same r (answerOf n a words) a' lbltSlice words' lbltWords
+      at true e =
+          let stored = f .done e in
+          record { answer = f .answer; matrix = rw (same e) (holds-overlaid (le-refl n) (stored .matrix)); pivots = rw (same e) (stored .pivots) }
+      at false e =
+          let kept = f .refused e in
+          record { answer = f .answer; matrix = rw (same e) (kept .matrix); pivots = rw (same e) (kept .pivots) }
+
+-- ---- LBLT's readers
+
+module _ (n : ℕ) (a : List Float) (words : List ℕ) where
+  unfoldable pub determinantNumbers : List (List ℕ)
+  determinantNumbers =
+      let r = readerAnswer n n a words a in
+      answered r ∷ (toBits binary64 (cond (isDone r) (determinantOf n (lowerOf n a) words) zeroFloat) ∷ []) ∷ []
+
+  pub determines : {v : Valued} → Determined n a words v → (answered (v .answer) ∷ (toBits binary64 (v .value) ∷ []) ∷ []) ≡ determinantNumbers
+  unfolding determinantNumbers
+  determines d = rw (d .value, d .answer)
+
+  unfoldable pub solveNumbers : List Float → List (List ℕ)
+  solveNumbers b =
+      let r = solveAnswer n 1 a words b in
+      answered r ∷ bitsOf (cond (isDone r) (eachColumn n 1 (solveColumn n (lowerOf n a) words) b) b) ∷ []
+
+  pub solves : {b b' : List Float} {r : Answer} → Solved n 1 a words b r b' → (answered r ∷ bitsOf b' ∷ []) ≡ solveNumbers b
+  unfolding solveNumbers
+  solves s = rw (s .sides, s .answer)
+
+-- ---- Cholesky's factor, and its solve
+
+module _ (room n : ℕ) (a : List Float) where
+  unfoldable pub choleskyAnswer : Answer
+  choleskyAnswer = checked room 0 n (length a) (batch room 0 n a .answer)
+
+  unfoldable pub choleskySlice : List Float
+  choleskySlice = cond (isDone (checked room 0 n (length a) Done)) (overlaid (in-room room n) a (mask (lower (in-room room n)) (batch room 0 n a .cells))) a
+
+  pub extends : {l : List Float} {r : Answer} → Extended room 0 n a l r → (r ≡ choleskyAnswer) × (l ≡ choleskySlice)
+  unfolding choleskyAnswer choleskySlice
+  extends {l} f = (f .answer, at (check? room 0 n (length a)))
+    where
+      at : Checked room 0 n (length a) → l ≡ cond (isDone (checked room 0 n (length a) Done)) (overlaid (in-room room n) a (mask (lower (in-room room n)) (batch room 0 n a .cells))) a
+      at (fit fits is) = rw (is Done) (holds-overlaid (fits .inside) (f .leaves fits .holds))
+      at (unfit none x code is) = rw (is Done, code) (f .unchanged none)
+
+  unfoldable pub choleskySolveNumbers : List Float → List (List ℕ)
+  choleskySolveNumbers b =
+      let r = trianglesAnswer room n 1 (length a) (length b) in
+      answered r ∷ bitsOf (cond (isDone r) (solveSides (lower (in-room room n)) n 1 a b) b) ∷ []
+
+  pub solves-triangles : {b c : List Float} {r : Answer} → SolvedByTriangles room n 1 a b c r → (answered r ∷ bitsOf c ∷ []) ≡ choleskySolveNumbers b
+  unfolding choleskySolveNumbers
+  solves-triangles s = rw (s .sides, s .answer)
+
+-- ---- UDU
+
+module _ (n : ℕ) (p u₀ d₀ : List Float) where
+  abbrev upperBy : Sizes → List Float
+  upperBy right = listed (λ q. mask (square n) (foundOf (uduOf n p) .u) (q % n) (q / n)) (n * n)
+  upperBy (wrong r) = u₀
+
+  abbrev diagonalBy : Sizes → List Float
+  diagonalBy right = listed (foundOf (uduOf n p) .d) n
+  diagonalBy (wrong r) = d₀
+
+  unfoldable pub uduNumbers : List (List ℕ)
+  uduNumbers =
+      let s = sizesOf n (length p) (length u₀) (length d₀) in
+      answered (answerBy s (uduOf n p)) ∷ bitsOf (upperBy s) ∷ bitsOf (diagonalBy s) ∷ []
+
+  pub factors-udu : {u d : List Float} {r : Answer} → FactoredUdu p u₀ d₀ n r u d → (answered r ∷ bitsOf u ∷ bitsOf d ∷ []) ≡ uduNumbers
+  unfolding uduNumbers
+  factors-udu {u} {d} f = let g = left (sizesOf n (length p) (length u₀) (length d₀)) (f .slices) in rw (f .answer, g .0, g .1)
+    where
+      left : (s : Sizes) → LeftBy s n (uduOf n p) u₀ d₀ u d → (u ≡ upperBy s) × (d ≡ diagonalBy s)
+      left right f = (fills-listed (f .upper), is-listed d (foundOf (uduOf n p) .d) n (f .diagonal .long) (f .diagonal .cells))
+      left (wrong r) f = (f .upper, f .diagonal)
+
+-- ---- what each call gives
+
+-- what LBLT's factor leaves
+abbrev pub leftSlice : ℕ → List ℕ → List Float
+leftSlice n a = lbltSlice n (floats a) (lentWords n)
+
+abbrev pub leftWords : ℕ → List ℕ → List ℕ
+leftWords n a = lbltWords n (floats a) (lentWords n)
+
+abbrev pub found : Call → List (List ℕ)
+found (lbltFactor n a) = answered (answerOf n (floats a) (lentWords n)) ∷ leftWords n a ∷ bitsOf (leftSlice n a) ∷ []
+found (lbltDeterminant n a) = determinantNumbers n (leftSlice n a) (leftWords n a)
+found (lbltSolve n a b) = solveNumbers n (leftSlice n a) (leftWords n a) (floats b)
+found (lbltLargest n a k) = (columnMax n (load (lower (full n)) (floats a)) k .imax ∷ []) ∷ []
+found (choleskyFactor room n a) = answered (choleskyAnswer room n (floats a)) ∷ bitsOf (choleskySlice room n (floats a)) ∷ []
+found (choleskySolve room n a b) = choleskySolveNumbers room n (choleskySlice room n (floats a)) (floats b)
+found (choleskySolveSizes room n columns factor sides) = answered (trianglesAnswer room n columns factor sides) ∷ []
+found (uduFactor n p) = uduNumbers n (floats p) (lentFloats (n * n)) (lentFloats n)
+found (root x) = (toBits binary64 (rootOf (ofBits binary64 x)) ∷ []) ∷ []
+
+pub gives : (c : Call) → Gives c (found c)
+gives (lbltFactor n a) = λ r a' words f. let g = factors n (floats a) (lentWords n) f in rw (g .answer, g .pivots, g .matrix)
+gives (lbltDeterminant n a) = λ r a' words v f d.
+    let g = factors n (floats a) (lentWords n) f in
+    let by : Determined n (leftSlice n a) (leftWords n a) v = rw (g .matrix, g .pivots) at d in
+    determines n (leftSlice n a) (leftWords n a) by
+gives (lbltSolve n a b) = λ r s a' b' words f d.
+    let g = factors n (floats a) (lentWords n) f in
+    let by : Solved n 1 (leftSlice n a) (leftWords n a) (floats b) s b' = rw (g .matrix, g .pivots) at d in
+    solves n (leftSlice n a) (leftWords n a) by
+gives (lbltLargest n a k) = λ r e. rw e
+gives (choleskyFactor room n a) = λ r l f. let g = extends room n (floats a) f in rw (g .0, g .1)
+gives (choleskySolve room n a b) = λ r s l c f d.
+    let by : SolvedByTriangles room n 1 (choleskySlice room n (floats a)) (floats b) c s = rw (extends room n (floats a) f .1) at d in
+    solves-triangles room n (choleskySlice room n (floats a)) by
+gives (choleskySolveSizes room n columns factor sides) = λ r a b c long wide d. rw (d .answer, long, wide)
+gives (uduFactor n p) = λ r u d f. factors-udu n (floats p) (lentFloats (n * n)) (lentFloats n) f
+gives (root x) = λ r e. rw e

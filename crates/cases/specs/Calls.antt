@@ -1,0 +1,99 @@
+-- What a worked case says: any answer and memory that meet the promises of its calls, and so what the calls answer and leave, are the numbers beside it.
+-- A float is given by its bits; a matrix by the slice that is lent, column by column.
+use mathlib.Core.List.{List, [], _∷_}
+use mathlib.Core.Path.{_≡_}
+use Prim.Native.Nat.{ℕ, _*_}
+use lib.ListN.{length, replicate}
+use lib.Ieee.{Float, binary64, ofBits, toBits}
+use Rattle.answer.specs.declared.Answer.{Answer}
+use Rattle.answer.specs.declared.Valued.{Valued}
+use Rattle.answer.specs.Number.{codeOf, placeOf}
+use Rattle.leaf.specs.Root.{rootOf}
+use Rattle.matrix.specs.Grid.{load}
+use Rattle.matrix.specs.Layouts.{lower}
+use Rattle.pivots.specs.Words.{wordsOf}
+use Rattle.lblt.specs.declared.choice.Largest.{Largest}
+use Rattle.lblt.specs.Choice.{columnMax}
+use Rattle.lblt.specs.Factor.{full, Factored}
+use Rattle.lblt_solve.specs.Calls.{Solved, Determined}
+use Rattle.cholesky.specs.Promise.{Extended}
+use Rattle.cholesky.specs.Solve.{Solved as SolvedByTriangles}
+use Rattle.udu.specs.Promise.{Factored as FactoredUdu}
+
+unfoldable pub floats : List ℕ → List Float
+floats [] = []
+floats (b ∷ bs) = ofBits binary64 b ∷ floats bs
+
+unfoldable pub bitsOf : List Float → List ℕ
+bitsOf [] = []
+bitsOf (x ∷ xs) = toBits binary64 x ∷ bitsOf xs
+
+-- an answer's code and place
+abbrev pub answered : Answer → List ℕ
+answered a = codeOf a ∷ placeOf a ∷ []
+
+-- 99: it stands where nothing is to be read, and in what is lent to be written
+abbrev pub stray : ℕ
+stray = 0x4058_c000_0000_0000
+
+abbrev pub lentWords : ℕ → List ℕ
+lentWords n = replicate (wordsOf n) 99
+
+abbrev pub lentFloats : ℕ → List Float
+lentFloats count = replicate count (ofBits binary64 stray)
+
+-- a is the slice that is factored, of order n; b is one right-hand side
+pub data Call : Type 0 where
+  lbltFactor : (n : ℕ) (a : List ℕ) → Call
+  lbltDeterminant : (n : ℕ) (a : List ℕ) → Call
+  lbltSolve : (n : ℕ) (a b : List ℕ) → Call
+  lbltLargest : (n : ℕ) (a : List ℕ) (k : ℕ) → Call
+  choleskyFactor : (room n : ℕ) (a : List ℕ) → Call
+  choleskySolve : (room n : ℕ) (a b : List ℕ) → Call
+  choleskySolveSizes : (room n columns factor sides : ℕ) → Call
+  uduFactor : (n : ℕ) (p : List ℕ) → Call
+  root : (x : ℕ) → Call
+
+abbrev pub Gives : Call → List (List ℕ) → Type 0
+-- the answer, the record, the slice
+Gives (lbltFactor n a) numbers =
+    (r : Answer) (a' : List Float) (words : List ℕ) → Factored n (floats a) (lentWords n) r a' words
+    → (answered r ∷ words ∷ bitsOf a' ∷ []) ≡ numbers
+-- by what the factor leaves: the answer, the value
+Gives (lbltDeterminant n a) numbers =
+    (r : Answer) (a' : List Float) (words : List ℕ) (v : Valued) → Factored n (floats a) (lentWords n) r a' words → Determined n a' words v
+    → (answered (v .answer) ∷ (toBits binary64 (v .value) ∷ []) ∷ []) ≡ numbers
+-- by what the factor leaves: the answer, the right-hand side
+Gives (lbltSolve n a b) numbers =
+    (r s : Answer) (a' b' : List Float) (words : List ℕ) → Factored n (floats a) (lentWords n) r a' words → Solved n 1 a' words (floats b) s b'
+    → (answered s ∷ bitsOf b' ∷ []) ≡ numbers
+-- the row imax of column k
+Gives (lbltLargest n a k) numbers = (r : Largest) → r ≡ columnMax n (load (lower (full n)) (floats a)) k → ((r .imax ∷ []) ∷ []) ≡ numbers
+-- the answer, the slice
+Gives (choleskyFactor room n a) numbers = (r : Answer) (l : List Float) → Extended room 0 n (floats a) l r → (answered r ∷ bitsOf l ∷ []) ≡ numbers
+-- by what the factor leaves: the answer, the right-hand side
+Gives (choleskySolve room n a b) numbers =
+    (r s : Answer) (l c : List Float) → Extended room 0 n (floats a) l r → SolvedByTriangles room n 1 l (floats b) c s
+    → (answered s ∷ bitsOf c ∷ []) ≡ numbers
+-- by the lengths alone: the answer
+Gives (choleskySolveSizes room n columns factor sides) numbers =
+    (r : Answer) (a b c : List Float) → length a ≡ factor → length b ≡ sides → SolvedByTriangles room n columns a b c r
+    → (answered r ∷ []) ≡ numbers
+-- the answer, u, d
+Gives (uduFactor n p) numbers =
+    (r : Answer) (u d : List Float) → FactoredUdu (floats p) (lentFloats (n * n)) (lentFloats n) n r u d
+    → (answered r ∷ bitsOf u ∷ bitsOf d ∷ []) ≡ numbers
+Gives (root x) numbers = (r : Float) → r ≡ rootOf (ofBits binary64 x) → ((toBits binary64 r ∷ []) ∷ []) ≡ numbers
+
+pub record Case : Type 0 where
+  pub call : Call
+  pub numbers : List (List ℕ)
+
+infix 3 _⇒_
+abbrev pub _⇒_ : Call → List (List ℕ) → Case
+call ⇒ numbers = record { call = call; numbers = numbers }
+
+-- each case of a table holds
+pub data Hold : List Case → Type 0 where
+  none : Hold []
+  more : (c : Case) (cs : List Case) → Gives (c .call) (c .numbers) → Hold cs → Hold (c ∷ cs)
