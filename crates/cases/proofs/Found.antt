@@ -25,7 +25,7 @@ use Rattle.cholesky.specs.Solve.{solveAnswer as trianglesAnswer, solveSides, So
 use Rattle.cholesky.proofs.Checks.{Checked, fit, unfit, check?}
 use Rattle.udu.specs.Promise.{Sizes, right, wrong, sizesOf, uduOf, answerBy, foundOf, LeftBy, Factored as FactoredUdu}
 use Rattle.cases.specs.Calls.{floats, bitsOf, answered, lentWords, lentFloats, Call, lbltFactor, lbltDeterminant, lbltSolve, lbltLargest, choleskyFactor, choleskySolve, choleskySolveSizes, uduFactor, root, Gives}
-use Rattle.cases.proofs.Slices.{listed, is-listed, overlaid, holds-overlaid, fills-listed}
+use Rattle.matrix.proofs.Slices.{listed, is-listed, overlaid, holds-overlaid, fills-listed}
 
 -- ---- LBLT's factor
 

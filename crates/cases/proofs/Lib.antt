@@ -1,4 +1,3 @@
-pub mod Slices
 pub mod Found
 pub mod Computed
 pub mod TwinAnswers

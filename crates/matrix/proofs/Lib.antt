@@ -3,3 +3,4 @@ pub mod Grids
 pub mod Places
 pub mod Squares
 pub mod Products
+pub mod Slices
