@@ -7,6 +7,7 @@ use native.Mathlib.Omega.{arith}
 use lib.Ieee.{Float, binary64, ofBits}
 use lib.ListN.{length, take, set, length-replicate, length-set}
 use lib.Seq.{length-take-le}
+use Rattle.answer.specs.declared.Answer.{Answer}
 use Rattle.answer.specs.Number.{codeOf}
 use Rattle.matrix.specs.Grid.{load}
 use Rattle.matrix.specs.Layouts.{lower}
@@ -21,6 +22,7 @@ use Rattle.sheet_text.specs.Sheet.{sheetOf, IsSheet, stored, Reads, right, wron
 use Rattle.sheet_page.specs.Page.{refusalOf, twinLine}
 use Rattle.sheet_page.specs.Put.{Put}
 use Rattle.sheet_page.proofs.PutLaws.{put-ends}
+use Rattle.sheet.specs.declared.Responded.{Responded}
 use Rattle.sheet.specs.Respond.{pageFrom, emptyRoom, emptyWords, numbersOf, factorPage, factors, refuses, Responds}
 use Rattle.sheet.specs.Warn.{Warning, names-twins, no-twins, no-sheet, Warns}
 use Rattle.sheet.specs.Parts.{Square, Writes, Empty}
@@ -72,6 +74,10 @@ silent (Pair p q) rows = absurd (omega (arith, rows .0))
 silent (Refused r) rows = absurd rows
 
 -- ---- from the reader on
+-- what `respond` hands back
+abbrev pub responded : Answer → ℕ → Responded
+responded a k = record { answer = a; end = k }
+
 module _ {s : List ℕ} {a : List Float} {r : Sheet} {a′ : List Float} (read : Reads s a r a′) where
   pub order-small : r .order ≤ 64
   order-small = go read
@@ -88,27 +94,35 @@ module _ {s : List ℕ} {a : List Float} {r : Sheet} {a′ : List Float} (read :
       let count : 2 * n + 1 ≤ length words = omega (arith, order-small, words-length a words e) in
       record { small = order-small; long = length-take-le (n * n) a′ cells; sized = length-take-le (2 * n + 1) words count }
 
-  pub refuses-it : {o : List ℕ} {k : ℕ} {o′ : List ℕ} → (codeOf (r .answer) ≡ 0 → ⊥) → Put o 0 (refusalOf (r .answer)) k o′ → Responds s o k o′
+  pub refuses-it : {o : List ℕ} {k : ℕ} {o′ : List ℕ} → (codeOf (r .answer) ≡ 0 → ⊥) → Put o 0 (refusalOf (r .answer)) k o′ → Responds s o (responded (r .answer) k) o′
   refuses-it {o} {k} {o′} bad put = go read
     where
-      go : Reads s a r a′ → Responds s o k o′
+      go : Reads s a r a′ → Responds s o (responded (r .answer) k) o′
       go (right n bits h same e c) = absurd (bad (ap (λ (x : Sheet). codeOf (x .answer)) e))
-      go (wrong line n bits f e b c) = record { text = refusalOf (r .answer); response = refuses line f (ap (λ (x : Sheet). refusalOf (x .answer)) e); put = put; ends = put-ends put; counted = sym (length-take-le k o′ (put-ends put)) }
+      go (wrong line n bits f e b c) =
+          record {
+            text = refusalOf (r .answer);
+            response = refuses line f (ap (λ (x : Sheet). x .answer) e) (ap (λ (x : Sheet). refusalOf (x .answer)) e);
+            put = put;
+            ends = put-ends put;
+            counted = sym (length-take-le k o′ (put-ends put));
+          }
 
   pub factors-it : (words : List ℕ) {o : List ℕ} {k : ℕ} {o′ : List ℕ} → Empty a words → codeOf (r .answer) ≡ 0
-      → Writes (r .order) (take (r .order * r .order) a′) (take (2 * r .order + 1) words) o k o′ → Responds s o k o′
+      → Writes (r .order) (take (r .order * r .order) a′) (take (2 * r .order + 1) words) o k o′ → Responds s o (responded (r .answer) k) o′
   unfolding factorPage numbersOf
   factors-it words {o} {k} {o′} empty good put = go read
     where
       page : ℕ → List Float → List ℕ → List ℕ
       page n b w = pageFrom n (load (lower (full n)) (take (n * n) b)) (take (2 * n + 1) w)
 
-      go : Reads s a r a′ → Responds s o k o′
+      go : Reads s a r a′ → Responds s o (responded (r .answer) k) o′
       go (right n bits h same e c) =
           record {
             text = page (r .order) a′ words;
             response =
                 factors n bits h same
+                (ap (λ (x : Sheet). x .answer) e)
                 (ap (λ (x : Sheet). page (x .order) a′ words) e
                 ∙ ap (λ (b : List Float). page n b words) (c ∙ ap (stored n (places n) bits) (empty .room))
                 ∙ ap (page n (stored n (places n) bits emptyRoom)) (empty .record-words));

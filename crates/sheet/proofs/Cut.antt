@@ -6,6 +6,7 @@ use Prim.Native.Nat.{ℕ, _+_, _-_, _<_, _≤_}
 use native.Mathlib.Omega.{arith}
 use lib.ListN.{length, take, drop, length-replicate, take-append-drop}
 use lib.Seq.{take-all, length-take-le, take-append-add}
+use Rattle.answer.specs.declared.Answer.{Answer}
 use Rattle.answer.specs.declared.Answer.the-variants.{BadLine}
 use Rattle.matrix.specs.Matrix.{Matrix}
 use Rattle.matrix.specs.Grid.{load}
@@ -23,6 +24,7 @@ use Rattle.sheet_text.proofs.SheetLaws.{length-lines}
 use Rattle.sheet_text.proofs.Lengths.{few-places, sheet-length, lines-length}
 use Rattle.sheet_page.proofs.PutLaws.{put-whole}
 use Rattle.sheet_page.proofs.PageLength.{ShortRow, page-length, refusal-length, twin-length}
+use Rattle.sheet.specs.declared.Responded.{Responded}
 use Rattle.sheet.specs.Respond.{pageFrom, emptyWords, numbersOf, factorPage, Response, factors, refuses, Responds}
 use Rattle.sheet.specs.Warn.{Warning, names-twins, no-twins, no-sheet, Warns}
 use Rattle.sheet.proofs.Twins.{of-rows}
@@ -89,9 +91,9 @@ module _ (size : ℕ) (large : 60338 < size) (s : List ℕ) where
       go (inr short) = subst (λ (t : List ℕ). FirstWrong t line) (take-all size s short) f
 
   -- the response to the first bytes is the response to all of them, and so is the warning
-  pub cut-decides : (text : List ℕ) → Response (take size s) text → Response s text
-  cut-decides text (factors n bits h same e) = factors n bits h (sheet-cut h same) e
-  cut-decides text (refuses line f e) = refuses line (wrong-cut f) e
+  pub cut-decides : {answer : Answer} (text : List ℕ) → Response (take size s) answer text → Response s answer text
+  cut-decides text (factors n bits h same d e) = factors n bits h (sheet-cut h same) d e
+  cut-decides text (refuses line f d e) = refuses line (wrong-cut f) d e
 
   pub cut-warns : (text : List ℕ) → Warning (take size s) text → Warning s text
   cut-warns text (names-twins n bits p q h same first e) = names-twins n bits p q h (sheet-cut h same) first e
@@ -148,11 +150,11 @@ line-small s line f =
     let few = few-places (b .order) (h .most) in
     omega arith
 
-pub response-fits : (s text : List ℕ) → Response s text → length text ≤ 65536
+pub response-fits : (s : List ℕ) {answer : Answer} (text : List ℕ) → Response s answer text → length text ≤ 65536
 unfolding factorPage
-response-fits s text (factors n bits h same e) =
+response-fits s text (factors n bits h same d e) =
     omega (arith, ap length e, page-fits n (load (lower (full n)) (numbersOf n bits)) (take (wordsOf n) emptyWords) (h .most) (words-sized n (h .most)))
-response-fits s text (refuses line f e) = omega (arith, ap length e, refusal-length (BadLine line) (omega arith) (line-small s line f))
+response-fits s text (refuses line f d e) = omega (arith, ap length e, refusal-length (BadLine line) (omega arith) (line-small s line f))
 
 pub warning-fits : (s text : List ℕ) → Warning s text → length text ≤ 11
 warning-fits s text (names-twins n bits p q h same first e) =
@@ -163,10 +165,10 @@ warning-fits s text (no-twins n bits h same first e) = omega (arith, ap length e
 warning-fits s text (no-sheet line f e) = omega (arith, ap length e)
 
 -- ---- the program: read into 65,536 bytes, written from 65,536 bytes
-pub written-out : (s o : List ℕ) (r : ℕ) (o′ : List ℕ) → length o ≡ 65536 → Responds (take 65536 s) o r o′ → Response s (take r o′)
+pub written-out : (s o : List ℕ) (r : Responded) (o′ : List ℕ) → length o ≡ 65536 → Responds (take 65536 s) o r o′ → Response s (r .answer) (take (r .end) o′)
 written-out s o r o′ long responds =
     let fits = response-fits (take 65536 s) (responds .text) (responds .response) in
-    cut-decides 65536 (omega arith) s (take r o′) (subst (Response (take 65536 s)) (sym (put-whole (responds .put) (omega arith))) (responds .response))
+    cut-decides 65536 (omega arith) s (take (r .end) o′) (subst (Response (take 65536 s) (r .answer)) (sym (put-whole (responds .put) (omega arith))) (responds .response))
 
 pub warned-out : (s o : List ℕ) (r : ℕ) (o′ : List ℕ) → length o ≡ 65536 → Warns (take 65536 s) o r o′ → Warning s (take r o′)
 warned-out s o r o′ long warns =

@@ -2,7 +2,8 @@
 use mathlib.Core.Path.{_≡_, refl, sym, ap, ap₂, _∙_}
 use mathlib.Core.List.{List, []}
 use Prim.Native.Nat.{ℕ}
-use Rattle.answer.specs.declared.Answer.the-variants.{BadLine}
+use Rattle.answer.specs.declared.Answer.{Answer}
+use Rattle.answer.specs.declared.Answer.the-variants.{Done, BadLine}
 use Rattle.twins.specs.declared.Twin.{Twin}
 use Rattle.twins.specs.First.{FirstTwin}
 use Rattle.twins.proofs.Unique.{first-twin-unique}
@@ -14,28 +15,34 @@ use Rattle.sheet_text.proofs.SheetOnce.{one-line}
 use Rattle.sheet_text.proofs.BitsOnce.{sheet-once}
 use Rattle.sheet_page.specs.Page.{refusalOf}
 use Rattle.sheet_page.proofs.PutLaws.{put-same, put-once}
+use Rattle.sheet.specs.declared.Responded.{Responded}
 use Rattle.sheet.specs.Respond.{emptyRoom, numbersOf, factorPage, Response, factors, refuses, Responds}
 use Rattle.sheet.specs.Warn.{Warning, names-twins, no-twins, no-sheet, Warns}
-use Rattle.sheet.proofs.Answers.{spoken, sheet-warning}
+use Rattle.sheet.proofs.Answers.{responded, spoken, sheet-warning}
 
 -- ---- the response
-pub some-response : (s : List ℕ) → (text : List ℕ) × Response s text
+pub some-response : (s : List ℕ) → (answer : Answer) × ((text : List ℕ) × Response s answer text)
 some-response s = go (sound s emptyRoom)
   where
-    go : Reads s emptyRoom (readOf s emptyRoom .sheet) (readOf s emptyRoom .cells) → (text : List ℕ) × Response s text
-    go (right n bits h same e c) = (factorPage n bits, factors n bits h same refl)
-    go (wrong line n bits f e b c) = (refusalOf (BadLine line), refuses line f refl)
+    go : Reads s emptyRoom (readOf s emptyRoom .sheet) (readOf s emptyRoom .cells) → (answer : Answer) × ((text : List ℕ) × Response s answer text)
+    go (right n bits h same e c) = (Done, (factorPage n bits, factors n bits h same refl refl))
+    go (wrong line n bits f e b c) = (BadLine line, (refusalOf (BadLine line), refuses line f refl refl))
 
-pub one-response : (s t u : List ℕ) → Response s t → Response s u → t ≡ u
-one-response s t u (factors n bits h same e) (factors m other k same′ e′) =
+pub one-response : {s : List ℕ} {a b : Answer} {t u : List ℕ} → Response s a t → Response s b u → (a ≡ b) × (t ≡ u)
+one-response (factors n bits h same d e) (factors m other k same′ d′ e′) =
     let one = sheet-once n bits m other h k (sym same ∙ same′) in
-    e ∙ ap₂ factorPage (one .order) (one .entries) ∙ sym e′
-one-response s t u (factors n bits h same e) (refuses line f e′) = absurd (f .no-sheet n bits h same)
-one-response s t u (refuses line f e) (factors m other k same′ e′) = absurd (f .no-sheet m other k same′)
-one-response s t u (refuses line f e) (refuses line′ g e′) = e ∙ ap (λ (k : ℕ). refusalOf (BadLine k)) (one-line s line line′ f g) ∙ sym e′
+    (d ∙ sym d′, e ∙ ap₂ factorPage (one .order) (one .entries) ∙ sym e′)
+one-response (factors n bits h same d e) (refuses line f d′ e′) = absurd (f .no-sheet n bits h same)
+one-response (refuses line f d e) (factors m other k same′ d′ e′) = absurd (f .no-sheet m other k same′)
+one-response {s} (refuses line f d e) (refuses line′ g d′ e′) =
+    let one = one-line s line line′ f g in
+    (d ∙ ap BadLine one ∙ sym d′, e ∙ ap (λ (k : ℕ). refusalOf (BadLine k)) one ∙ sym e′)
 
-pub responds-once : {s o : List ℕ} {r k : ℕ} {o′ o″ : List ℕ} → Responds s o r o′ → Responds s o k o″ → (r ≡ k) × (o′ ≡ o″)
-responds-once x y = put-once (put-same (one-response _ _ _ (x .response) (y .response)) (x .put)) (y .put)
+pub responds-once : {s o : List ℕ} {r k : Responded} {o′ o″ : List ℕ} → Responds s o r o′ → Responds s o k o″ → (r ≡ k) × (o′ ≡ o″)
+responds-once x y =
+    let one = one-response (x .response) (y .response) in
+    let put = put-once (put-same (one .1) (x .put)) (y .put) in
+    (ap₂ responded (one .0) (put .0), put .1)
 
 -- ---- the warning
 pub some-warning : (s : List ℕ) → (text : List ℕ) × Warning s text

@@ -1,10 +1,11 @@
--- What the program writes, of the bytes that it reads: the page of the factored sheet, or the refusal with the first wrong line.
+-- What the program answers and writes, of the bytes that it reads: the page of the factored sheet, or the refusal with the first wrong line.
 use mathlib.Core.Path.{_≡_}
 use mathlib.Core.List.{List}
 use Prim.Native.Nat.{ℕ, _*_, _≤_}
 use lib.Ieee.{Float, binary64, ofBits}
 use lib.ListN.{length, take, replicate}
-use Rattle.answer.specs.declared.Answer.the-variants.{BadLine}
+use Rattle.answer.specs.declared.Answer.{Answer}
+use Rattle.answer.specs.declared.Answer.the-variants.{Done, BadLine}
 use Rattle.matrix.specs.Matrix.{Matrix}
 use Rattle.matrix.specs.Grid.{load}
 use Rattle.matrix.specs.Layouts.{lower}
@@ -15,6 +16,7 @@ use Rattle.sheet_text.specs.Place.{places}
 use Rattle.sheet_text.specs.Sheet.{sheetOf, IsSheet, FirstWrong, stored}
 use Rattle.sheet_page.specs.Page.{pageOf, refusalOf}
 use Rattle.sheet_page.specs.Put.{Put}
+use Rattle.sheet.specs.declared.Responded.{Responded}
 
 -- order, pivots, mark, factor, determinant, and the number of pivot and entry lines, of a matrix and a record to write in
 unfoldable pub pageFrom : ℕ → Matrix → List ℕ → List ℕ
@@ -35,14 +37,14 @@ numbersOf n bits = take (n * n) (stored n (places n) bits emptyRoom)
 unfoldable pub factorPage : ℕ → List ℕ → List ℕ
 factorPage n bits = pageFrom n (load (lower (full n)) (numbersOf n bits)) (take (wordsOf n) emptyWords)
 
-pub data Response (s text : List ℕ) : Type 0 where
-  factors : (n : ℕ) (bits : List ℕ) → IsSheet n bits → s ≡ sheetOf n bits → text ≡ factorPage n bits → Response s text
-  refuses : (line : ℕ) → FirstWrong s line → text ≡ refusalOf (BadLine line) → Response s text
+pub data Response (s : List ℕ) (answer : Answer) (text : List ℕ) : Type 0 where
+  factors : (n : ℕ) (bits : List ℕ) → IsSheet n bits → s ≡ sheetOf n bits → answer ≡ Done → text ≡ factorPage n bits → Response s answer text
+  refuses : (line : ℕ) → FirstWrong s line → answer ≡ BadLine line → text ≡ refusalOf (BadLine line) → Response s answer text
 
 -- the response to s stands at the start of the lent bytes, as far as they have room
-pub record Responds (s o : List ℕ) (r : ℕ) (o′ : List ℕ) : Type 0 where
+pub record Responds (s o : List ℕ) (r : Responded) (o′ : List ℕ) : Type 0 where
   pub text : List ℕ
-  pub response : Response s text
-  pub put : Put o 0 text r o′
-  pub ends : r ≤ length o′
-  pub counted : r ≡ length (take r o′)
+  pub response : Response s (r .answer) text
+  pub put : Put o 0 text (r .end) o′
+  pub ends : r .end ≤ length o′
+  pub counted : r .end ≡ length (take (r .end) o′)

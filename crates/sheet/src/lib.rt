@@ -1,4 +1,5 @@
 // The sheet program as two functions, from the bytes of its input to the bytes of its output and of its warning.
+use answer::Answer;
 use sheet_page::put_page;
 use sheet_page::put_refusal;
 use sheet_page::put_twin;
@@ -19,8 +20,14 @@ fn factor_and_write(a: &mut [f64], words: &mut [u32], n: usize, out: &mut [u8]) 
     put_page(out, n, words, a, determinant.value)
 }
 
+// Done, or the sheet's first wrong line; and where the response ends.
+pub struct Responded {
+    pub answer: Answer,
+    pub end: usize,
+}
+
 // Reads the sheet into the room, then factors it or refuses it.
-fn read_and_answer(s: &[u8], a: &mut [f64], words: &mut [u32], out: &mut [u8]) -> usize
+fn read_and_answer(s: &[u8], a: &mut [f64], words: &mut [u32], out: &mut [u8]) -> Responded
     requires { ⌜ Empty (now a) (now words) ⌝ }
     ensures { λ r. ⌜ Responds (now (s .entry)) (now (out .entry)) r (now (out .exit)) ⌝ }
 {
@@ -28,15 +35,21 @@ fn read_and_answer(s: &[u8], a: &mut [f64], words: &mut [u32], out: &mut [u8]) -
     let n = sheet.order;
     let verdict = sheet.answer;
     if verdict.code() != 0 {
-        return put_refusal(out, verdict);
+        return Responded {
+            answer: verdict,
+            end: put_refusal(out, verdict),
+        };
     }
     let cells = n * n;
     let count = 2 * n + 1;
-    factor_and_write(&mut a[..cells], &mut words[..count], n, out)
+    Responded {
+        answer: verdict,
+        end: factor_and_write(&mut a[..cells], &mut words[..count], n, out),
+    }
 }
 
-// Writes the response to s at the start of `out` and answers where it ends.
-pub fn respond(s: &[u8], out: &mut [u8]) -> usize
+// Writes the response to s at the start of `out`.
+pub fn respond(s: &[u8], out: &mut [u8]) -> Responded
     ensures { λ r. ⌜ Responds (now (s .entry)) (now (out .entry)) r (now (out .exit)) ⌝ }
 {
     let mut room = [0.0; 4096];

@@ -5,7 +5,8 @@ fn respond_to(fd: i32) {
     let mut input = io::large_buffer();
     let length = io::read_full(fd, &mut input);
     let mut output = io::large_buffer();
-    let end = sheet::respond(&input[..length], &mut output);
+    let responded = sheet::respond(&input[..length], &mut output);
+    let end = responded.end;
     io::write_all(STDOUT_FILENO, &output[..end]);
     let end = sheet::warn(&input[..length], &mut output);
     io::write_all(STDOUT_FILENO, &output[..end]);

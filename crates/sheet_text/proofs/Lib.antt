@@ -8,6 +8,7 @@ pub mod DigitLaws
 pub mod NumberLaws
 pub mod HexLaws
 pub mod LineLaws
+pub mod NextLaws
 pub mod EachPlace
 pub mod EntriesLaws
 pub mod SheetLaws

@@ -4,7 +4,7 @@ ghost use mathlib.Core.Path.{_≡_};
 ghost use Prim.Native.Nat.{_<_};
 ghost use lib.ListN.{drop};
 ghost use Rattle.sheet_text.specs.Parse.{startsWith, number, digits, bits, numberAfter, entry, afterRow, afterColumn};
-ghost use Rattle.sheet_text.specs.Line.{numberFound, bitsFound, entryFound};
+ghost use Rattle.sheet_text.specs.Line.{numberIn, bitsIn, entryIn};
 
 // A number below 10,000 and where the reading goes on.
 pub enum Number {
@@ -45,7 +45,7 @@ pub fn word_stands(s: &[u8], at: usize, word: &[u8]) -> bool
 
 // A decimal number with no leading zero, ended by the byte `stop`.
 pub fn read_number(s: &[u8], at: usize, stop: u8) -> Number
-    ensures { λ r. ⌜ numberFound (now (s .entry)) r ≡ number stop (drop at (now (s .entry))) ⌝ }
+    ensures { λ r. ⌜ r ≡ numberIn (now (s .entry)) (number stop (drop at (now (s .entry)))) ⌝ }
 {
     if s.len() <= at {
         return Number::Not;
@@ -60,7 +60,7 @@ pub fn read_number(s: &[u8], at: usize, stop: u8) -> Number
 // The digits after the first.
 fn read_digits(s: &[u8], at: usize, stop: u8, first: usize) -> Number
     requires { ⌜ first < 10 ⌝ }
-    ensures { λ r. ⌜ numberFound (now (s .entry)) r ≡ digits stop first (drop at (now (s .entry))) ⌝ }
+    ensures { λ r. ⌜ r ≡ numberIn (now (s .entry)) (digits stop first (drop at (now (s .entry)))) ⌝ }
 {
     let mut value = first;
     let mut i = at;
@@ -90,7 +90,7 @@ fn read_digits(s: &[u8], at: usize, stop: u8, first: usize) -> Number
 
 // Sixteen hexadecimal digits and the line's end.
 pub fn read_bits(s: &[u8], at: usize) -> Bits
-    ensures { λ r. ⌜ bitsFound (now (s .entry)) r ≡ bits (drop at (now (s .entry))) ⌝ }
+    ensures { λ r. ⌜ r ≡ bitsIn (now (s .entry)) (bits (drop at (now (s .entry)))) ⌝ }
 {
     let mut value: u64 = 0;
     let mut left: usize = 16;
@@ -121,7 +121,7 @@ pub fn read_bits(s: &[u8], at: usize) -> Bits
 
 // A word, a number, the line's end.
 pub fn number_line(s: &[u8], at: usize, word: &[u8]) -> Number
-    ensures { λ r. ⌜ numberFound (now (s .entry)) r ≡ numberAfter (now (word .entry)) (drop at (now (s .entry))) ⌝ }
+    ensures { λ r. ⌜ r ≡ numberIn (now (s .entry)) (numberAfter (now (word .entry)) (drop at (now (s .entry)))) ⌝ }
 {
     if word_stands(s, at, word) {
         return read_number(s, at + word.len(), 10);
@@ -143,7 +143,7 @@ pub enum EntryLine {
 }
 
 pub fn entry_line(s: &[u8], at: usize) -> EntryLine
-    ensures { λ r. ⌜ entryFound (now (s .entry)) r ≡ entry (drop at (now (s .entry))) ⌝ }
+    ensures { λ r. ⌜ r ≡ entryIn (now (s .entry)) (entry (drop at (now (s .entry)))) ⌝ }
 {
     if word_stands(s, at, b"entry\t") {
         return match read_number(s, at + 6, 9) {
@@ -156,7 +156,7 @@ pub fn entry_line(s: &[u8], at: usize) -> EntryLine
 
 // The column and the bits, the row being known.
 fn after_row(s: &[u8], at: usize, row: usize) -> EntryLine
-    ensures { λ r. ⌜ entryFound (now (s .entry)) r ≡ afterRow row (drop at (now (s .entry))) ⌝ }
+    ensures { λ r. ⌜ r ≡ entryIn (now (s .entry)) (afterRow row (drop at (now (s .entry)))) ⌝ }
 {
     match read_number(s, at, 9) {
         Number::Is { value, next } => after_column(s, next, row, value),
@@ -166,7 +166,7 @@ fn after_row(s: &[u8], at: usize, row: usize) -> EntryLine
 
 // The bits, the place being known.
 fn after_column(s: &[u8], at: usize, row: usize, column: usize) -> EntryLine
-    ensures { λ r. ⌜ entryFound (now (s .entry)) r ≡ afterColumn row column (drop at (now (s .entry))) ⌝ }
+    ensures { λ r. ⌜ r ≡ entryIn (now (s .entry)) (afterColumn row column (drop at (now (s .entry)))) ⌝ }
 {
     match read_bits(s, at) {
         Bits::Is { bits, next } => EntryLine::Is {

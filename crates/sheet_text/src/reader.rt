@@ -10,7 +10,7 @@ ghost use mathlib.Core.Path.{_≡_};
 ghost use Prim.Native.Nat.{_≤_};
 ghost use lib.ListN.{drop, set};
 ghost use lib.Ieee.{binary64, ofBits};
-ghost use Rattle.sheet_text.specs.Line.{bitsFound};
+ghost use Rattle.sheet_text.specs.Line.{bitsIn};
 ghost use Rattle.sheet_text.specs.Place.{places};
 ghost use Rattle.sheet_text.specs.Read.{entryAt, takeEntries, takenBy, wrongAt, closed, verdict, outcome, afterOrder};
 ghost use Rattle.sheet_text.specs.Sheet.{Reads};
@@ -24,7 +24,7 @@ pub struct Reached {
 
 // The entry line of one place.
 fn entry_at(s: &[u8], at: usize, p: Place) -> Bits
-    ensures { λ r. ⌜ bitsFound (now (s .entry)) r ≡ entryAt p (drop at (now (s .entry))) ⌝ }
+    ensures { λ r. ⌜ r ≡ bitsIn (now (s .entry)) (entryAt p (drop at (now (s .entry)))) ⌝ }
 {
     match entry_line(s, at) {
         EntryLine::Is { entry, next } => {

@@ -1,8 +1,9 @@
 use borrow.Author.Needs.{needs}
 use mathlib.Core.Path.{sym, ap, _∙_}
 use denote.Ref.{now}
-use Rattle.sheet_text.specs.Line.{bitsFound}
+use Rattle.sheet_text.specs.Line.{entryIn}
 use Rattle.sheet_text.proofs.EntrySteps.{column-bits, column-no-bits}
+use Rattle.sheet_text.proofs.NextLaws.{bits-next, bits-not, entry-is}
 use Rattle.sheet_text.proofs.line.after_column.Statement.{statement}
 use Rattle.sheet_text.proofs.line.after_column.Tie as tie
 
@@ -16,10 +17,10 @@ enum-told : tie.Need-enum-told
 enum-told c = search needs
 
 returns : tie.Need-returns
-returns c = sym (column-bits _ _ _ _ _ (sym (c .before .before .before .read-bits .ensures) ∙ ap (bitsFound (now (c .before .before .before .before .before .args .s))) (c .before .bits .given .1)))
+returns c = let n = bits-next (now (c .before .before .before .before .before .args .s)) (c .before .before .before .before .before .args .at) (sym (c .before .bits .given .1) ∙ c .before .before .before .read-bits .ensures) in entry-is (now (c .before .before .before .before .before .args .s)) record { read = column-bits _ _ _ _ _ (n .read); within = n .within }
 
 returns-2 : tie.Need-returns-2
-returns-2 c = sym (column-no-bits _ _ _ (sym (c .before .before .read-bits .ensures) ∙ ap (bitsFound (now (c .before .before .before .before .args .s))) (c .enum-told .given .1)))
+returns-2 c = sym (ap (entryIn (now (c .before .before .before .before .args .s))) (column-no-bits _ _ _ (bits-not (now (c .before .before .before .before .args .s)) _ (sym (c .enum-told .given .1) ∙ c .before .before .read-bits .ensures))))
 
 pub after-column-spec : {M : Type 1} → statement M
 after-column-spec =

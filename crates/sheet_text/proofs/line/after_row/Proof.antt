@@ -1,8 +1,9 @@
 use borrow.Author.Needs.{needs}
 use mathlib.Core.Path.{sym, ap, _∙_}
 use denote.Ref.{now}
-use Rattle.sheet_text.specs.Line.{numberFound}
+use Rattle.sheet_text.specs.Line.{entryIn}
 use Rattle.sheet_text.proofs.EntrySteps.{row-column, row-no-column}
+use Rattle.sheet_text.proofs.NextLaws.{number-next, number-not}
 use Rattle.sheet_text.proofs.line.after_row.Statement.{statement}
 use Rattle.sheet_text.proofs.line.after_row.Tie as tie
 
@@ -19,10 +20,10 @@ enum-told : tie.Need-enum-told
 enum-told c = search needs
 
 returns : tie.Need-returns
-returns c = c .after-column .ensures ∙ sym (row-column _ _ _ _ (sym (c .before .before .before .before .read-number .ensures) ∙ ap (numberFound (now (c .before .before .before .before .before .before .args .s))) (c .before .before .value .given .1)))
+returns c = c .after-column .ensures ∙ sym (ap (entryIn (now (c .before .before .before .before .before .before .args .s))) (row-column _ _ _ _ (number-next (now (c .before .before .before .before .before .before .args .s)) (c .before .before .before .before .before .before .args .at) _ (sym (c .before .before .value .given .1) ∙ c .before .before .before .before .read-number .ensures) .read)))
 
 returns-2 : tie.Need-returns-2
-returns-2 c = sym (row-no-column _ _ (sym (c .before .before .read-number .ensures) ∙ ap (numberFound (now (c .before .before .before .before .args .s))) (c .enum-told .given .1)))
+returns-2 c = sym (ap (entryIn (now (c .before .before .before .before .args .s))) (row-no-column _ _ (number-not (now (c .before .before .before .before .args .s)) _ (sym (c .enum-told .given .1) ∙ c .before .before .read-number .ensures))))
 
 pub after-row-spec : {M : Type 1} → statement M
 after-row-spec =

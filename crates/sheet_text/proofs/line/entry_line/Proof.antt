@@ -1,11 +1,13 @@
 use borrow.Author.Needs.{needs}
 use mathlib.Core.Path.{sym, ap, _∙_}
+use Prim.Native.Nat.{_+_}
 use native.Mathlib.Omega.{arith}
 use denote.Ref.{now}
 use Rattle.sheet_text.specs.Text.{bytes}
-use Rattle.sheet_text.specs.Line.{numberFound}
+use Rattle.sheet_text.specs.Line.{entryIn}
 use Rattle.sheet_text.proofs.Steps.{word-fits}
 use Rattle.sheet_text.proofs.EntrySteps.{entry-row, entry-no-row, entry-no-word}
+use Rattle.sheet_text.proofs.NextLaws.{number-next, number-not}
 use Rattle.sheet_text.proofs.line.entry_line.Statement.{statement}
 use Rattle.sheet_text.proofs.line.entry_line.Tie as tie
 
@@ -31,13 +33,13 @@ enum-told : tie.Need-enum-told
 enum-told c = search needs
 
 returns : tie.Need-returns
-returns c = c .after-row .ensures ∙ sym (entry-row (now (c .before .before .before .before .before .before .before .before .before .args .s)) (c .before .before .before .before .before .before .before .before .before .args .at) _ _ (sym (c .before .before .before .before .before .before .word-stands .ensures) ∙ c .before .before .before .before .before .if1 .taken) (sym (c .before .before .before .before .read-number .ensures) ∙ ap (numberFound (now (c .before .before .before .before .before .before .before .before .before .args .s))) (c .before .before .value .given .1)))
+returns c = c .after-row .ensures ∙ sym (ap (entryIn (now (c .before .before .before .before .before .before .before .before .before .args .s))) (entry-row (now (c .before .before .before .before .before .before .before .before .before .args .s)) (c .before .before .before .before .before .before .before .before .before .args .at) _ _ (sym (c .before .before .before .before .before .before .word-stands .ensures) ∙ c .before .before .before .before .before .if1 .taken) (number-next (now (c .before .before .before .before .before .before .before .before .before .args .s)) (c .before .before .before .before .before .before .before .before .before .args .at + 6) _ (sym (c .before .before .value .given .1) ∙ c .before .before .before .before .read-number .ensures) .read)))
 
 returns-2 : tie.Need-returns-2
-returns-2 c = sym (entry-no-row (now (c .before .before .before .before .before .before .before .args .s)) (c .before .before .before .before .before .before .before .args .at) (sym (c .before .before .before .before .word-stands .ensures) ∙ c .before .before .before .if1 .taken) (sym (c .before .before .read-number .ensures) ∙ ap (numberFound (now (c .before .before .before .before .before .before .before .args .s))) (c .enum-told .given .1)))
+returns-2 c = sym (ap (entryIn (now (c .before .before .before .before .before .before .before .args .s))) (entry-no-row (now (c .before .before .before .before .before .before .before .args .s)) (c .before .before .before .before .before .before .before .args .at) (sym (c .before .before .before .before .word-stands .ensures) ∙ c .before .before .before .if1 .taken) (number-not (now (c .before .before .before .before .before .before .before .args .s)) _ (sym (c .enum-told .given .1) ∙ c .before .before .read-number .ensures))))
 
 returns-3 : tie.Need-returns-3
-returns-3 c = sym (entry-no-word (now (c .before .before .before .before .args .s)) (c .before .before .before .before .args .at) (sym (c .before .word-stands .ensures) ∙ c .if1 .left))
+returns-3 c = sym (ap (entryIn (now (c .before .before .before .before .args .s))) (entry-no-word (now (c .before .before .before .before .args .s)) (c .before .before .before .before .args .at) (sym (c .before .word-stands .ensures) ∙ c .if1 .left)))
 
 pub entry-line-spec : {M : Type 1} → statement M
 entry-line-spec =

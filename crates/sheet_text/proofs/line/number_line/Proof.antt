@@ -1,7 +1,8 @@
 use borrow.Author.Needs.{needs}
-use mathlib.Core.Path.{sym, _∙_}
+use mathlib.Core.Path.{sym, ap, _∙_}
 use native.Mathlib.Omega.{arith}
 use denote.Ref.{now}
+use Rattle.sheet_text.specs.Line.{numberIn}
 use Rattle.sheet_text.proofs.Steps.{word-fits, number-after, no-word}
 use Rattle.sheet_text.proofs.line.number_line.Statement.{statement}
 use Rattle.sheet_text.proofs.line.number_line.Tie as tie
@@ -16,10 +17,10 @@ read-number-requires : tie.Need-read-number-requires
 read-number-requires c κs = search needs
 
 returns : tie.Need-returns
-returns c = c .read-number .ensures ∙ sym (number-after (now (c .before .before .before .before .before .args .word)) (now (c .before .before .before .before .before .args .s)) (c .before .before .before .before .before .args .at) (sym (c .before .before .word-stands .ensures) ∙ c .before .if1 .taken))
+returns c = c .read-number .ensures ∙ sym (ap (numberIn (now (c .before .before .before .before .before .args .s))) (number-after (now (c .before .before .before .before .before .args .word)) (now (c .before .before .before .before .before .args .s)) (c .before .before .before .before .before .args .at) (sym (c .before .before .word-stands .ensures) ∙ c .before .if1 .taken)))
 
 returns-2 : tie.Need-returns-2
-returns-2 c = sym (no-word _ _ (sym (c .before .word-stands .ensures) ∙ c .if1 .left))
+returns-2 c = sym (ap (numberIn (now (c .before .before .before .before .args .s))) (no-word _ _ (sym (c .before .word-stands .ensures) ∙ c .if1 .left)))
 
 pub number-line-spec : {M : Type 1} → statement M
 number-line-spec =

@@ -1,6 +1,6 @@
 -- The digits that are left and the bytes from i on give what all sixteen and the bytes from `at` on give.
 use borrow.Author.Needs.{needs}
-use mathlib.Core.Path.{_≡_, refl, sym, _∙_}
+use mathlib.Core.Path.{_≡_, refl, sym, ap, _∙_}
 use native.Mathlib.Omega.{arith}
 use Prim.Native.Nat.{ℕ, _≤_}
 use mathlib.Core.List.{List}
@@ -8,7 +8,9 @@ use lib.Dec.{lit≤}
 use lib.ListN.{drop}
 use denote.Ref.{now}
 use Rattle.sheet_text.specs.Parse.{bits, hexDigits}
+use Rattle.sheet_text.specs.Line.{bitsIn}
 use Rattle.sheet_text.proofs.Steps.{HexRoom, hex-fits, hex-room, hex-end, hex-other, hex-more, line-short, line-ends, line-goes-on}
+use Rattle.sheet_text.proofs.NextLaws.{bits-are}
 use Rattle.sheet_text.proofs.line.read_bits.Statement.{statement}
 use Rattle.sheet_text.proofs.line.read_bits.Tie as tie
 
@@ -28,7 +30,7 @@ unfolding bits
 loop-holds c = record { left-to-read = omega arith; room = omega arith; same = refl }
 
 returns : tie.Need-returns Inv-loop μ-loop
-returns c = sym (c .before .before .loop .inv .same ∙ hex-end (c .before .before .loop .left) (c .before .before .loop .value) (now (c .before .before .before .before .args .s)) (c .before .before .loop .i) (c .before .loop-test .taken) (c .if1 .taken))
+returns c = sym (ap (bitsIn (now (c .before .before .before .before .args .s))) (c .before .before .loop .inv .same ∙ hex-end (c .before .before .loop .left) (c .before .before .loop .value) (now (c .before .before .before .before .args .s)) (c .before .before .loop .i) (c .before .loop-test .taken) (c .if1 .taken)))
 
 shared-slice-read-digit-value : tie.Need-shared-slice-read-digit-value Inv-loop μ-loop
 shared-slice-read-digit-value c = search needs
@@ -37,7 +39,7 @@ digit-value-requires : tie.Need-digit-value-requires Inv-loop μ-loop
 digit-value-requires c κs = search needs
 
 returns-2 : tie.Need-returns-2 Inv-loop μ-loop
-returns-2 c = sym (c .before .before .before .before .before .loop .inv .same ∙ hex-other (c .before .before .before .before .before .loop .left) (c .before .before .before .before .before .loop .value) (now (c .before .before .before .before .before .before .before .args .s)) (c .before .before .before .before .before .loop .i) (c .before .digit-value .result) (c .before .digit-value .ensures) (c .before .before .before .before .loop-test .taken) (c .before .before .before .if1 .left) (c .if2 .taken))
+returns-2 c = sym (ap (bitsIn (now (c .before .before .before .before .before .before .before .args .s))) (c .before .before .before .before .before .loop .inv .same ∙ hex-other (c .before .before .before .before .before .loop .left) (c .before .before .before .before .before .loop .value) (now (c .before .before .before .before .before .before .before .args .s)) (c .before .before .before .before .before .loop .i) (c .before .digit-value .result) (c .before .digit-value .ensures) (c .before .before .before .before .loop-test .taken) (c .before .before .before .if1 .left) (c .if2 .taken)))
 
 mul-value : tie.Need-mul-value Inv-loop μ-loop
 mul-value c = omega (arith, hex-fits (c .before .before .before .before .before .loop .left) (c .before .before .before .before .before .loop .value) 0 (c .before .before .before .before .loop-test .taken) (c .before .before .before .before .before .loop .inv .left-to-read) (c .before .before .before .before .before .loop .inv .room) (lit≤ tt))
@@ -61,7 +63,7 @@ loop-again : tie.Need-loop-again Inv-loop μ-loop
 loop-again c = record { left-to-read = omega arith; room = hex-room (c .before .before .before .before .before .before .loop .left) (c .before .before .before .before .before .before .loop .value) (c .wide .result) (c .before .before .before .before .before .loop-test .taken) (c .before .before .before .before .before .before .loop .inv .left-to-read) (c .before .before .before .before .before .before .loop .inv .room) (omega arith); same = c .before .before .before .before .before .before .loop .inv .same ∙ hex-more (c .before .before .before .before .before .before .loop .left) (c .before .before .before .before .before .before .loop .value) (now (c .before .before .before .before .before .before .before .before .args .s)) (c .before .before .before .before .before .before .loop .i) (c .wide .result) (c .wide .ensures ∙ c .before .before .digit-value .ensures) (c .before .before .before .before .before .loop-test .taken) (c .before .before .before .before .if1 .left) (omega arith) }
 
 returns-3 : tie.Need-returns-3 Inv-loop μ-loop
-returns-3 c = sym (c .before .before .loop .inv .same ∙ line-short (c .before .before .loop .left) (c .before .before .loop .value) (now (c .before .before .before .before .args .s)) (c .before .before .loop .i) (c .before .loop-test .left) (c .if3 .taken))
+returns-3 c = sym (ap (bitsIn (now (c .before .before .before .before .args .s))) (c .before .before .loop .inv .same ∙ line-short (c .before .before .loop .left) (c .before .before .loop .value) (now (c .before .before .before .before .args .s)) (c .before .before .loop .i) (c .before .loop-test .left) (c .if3 .taken)))
 
 shared-slice-read-if4 : tie.Need-shared-slice-read-if4 Inv-loop μ-loop
 shared-slice-read-if4 c = search needs
@@ -70,10 +72,10 @@ add-t17 : tie.Need-add-t17 Inv-loop μ-loop
 add-t17 c = search needs
 
 returns-4 : tie.Need-returns-4 Inv-loop μ-loop
-returns-4 c = sym (c .before .before .before .before .loop .inv .same ∙ line-ends (c .before .before .before .before .loop .left) (c .before .before .before .before .loop .value) (now (c .before .before .before .before .before .before .args .s)) (c .before .before .before .before .loop .i) (c .before .before .before .loop-test .left) (c .before .before .if3 .left) (c .if4 .taken))
+returns-4 c = bits-are (now (c .before .before .before .before .before .before .args .s)) record { read = c .before .before .before .before .loop .inv .same ∙ line-ends (c .before .before .before .before .loop .left) (c .before .before .before .before .loop .value) (now (c .before .before .before .before .before .before .args .s)) (c .before .before .before .before .loop .i) (c .before .before .before .loop-test .left) (c .before .before .if3 .left) (c .if4 .taken); within = omega arith }
 
 returns-5 : tie.Need-returns-5 Inv-loop μ-loop
-returns-5 c = sym (c .before .before .before .before .loop .inv .same ∙ line-goes-on (c .before .before .before .before .loop .left) (c .before .before .before .before .loop .value) (now (c .before .before .before .before .before .before .args .s)) (c .before .before .before .before .loop .i) (c .before .before .before .loop-test .left) (c .before .before .if3 .left) (c .if4 .left))
+returns-5 c = sym (ap (bitsIn (now (c .before .before .before .before .before .before .args .s))) (c .before .before .before .before .loop .inv .same ∙ line-goes-on (c .before .before .before .before .loop .left) (c .before .before .before .before .loop .value) (now (c .before .before .before .before .before .before .args .s)) (c .before .before .before .before .loop .i) (c .before .before .before .loop-test .left) (c .before .before .if3 .left) (c .if4 .left)))
 
 pub read-bits-spec : {M : Type 1} → statement M
 read-bits-spec =

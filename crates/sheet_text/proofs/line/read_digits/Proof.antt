@@ -1,13 +1,15 @@
 -- The number so far and the bytes from i on give what the first digit and the bytes from `at` on give.
 use borrow.Author.Needs.{needs}
-use mathlib.Core.Path.{_≡_, refl, sym, _∙_}
+use mathlib.Core.Path.{_≡_, refl, sym, ap, _∙_}
 use native.Mathlib.Omega.{arith}
 use Prim.Native.Nat.{ℕ, _-_, _<_}
 use mathlib.Core.List.{List}
 use lib.ListN.{length, drop}
 use denote.Ref.{now}
 use Rattle.sheet_text.specs.Parse.{digits}
+use Rattle.sheet_text.specs.Line.{numberIn}
 use Rattle.sheet_text.proofs.Steps.{digits-end, digits-stop, digits-zero, digits-long, digits-other, digits-more}
+use Rattle.sheet_text.proofs.NextLaws.{number-is}
 use Rattle.sheet_text.proofs.line.read_digits.Statement.{statement}
 use Rattle.sheet_text.proofs.line.read_digits.Tie as tie
 
@@ -31,19 +33,19 @@ add-t13 : tie.Need-add-t13 Inv-loop μ-loop
 add-t13 c = search needs
 
 returns : tie.Need-returns Inv-loop μ-loop
-returns c = sym (c .before .before .before .loop .inv .same ∙ digits-stop (c .before .before .before .before .before .args .stop) (c .before .before .before .loop .value) (now (c .before .before .before .before .before .args .s)) (c .before .before .before .loop .i) (c .before .before .loop-test .taken) (c .if1 .taken))
+returns c = number-is (now (c .before .before .before .before .before .args .s)) record { read = c .before .before .before .loop .inv .same ∙ digits-stop (c .before .before .before .before .before .args .stop) (c .before .before .before .loop .value) (now (c .before .before .before .before .before .args .s)) (c .before .before .before .loop .i) (c .before .before .loop-test .taken) (c .if1 .taken); within = omega arith }
 
 digit-value-requires : tie.Need-digit-value-requires Inv-loop μ-loop
 digit-value-requires c κs = search needs
 
 returns-2 : tie.Need-returns-2 Inv-loop μ-loop
-returns-2 c = sym (c .before .before .before .before .before .loop .inv .same ∙ digits-zero (c .before .before .before .before .before .before .before .args .stop) (c .before .before .before .before .before .loop .value) (now (c .before .before .before .before .before .before .before .args .s)) (c .before .before .before .before .before .loop .i) (c .before .before .before .before .loop-test .taken) (c .before .before .if1 .left) (c .if2 .taken))
+returns-2 c = sym (ap (numberIn (now (c .before .before .before .before .before .before .before .args .s))) (c .before .before .before .before .before .loop .inv .same ∙ digits-zero (c .before .before .before .before .before .before .before .args .stop) (c .before .before .before .before .before .loop .value) (now (c .before .before .before .before .before .before .before .args .s)) (c .before .before .before .before .before .loop .i) (c .before .before .before .before .loop-test .taken) (c .before .before .if1 .left) (c .if2 .taken)))
 
 returns-3 : tie.Need-returns-3 Inv-loop μ-loop
-returns-3 c = sym (c .before .before .before .before .before .before .loop .inv .same ∙ digits-long (c .before .before .before .before .before .before .before .before .args .stop) (c .before .before .before .before .before .before .loop .value) (now (c .before .before .before .before .before .before .before .before .args .s)) (c .before .before .before .before .before .before .loop .i) (c .before .before .before .before .before .loop-test .taken) (c .before .before .before .if1 .left) (c .before .if2 .left) (c .if3 .taken))
+returns-3 c = sym (ap (numberIn (now (c .before .before .before .before .before .before .before .before .args .s))) (c .before .before .before .before .before .before .loop .inv .same ∙ digits-long (c .before .before .before .before .before .before .before .before .args .stop) (c .before .before .before .before .before .before .loop .value) (now (c .before .before .before .before .before .before .before .before .args .s)) (c .before .before .before .before .before .before .loop .i) (c .before .before .before .before .before .loop-test .taken) (c .before .before .before .if1 .left) (c .before .if2 .left) (c .if3 .taken)))
 
 returns-4 : tie.Need-returns-4 Inv-loop μ-loop
-returns-4 c = sym (c .before .before .before .before .before .before .before .loop .inv .same ∙ digits-other (c .before .before .before .before .before .before .before .before .before .args .stop) (c .before .before .before .before .before .before .before .loop .value) (now (c .before .before .before .before .before .before .before .before .before .args .s)) (c .before .before .before .before .before .before .before .loop .i) (c .before .before .before .digit-value .result) (c .before .before .before .digit-value .ensures) (c .before .before .before .before .before .before .loop-test .taken) (c .before .before .before .before .if1 .left) (c .before .before .if2 .left) (c .before .if3 .left) (c .if4 .taken))
+returns-4 c = sym (ap (numberIn (now (c .before .before .before .before .before .before .before .before .before .args .s))) (c .before .before .before .before .before .before .before .loop .inv .same ∙ digits-other (c .before .before .before .before .before .before .before .before .before .args .stop) (c .before .before .before .before .before .before .before .loop .value) (now (c .before .before .before .before .before .before .before .before .before .args .s)) (c .before .before .before .before .before .before .before .loop .i) (c .before .before .before .digit-value .result) (c .before .before .before .digit-value .ensures) (c .before .before .before .before .before .before .loop-test .taken) (c .before .before .before .before .if1 .left) (c .before .before .if2 .left) (c .before .if3 .left) (c .if4 .taken)))
 
 mul-value : tie.Need-mul-value Inv-loop μ-loop
 mul-value c = search needs
@@ -64,7 +66,7 @@ loop-again : tie.Need-loop-again Inv-loop μ-loop
 loop-again c = record { small = omega arith; same = c .before .before .before .before .before .before .before .before .loop .inv .same ∙ digits-more (c .before .before .before .before .before .before .before .before .before .before .args .stop) (c .before .before .before .before .before .before .before .before .loop .value) (now (c .before .before .before .before .before .before .before .before .before .before .args .s)) (c .before .before .before .before .before .before .before .before .loop .i) (c .wide .result) (c .wide .ensures ∙ c .before .before .before .before .digit-value .ensures) (c .before .before .before .before .before .before .before .loop-test .taken) (c .before .before .before .before .before .if1 .left) (c .before .before .before .if2 .left) (c .before .before .if3 .left) (omega arith) }
 
 returns-5 : tie.Need-returns-5 Inv-loop μ-loop
-returns-5 c = sym (c .before .loop .inv .same ∙ digits-end (c .before .before .before .args .stop) (c .before .loop .value) (now (c .before .before .before .args .s)) (c .before .loop .i) (c .loop-test .left))
+returns-5 c = sym (ap (numberIn (now (c .before .before .before .args .s))) (c .before .loop .inv .same ∙ digits-end (c .before .before .before .args .stop) (c .before .loop .value) (now (c .before .before .before .args .s)) (c .before .loop .i) (c .loop-test .left)))
 
 pub read-digits-spec : {M : Type 1} → statement M
 read-digits-spec =

@@ -1,13 +1,14 @@
 use borrow.Author.Needs.{needs}
-use mathlib.Core.Path.{sym, _∙_}
+use mathlib.Core.Path.{sym, ap, _∙_}
 use native.Mathlib.Omega.{arith}
 use denote.Ref.{now}
+use Rattle.sheet_text.specs.Line.{numberIn}
 use Rattle.sheet_text.proofs.Steps.{number-end, number-other, number-first}
 use Rattle.sheet_text.proofs.line.read_number.Statement.{statement}
 use Rattle.sheet_text.proofs.line.read_number.Tie as tie
 
 returns : tie.Need-returns
-returns c = sym (number-end (c .before .before .args .stop) 0 (now (c .before .before .args .s)) (c .before .before .args .at) (c .if1 .taken))
+returns c = sym (ap (numberIn (now (c .before .before .args .s))) (number-end (c .before .before .args .stop) 0 (now (c .before .before .args .s)) (c .before .before .args .at) (c .if1 .taken)))
 
 shared-slice-read-digit-value : tie.Need-shared-slice-read-digit-value
 shared-slice-read-digit-value c = search needs
@@ -16,7 +17,7 @@ digit-value-requires : tie.Need-digit-value-requires
 digit-value-requires c κs = search needs
 
 returns-2 : tie.Need-returns-2
-returns-2 c = sym (number-other (c .before .before .before .before .before .args .stop) 0 (now (c .before .before .before .before .before .args .s)) (c .before .before .before .before .before .args .at) (c .before .digit-value .result) (c .before .digit-value .ensures) (c .before .before .before .if1 .left) (c .if2 .taken))
+returns-2 c = sym (ap (numberIn (now (c .before .before .before .before .before .args .s))) (number-other (c .before .before .before .before .before .args .stop) 0 (now (c .before .before .before .before .before .args .s)) (c .before .before .before .before .before .args .at) (c .before .digit-value .result) (c .before .digit-value .ensures) (c .before .before .before .if1 .left) (c .if2 .taken)))
 
 add-read-digits : tie.Need-add-read-digits
 add-read-digits c = search needs
@@ -28,7 +29,7 @@ read-digits-requires : tie.Need-read-digits-requires
 read-digits-requires c κs = omega arith
 
 returns-3 : tie.Need-returns-3
-returns-3 c = c .read-digits .ensures ∙ sym (number-first (c .before .before .before .before .before .before .before .args .stop) 0 (now (c .before .before .before .before .before .before .before .args .s)) (c .before .before .before .before .before .before .before .args .at) (c .before .wide .result) (c .before .wide .ensures ∙ c .before .before .before .digit-value .ensures) (c .before .before .before .before .before .if1 .left) (omega arith))
+returns-3 c = c .read-digits .ensures ∙ sym (ap (numberIn (now (c .before .before .before .before .before .before .before .args .s))) (number-first (c .before .before .before .before .before .before .before .args .stop) 0 (now (c .before .before .before .before .before .before .before .args .s)) (c .before .before .before .before .before .before .before .args .at) (c .before .wide .result) (c .before .wide .ensures ∙ c .before .before .before .digit-value .ensures) (c .before .before .before .before .before .if1 .left) (omega arith)))
 
 pub read-number-spec : {M : Type 1} → statement M
 read-number-spec =

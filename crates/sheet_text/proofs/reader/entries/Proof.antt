@@ -1,14 +1,14 @@
 -- The places still to come and the bytes from i on give what all places and the bytes from `at` on give.
 use borrow.Author.Needs.{needs}
-use mathlib.Core.Path.{sym, ap, subst, _∙_}
+use mathlib.Core.Path.{sym, subst, _∙_}
 use native.Mathlib.Omega.{arith}
 use Prim.Native.Nat.{_<_}
 use lib.ListN.{length}
 use denote.Ref.{now}
 use Rattle.sheet_text.specs.declared.place.Place.{Place}
-use Rattle.sheet_text.specs.Line.{bitsFound}
 use Rattle.sheet_text.proofs.PlaceLaws.{restFrom, rest-falls, column-fits}
 use Rattle.sheet_text.proofs.Entries.{SoFar, start, more, ended-early, all-read}
+use Rattle.sheet_text.proofs.NextLaws.{place-next, bits-not}
 use Rattle.sheet_text.proofs.reader.entries.Statement.{statement}
 use Rattle.sheet_text.proofs.reader.entries.Tie as tie
 
@@ -46,7 +46,7 @@ loop-less : tie.Need-loop-less Inv-loop μ-loop
 loop-less c = subst (λ (q : Place). length (restFrom (c .before .before .before .before .before .before .before .before .before .before .before .before .before .before .before .before .args .n) q) < length (restFrom (c .before .before .before .before .before .before .before .before .before .before .before .before .before .before .before .before .args .n) (c .before .before .before .before .before .before .before .before .before .before .before .before .before .loop .p))) (sym (c .next .ensures)) (rest-falls (c .before .before .before .before .before .before .before .before .before .before .before .before .before .before .before .before .args .n) (c .before .before .before .before .before .before .before .before .before .before .before .before .before .loop .p) (c .before .before .before .before .before .before .before .before .before .before .before .before .before .loop .inv .inside .within (c .before .before .before .before .before .before .before .before .before .before .before .if1 .taken)))
 
 loop-again : tie.Need-loop-again Inv-loop μ-loop
-loop-again c = more (c .before .before .before .before .before .before .before .before .before .before .before .before .before .loop .inv) (c .before .before .before .before .before .before .before .before .before .before .before .if1 .taken) (c .next .ensures) (sym (c .before .before .before .before .before .before .before .before .before .before .entry-at .ensures) ∙ ap (bitsFound (now (c .before .before .before .before .before .before .before .before .before .before .before .before .before .before .before .before .args .s))) (c .before .before .before .before .before .before .before .before .bits .given .1)) (c .before .before .before .store .ensures)
+loop-again c = more (c .before .before .before .before .before .before .before .before .before .before .before .before .before .loop .inv) (c .before .before .before .before .before .before .before .before .before .before .before .if1 .taken) (c .next .ensures) (place-next (now (c .before .before .before .before .before .before .before .before .before .before .before .before .before .before .before .before .args .s)) (c .before .before .before .before .before .before .before .before .before .before .before .before .before .loop .i) _ (sym (c .before .before .before .before .before .before .before .before .bits .given .1) ∙ c .before .before .before .before .before .before .before .before .before .before .entry-at .ensures) .read) (c .before .before .before .store .ensures)
 
 enum-told : tie.Need-enum-told Inv-loop μ-loop
 enum-told c = search needs
@@ -55,7 +55,7 @@ same-length : tie.Need-same-length Inv-loop μ-loop
 same-length c = c .before .before .before .before .before .loop .inv .long
 
 returns : tie.Need-returns Inv-loop μ-loop
-returns c = sym (c .before .before .before .before .before .loop .inv .same ∙ ended-early (c .before .before .before .before .before .loop .inv) (c .before .before .before .before .before .loop .inv .inside .within (c .before .before .before .if1 .taken)) (sym (c .before .before .entry-at .ensures) ∙ ap (bitsFound (now (c .before .before .before .before .before .before .before .before .args .s))) (c .enum-told .given .1)))
+returns c = sym (c .before .before .before .before .before .loop .inv .same ∙ ended-early (c .before .before .before .before .before .loop .inv) (c .before .before .before .before .before .loop .inv .inside .within (c .before .before .before .if1 .taken)) (bits-not (now (c .before .before .before .before .before .before .before .before .args .s)) _ (sym (c .enum-told .given .1) ∙ c .before .before .entry-at .ensures)))
 
 same-length-2 : tie.Need-same-length-2 Inv-loop μ-loop
 same-length-2 c = c .before .before .loop .inv .long

@@ -1,8 +1,9 @@
 use borrow.Author.Needs.{needs}
 use mathlib.Core.Path.{sym, ap, _∙_}
 use denote.Ref.{now}
-use Rattle.sheet_text.specs.Line.{entryFound}
+use Rattle.sheet_text.specs.Line.{bitsIn}
 use Rattle.sheet_text.proofs.EntrySteps.{place-missing, other-row, other-column, in-place}
+use Rattle.sheet_text.proofs.NextLaws.{entry-next, entry-not, bits-are}
 use Rattle.sheet_text.proofs.reader.entry_at.Statement.{statement}
 use Rattle.sheet_text.proofs.reader.entry_at.Tie as tie
 
@@ -13,19 +14,19 @@ enum-known-entry : tie.Need-enum-known-entry
 enum-known-entry c = search needs
 
 returns : tie.Need-returns
-returns c = sym (other-row _ _ _ _ (sym (c .before .before .before .before .before .before .entry-line .ensures) ∙ ap (entryFound (now (c .before .before .before .before .before .before .before .before .args .s))) (c .before .before .before .before .entry .given .1)) (c .if1 .taken))
+returns c = sym (ap (bitsIn (now (c .before .before .before .before .before .before .before .before .args .s))) (other-row _ _ _ _ (entry-next (now (c .before .before .before .before .before .before .before .before .args .s)) (c .before .before .before .before .before .before .before .before .args .at) (sym (c .before .before .before .before .entry .given .1) ∙ c .before .before .before .before .before .before .entry-line .ensures) .read) (c .if1 .taken)))
 
 returns-2 : tie.Need-returns-2
-returns-2 c = sym (other-column _ _ _ _ (sym (c .before .before .before .before .before .before .before .before .before .entry-line .ensures) ∙ ap (entryFound (now (c .before .before .before .before .before .before .before .before .before .before .before .args .s))) (c .before .before .before .before .before .before .before .entry .given .1)) (c .before .before .before .if1 .left) (c .if2 .taken))
+returns-2 c = sym (ap (bitsIn (now (c .before .before .before .before .before .before .before .before .before .before .before .args .s))) (other-column _ _ _ _ (entry-next (now (c .before .before .before .before .before .before .before .before .before .before .before .args .s)) (c .before .before .before .before .before .before .before .before .before .before .before .args .at) (sym (c .before .before .before .before .before .before .before .entry .given .1) ∙ c .before .before .before .before .before .before .before .before .before .entry-line .ensures) .read) (c .before .before .before .if1 .left) (c .if2 .taken)))
 
 enum-told : tie.Need-enum-told
 enum-told c = search needs
 
 returns-3 : tie.Need-returns-3
-returns-3 c = sym (in-place _ _ _ _ (sym (c .before .before .before .before .before .before .before .before .before .entry-line .ensures) ∙ ap (entryFound (now (c .before .before .before .before .before .before .before .before .before .before .before .args .s))) (c .before .before .before .before .before .before .before .entry .given .1)) (c .before .before .before .if1 .left) (c .if2 .left))
+returns-3 c = let n = entry-next (now (c .before .before .before .before .before .before .before .before .before .before .before .args .s)) (c .before .before .before .before .before .before .before .before .before .before .before .args .at) (sym (c .before .before .before .before .before .before .before .entry .given .1) ∙ c .before .before .before .before .before .before .before .before .before .entry-line .ensures) in bits-are (now (c .before .before .before .before .before .before .before .before .before .before .before .args .s)) record { read = in-place _ _ _ _ (n .read) (c .before .before .before .if1 .left) (c .if2 .left); within = n .within }
 
 returns-4 : tie.Need-returns-4
-returns-4 c = sym (place-missing _ _ (sym (c .before .before .entry-line .ensures) ∙ ap (entryFound (now (c .before .before .before .before .args .s))) (c .enum-told .given .1)))
+returns-4 c = sym (ap (bitsIn (now (c .before .before .before .before .args .s))) (place-missing _ _ (entry-not (now (c .before .before .before .before .args .s)) _ (sym (c .enum-told .given .1) ∙ c .before .before .entry-line .ensures))))
 
 pub entry-at-spec : {M : Type 1} → statement M
 entry-at-spec =

@@ -1,8 +1,8 @@
 use borrow.Author.Needs.{needs}
-use mathlib.Core.Path.{sym, ap, _∙_}
+use mathlib.Core.Path.{sym, _∙_}
 use denote.Ref.{now}
-use Rattle.sheet_text.specs.Line.{numberFound}
 use Rattle.sheet_text.proofs.ReadSteps.{end-line, no-end-line, not-whole}
+use Rattle.sheet_text.proofs.NextLaws.{line-next, number-not}
 use Rattle.sheet_text.proofs.reader.last_line.Statement.{statement}
 use Rattle.sheet_text.proofs.reader.last_line.Tie as tie
 
@@ -28,10 +28,10 @@ wrong-requires : tie.Need-wrong-requires
 wrong-requires c κs = search needs
 
 returns : tie.Need-returns
-returns c = c .closing .ensures ∙ sym (end-line _ _ _ _ _ _ (c .before .before .before .before .before .before .if1 .taken) (sym (c .before .before .before .before .number-line .ensures) ∙ ap (numberFound (now (c .before .before .before .before .before .before .before .before .args .s))) (c .before .before .value .given .1)))
+returns c = c .closing .ensures ∙ sym (end-line _ _ _ _ _ _ (c .before .before .before .before .before .before .if1 .taken) (line-next (now (c .before .before .before .before .before .before .before .before .args .s)) (c .before .before .before .before .before .before .before .before .args .e .next) _ (sym (c .before .before .value .given .1) ∙ c .before .before .before .before .number-line .ensures) .read))
 
 returns-2 : tie.Need-returns-2
-returns-2 c = c .wrong .ensures ∙ sym (no-end-line _ _ _ _ (c .before .before .before .before .before .if1 .taken) (sym (c .before .before .before .number-line .ensures) ∙ ap (numberFound (now (c .before .before .before .before .before .before .before .args .s))) (c .before .enum-told .given .1)))
+returns-2 c = c .wrong .ensures ∙ sym (no-end-line _ _ _ _ (c .before .before .before .before .before .if1 .taken) (number-not (now (c .before .before .before .before .before .before .before .args .s)) _ (sym (c .before .enum-told .given .1) ∙ c .before .before .before .number-line .ensures)))
 
 add-wrong-2 : tie.Need-add-wrong-2
 add-wrong-2 c = search needs

@@ -2,9 +2,9 @@ use borrow.Author.Needs.{needs}
 use mathlib.Core.Path.{sym, ap, _∙_}
 use denote.Ref.{now}
 use Rattle.sheet_text.specs.declared.reader.Sheet.{Sheet}
-use Rattle.sheet_text.specs.Line.{numberFound}
 use Rattle.sheet_text.specs.Read.{outcome}
 use Rattle.sheet_text.proofs.ReadSteps.{read-order, read-no-order}
+use Rattle.sheet_text.proofs.NextLaws.{line-next, number-not}
 use Rattle.sheet_text.proofs.SheetSound.{reads-by}
 use Rattle.sheet_text.proofs.reader.read_sheet.Statement.{statement}
 use Rattle.sheet_text.proofs.reader.read_sheet.Tie as tie
@@ -31,10 +31,10 @@ same-length : tie.Need-same-length
 same-length c = search needs
 
 returns : tie.Need-returns
-returns c = reads-by _ _ _ _ (c .before .before .after-order .ensures ∙ sym (read-order (now (c .before .before .before .before .before .before .before .before .before .before .before .args .s)) (now (c .before .before .before .before .before .before .before .before .before .before .before .args .a)) _ _ (sym (c .before .before .before .before .before .before .before .number-line .ensures) ∙ ap (numberFound (now (c .before .before .before .before .before .before .before .before .before .before .before .args .s))) (c .before .before .before .before .before .value .given .1))))
+returns c = reads-by _ _ _ _ (c .before .before .after-order .ensures ∙ sym (read-order (now (c .before .before .before .before .before .before .before .before .before .before .before .args .s)) (now (c .before .before .before .before .before .before .before .before .before .before .before .args .a)) _ _ (line-next (now (c .before .before .before .before .before .before .before .before .before .before .before .args .s)) 0 _ (sym (c .before .before .before .before .before .value .given .1) ∙ c .before .before .before .before .before .before .before .number-line .ensures) .read)))
 
 returns-2 : tie.Need-returns-2
-returns-2 c = reads-by _ _ _ _ (ap (λ (r : Sheet). outcome r (now (c .before .before .before .before .before .before .before .args .a))) (c .wrong .ensures) ∙ sym (read-no-order (now (c .before .before .before .before .before .before .before .args .s)) (now (c .before .before .before .before .before .before .before .args .a)) (sym (c .before .before .before .number-line .ensures) ∙ ap (numberFound (now (c .before .before .before .before .before .before .before .args .s))) (c .before .enum-told .given .1))))
+returns-2 c = reads-by _ _ _ _ (ap (λ (r : Sheet). outcome r (now (c .before .before .before .before .before .before .before .args .a))) (c .wrong .ensures) ∙ sym (read-no-order (now (c .before .before .before .before .before .before .before .args .s)) (now (c .before .before .before .before .before .before .before .args .a)) (number-not (now (c .before .before .before .before .before .before .before .args .s)) _ (sym (c .before .enum-told .given .1) ∙ c .before .before .before .number-line .ensures))))
 
 pub read-sheet-spec : {M : Type 1} → statement M
 read-sheet-spec =
