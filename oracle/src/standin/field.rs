@@ -176,10 +176,13 @@ impl ComplexField for f64 {
 }
 
 /// Document 01: `max` drops a NaN if the other number is none. Rust's own `f64::max` of a signalling NaN and a number is NaN on arm64, and a choice
-/// by `<` can be compiled to the same instruction there; so the order is taken from the bits.
+/// by `<` can be compiled to the same instruction there; so the order is taken from the bits. Benchmarks alone have Rust's own.
 impl RealField for f64 {
     #[inline]
     fn max(self, other: f64) -> f64 {
+        if cfg!(feature = "rust-max") {
+            return f64::max(self, other);
+        }
         if self.is_nan() || !other.is_nan() && self.total_cmp(&other).is_lt() { other } else { self }
     }
 }
