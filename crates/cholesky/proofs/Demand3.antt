@@ -45,14 +45,14 @@ module _ (room n : ℕ) (l₀ : List Float) (fits : Fitting room 0 n (length l�
     unfolding run
     longer = for-join 0 c n (column crateRule 0) (started given) (omega arith) upto
 
-    longer-row : (i j : ℕ) → i < c → run crateRule 0 n given .cells i j ≡ run crateRule 0 c given .cells i j
+    pub longer-row : (i j : ℕ) → i < c → run crateRule 0 n given .cells i j ≡ run crateRule 0 c given .cells i j
     longer-row i j lt = sym (ap (λ (o : Outcome). o .cells i j) longer) ∙ columns-off crateRule i j 0 c n (run crateRule 0 c given) (λ k from below. inl (omega arith))
 
-    longer-refused : isDone (run crateRule 0 c given .answer) ≡ false → run crateRule 0 c given .answer ≡ run crateRule 0 n given .answer
+    pub longer-refused : isDone (run crateRule 0 c given .answer) ≡ false → run crateRule 0 c given .answer ≡ run crateRule 0 n given .answer
     longer-refused failed = ap (λ (o : Outcome). o .answer) (sym (stays crateRule 0 c n (run crateRule 0 c given) failed) ∙ longer)
 
-    longer-done : run crateRule 0 c given .answer ≡ Done → RefusedIn c n (run crateRule 0 n given .answer)
-    longer-done done = subst (λ (o : Outcome). RefusedIn c n (o .answer)) longer (refused-in (columns-answered crateRule 0 c n (run crateRule 0 c given) done))
+    pub longer-done : run crateRule 0 c given .answer ≡ Done → RefusedIn c n (run crateRule 0 n given .answer)
+    longer-done done = subst (λ (o : Outcome). RefusedIn c n (o .answer)) longer (refused-in (columns-answered crateRule 0 c n c (λ j low early. low) (run crateRule 0 c given) done))
 
   -- ---- the statement
 
@@ -61,7 +61,7 @@ module _ (room n : ℕ) (l₀ : List Float) (fits : Fitting room 0 n (length l�
   demand3 {e} {c} {cuts} {l} {r} {whole} {w} rising upto batches call = record {
     ended = λ all. pick all (isDone r) refl;
     refused = refused;
-    within = subst (RefusedIn 0 c) (sym (ends .answer)) (unfold run in refused-in (columns-answered crateRule 0 0 c (started given) refl));
+    within = subst (RefusedIn 0 c) (sym (ends .answer)) (unfold run in refused-in (columns-answered crateRule 0 0 c 0 (λ j low early. low) (started given) refl));
     handed = batches-all rising batches;
     later = λ passed. subst (RefusedIn e n) (sym answered) (longer-done e upto (subst (λ (k : ℕ). run crateRule 0 k given .answer ≡ Done) (batches-all rising batches passed) (sym (ends .answer) ∙ done-is r passed)));
     rows = ends .leaves .holds .cells ∙ agree-mask (in-room room c) same ∙ sym (load-is (lower (in-room room c)) whole (load (lower (in-room room c)) whole) (λ i j t. sym (load-in (lower (in-room room c)) whole i j t)));

@@ -45,7 +45,7 @@ free-after room m i j small under from r c t e =
 
 -- ---- where batches stop
 
-rising-upto : (m : ℕ) (cuts : List ℕ) (e : ℕ) → Rising m cuts e → m ≤ e
+pub rising-upto : (m : ℕ) (cuts : List ℕ) (e : ℕ) → Rising m cuts e → m ≤ e
 rising-upto m [] e rising = omega arith
 rising-upto m (c ∷ cuts) e rising = let rest = rising-upto c cuts e (rising .1) in omega arith
 

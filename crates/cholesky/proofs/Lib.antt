@@ -11,6 +11,7 @@ pub mod Batch
 pub mod Refusals
 pub mod Handed
 pub mod Demand3
+pub mod Arriving
 pub mod Exists
 pub mod ReaderLoops
 pub mod ReaderPromises

@@ -6,5 +6,6 @@ pub mod Leaves
 pub mod Engine
 pub mod Promise
 pub mod Batches
+pub mod Arriving
 pub mod Readers
 pub mod Solve

@@ -78,7 +78,7 @@ ruled-is x j = pick (lt zero x)
     pick false = refl
 
 answers : (lo hi : ℕ) (o : Outcome) → o .answer ≡ Done → Answers lo hi (for lo hi (column crateRule 0) o .answer)
-answers lo hi o start = pick (columns-answered crateRule 0 lo hi o start)
+answers lo hi o start = pick (columns-answered crateRule 0 lo hi lo (λ j low early. low) o start)
   where
     pick : {r : Answer} → Answered crateRule lo hi r → Answers lo hi r
     pick (refusals.done is) = done (ap isDone is)
