@@ -85,20 +85,25 @@ typedef struct urgyelpat_determined {
 /* ---- LBLT: P A P^T = L D L^T on paper, by Bunch and Kaufman's pivoting ----
  *
  * The pivot record has 2n + 1 words: for each row the index and the size (1 or 2) of its pivot, then the mark, 0 or marked
- * row + 1. A factor call writes it and the calls that read the factor check it, so that a damaged one is refused by 5. (The
- * record of another matrix of the same order may well be a sound one: keep a factor and its record together.)
+ * row + 1. A factor call writes it, and the calls that read the factor check its rule. Block by block from row 0 on: a block
+ * of size 1 at row k has an index in k..n-1; one of size 2 needs k + 1 < n, an index in k+1..n-1 and the same pair at k + 1.
+ * The mark is 0, or names a row of size 1. A record that breaks the rule is refused by 5. One that keeps it, though damaged or
+ * of another matrix, is not noticed: keep a factor and its record together.
  *
  * The rows of the factor are not in the order in which they came: for a block of size s from row k on, the row that the index
  * names was exchanged with row k + s - 1. */
 
 /* Factors the lower part of a (n*n numbers) in place, and writes its record (2n + 1 words).
  * Where the diagonal and the largest number below it are both zero in size, or one is zero and the other NaN (the largest is
- * NaN where the first number below is), there is no pivot: the column is passed over, and the first such row is marked. The
- * call is done all the same, and only a solve refuses the mark.
+ * NaN where the first number below is), there is no pivot: the column is passed over, and the first such row is marked. Below
+ * the last row there is nothing, which counts as zero, so a NaN alone on the last diagonal is marked ([NaN]). With a NaN or
+ * infinity among the numbers the mark is often the last row, wherever that number stands ([NaN / 1 2]: row 1). The call is done
+ * all the same, and only a solve refuses the mark.
  * Answers 0, 1, 3 (a), 4 (record). */
 URGYELPAT_MUST_USE uint64_t urgyelpat_lblt_factor(double *a, size_t a_length, uint32_t *record, size_t record_length, size_t n);
 
 /* Solves A X = B in b (n*columns numbers, column by column) by a factor and its record.
+ * After 6 look first for NaN or infinite numbers in all rows of A.
  * Answers 0, 1, 3 (a), 4 (record or b), 5, 6 (its place is a row of the factor; urgyelpat_callers_row gives yours). */
 URGYELPAT_MUST_USE uint64_t urgyelpat_lblt_solve(const double *a, size_t a_length, const uint32_t *record, size_t record_length,
                                                  double *b, size_t b_length, size_t n, size_t columns);

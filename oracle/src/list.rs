@@ -1,5 +1,5 @@
 //! The stored lists: a stream of words that sets registers, makes calls and says what they answer and leave. README.md describes it; the
-//! machine below replays it on any implementation of the calls and is what the programs of the gate do.
+//! machine below replays it on any implementation of the calls and is what the programs of the test command do.
 
 use crate::call::{Call, Calls, Case, FORMS, Form, Slice, word};
 use crate::cases::fill;

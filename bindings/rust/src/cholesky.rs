@@ -52,8 +52,8 @@ pub fn extend(a: &mut [f64], room: usize, earlier: usize, n: usize) -> Result<()
 ///
 /// The solution of a column x depends on the factor l and that column alone. For i rising, x(i) is divided by l(i, i), and
 /// then each later row r becomes x(r) + (−x(i))·l(r, i). After that, for i falling, x(i) becomes x(i) − l(r, i)·x(r) for r
-/// rising from i + 1, and is then divided by l(i, i). Each product, sum and quotient is rounded once. This order is document
-/// 02's and was not taken from nalgebra, so the last bits may differ from those of its `Cholesky::solve`.
+/// rising from i + 1, and is then divided by l(i, i). Each product, sum and quotient is rounded once. These steps are
+/// this project's own and were not taken from nalgebra, so the last bits may differ from those of its `Cholesky::solve`.
 ///
 /// No number of the factor is refused: a zero on its diagonal gives infinities or NaN, and what a refused factor left is read
 /// as it stands. Refused by [`OutOfRange`](Refusal::OutOfRange), [`OrderAboveRoom`](Refusal::OrderAboveRoom),
@@ -135,7 +135,7 @@ impl fmt::Display for BatchRefusal {
         match *self {
             BatchRefusal::Twins(Twins { p, q }) => write!(
                 f,
-                "row {q} is row {p} again, number for number: its batch came twice, or its point was entered twice. Leave row {q} out and hand in the rest; insist only if both rows are meant"
+                "row {q} is row {p} again, number for number: perhaps its batch came twice, or its point was entered twice. Leave row {q} out and hand in the rest; insist only if both rows are meant"
             ),
             BatchRefusal::Refused(refusal) => refusal.fmt(f),
         }
@@ -385,8 +385,8 @@ impl Cholesky {
 
     /// The solution of A·X = B. `b` has n numbers for each right-hand side, one after the other.
     ///
-    /// The solution of a right-hand side depends on the factor and that side alone, by [these steps](solve_mut). Their order is
-    /// document 02's, so the last bits may differ from those of nalgebra's `Cholesky::solve`. Refused by
+    /// The solution of a right-hand side depends on the factor and that side alone, by [these steps](solve_mut). They are this
+    /// project's own, so the last bits may differ from those of nalgebra's `Cholesky::solve`. Refused by
     /// [`OutOfRange`](Refusal::OutOfRange) and [`SliceLength`](Refusal::SliceLength) for `b`, and by nothing else.
     ///
     /// ```

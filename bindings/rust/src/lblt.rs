@@ -1,8 +1,11 @@
 //! LBLT: P·A·Pᵀ = L·D·Lᵀ on paper, by Bunch and Kaufman's pivoting, for any symmetric matrix.
 //!
 //! The pivot record of a factor of order n has 2n + 1 words: the index and the size (1 or 2) of each row's pivot, then the
-//! mark, 0 or marked row + 1. [`factor`] writes it; the other calls check it. The record of another matrix of the same order
-//! may be a sound one, so keep a factor and its record together, as [`LBLT`] does.
+//! mark, 0 or marked row + 1. [`factor`] writes it, and the calls that read the factor check its rule. Block by block from row
+//! 0 on: a block of size 1 at row k has an index in k..n; one of size 2 needs k + 1 < n, an index in k + 1..n and the same pair
+//! at k + 1. The mark is 0, or names a row of size 1. A record that breaks the rule is refused by
+//! [`BadRecord`](Refusal::BadRecord). One that keeps it, though damaged or of another matrix, is not noticed: keep a factor and
+//! its record together, as [`LBLT`] does.
 //!
 //! The rows of the factor are not in the order in which they came: [`callers_row`] gives the way back.
 
@@ -12,8 +15,10 @@ use crate::{ffi, kept, whole_columns};
 /// Factors the lower part of `a` (n·n numbers) in place and writes its pivot record (2n + 1 words).
 ///
 /// Where the diagonal and the largest number below it are both zero in size, or one is zero and the other NaN (the largest is
-/// NaN where the first number below is), there is no pivot: the column is passed over, and the first such row is marked. Only
-/// a solve refuses the mark.
+/// NaN where the first number below is), there is no pivot: the column is passed over, and the first such row is marked. Below
+/// the last row there is nothing, which counts as zero, so a NaN alone on the last diagonal is marked (`[NaN]`). With a NaN
+/// or infinity among the numbers the mark is often the last row, wherever that number stands (`[NaN / 1 2]`: row 1). Only a
+/// solve refuses the mark.
 ///
 /// Refused by [`OutOfRange`](Refusal::OutOfRange), [`MatrixLength`](Refusal::MatrixLength),
 /// [`SliceLength`](Refusal::SliceLength).
@@ -34,7 +39,7 @@ pub fn factor(a: &mut [f64], record: &mut [u32], n: usize) -> Result<(), Refusal
 ///
 /// Refused by [`OutOfRange`](Refusal::OutOfRange), [`MatrixLength`](Refusal::MatrixLength),
 /// [`SliceLength`](Refusal::SliceLength), [`BadRecord`](Refusal::BadRecord), [`ZeroMark`](Refusal::ZeroMark), which names a row
-/// of the factor: [`callers_row`] gives yours.
+/// of the factor: [`callers_row`] gives yours. Look first for NaN or infinite numbers in all rows of A.
 ///
 /// ```
 /// let mut b = [3.0, 5.0];
@@ -213,7 +218,8 @@ impl LBLT {
     }
 
     /// The first row of the factor that has no pivot: the diagonal and the largest number below it were both zero in size, or
-    /// one was zero and the other NaN. [`callers_row`](LBLT::callers_row) says which row that was as given.
+    /// one was zero and the other NaN. Below the last row there is nothing, which counts as zero.
+    /// [`callers_row`](LBLT::callers_row) says which row of the given matrix it was.
     pub fn zero_pivot(&self) -> Option<usize> {
         (self.record[2 * self.order] as usize).checked_sub(1)
     }

@@ -1,5 +1,5 @@
-//! LBLT, Cholesky and UDU factors of symmetric `f64` matrices: nalgebra's, proved against its written steps to the bit and
-//! compared with its text.
+//! LBLT, Cholesky and UDU factors of symmetric `f64` matrices: nalgebra's, proved to the bit against its steps as this project
+//! wrote them down, and compared with its text. Cholesky's solve has steps of this project's own.
 //!
 //! This crate is a safe face of `liburgyelpat.a`. Each call of that library is proved, on every input, to give the answer and
 //! to leave the slices that its page here and docs/PROMISES.md of the repository say. What this crate adds is tested and not
@@ -20,7 +20,7 @@
 //!
 //! - [`LBLT`], [`Cholesky`] and [`UDU`] own their numbers and carry nalgebra's names.
 //! - The modules [`lblt`], [`cholesky`] and [`udu`] have a function for each call of the library, over slices that the caller
-//!   lends. They take no memory. [`first_twin`] and [`first_twin_since`] are two of them.
+//!   lends; two stand at the crate's root, in no module: [`first_twin`] and [`first_twin_since`]. They take no memory.
 //!
 //! # Matrices
 //!

@@ -23,7 +23,8 @@ pub enum Refusal {
         /// The first row that breaks it, or the order if the mark does.
         row: usize,
     },
-    /// Code 6: no solution is given, since a row of the factor has no pivot.
+    /// Code 6: no solution is given, since a row of the factor has no pivot: zeros, or NaN beside a zero. Below the last row
+    /// there is nothing, which counts as zero.
     ZeroMark {
         /// The first such row of the factor; [`callers_row`](crate::lblt::callers_row) says which row that was as given.
         row: usize,
@@ -90,7 +91,7 @@ impl fmt::Display for Refusal {
             ),
             Refusal::ZeroMark { row } => write!(
                 f,
-                "the factor found nothing to divide by at its row {row}: zeros, or NaN beside a zero. Which row of yours that is, callers_row tells. Look there for zeros, a broken reading or a batch that came twice"
+                "the factor found nothing to divide by at its row {row}: zeros, NaN beside a zero, or NaN on the last diagonal. Look first for NaN or infinite numbers in all rows. Which row of yours this one is, callers_row tells. Look there for zeros, a broken reading or a batch that came twice"
             ),
             Refusal::NotPositive { column } => write!(
                 f,
