@@ -2,6 +2,12 @@
 #include "urgyelpat.h"
 
 const char *meaning(uint64_t answer);
+size_t refused_row(const uint32_t *record, size_t n, uint64_t answer);
+
+size_t refused_row(const uint32_t *record, size_t n, uint64_t answer)
+{
+    return urgyelpat_callers_row(record, n, urgyelpat_place(answer));
+}
 
 const char *meaning(uint64_t answer)
 {

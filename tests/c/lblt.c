@@ -206,9 +206,10 @@ static void callers_row(const char *about, size_t n, words record, words rows)
     }
 }
 
-/* The rows of the factor, as given. A broken record gives no rows, but ends inside its words. */
+/* The rows of the factor, as given. Of a broken record they are what its exchanges make of them, read inside its words. */
 static void callers_rows(void)
 {
+    const uint32_t largest = UINT32_MAX;
     callers_row("order 0", 0, WORDS(0), NO_WORDS);
     callers_row("nothing exchanged", 3, WORDS(0, 1, 1, 1, 2, 1, 0), WORDS(0, 1, 2));
     callers_row("an exchange, then a mark", 2, WORDS(1, 1, 1, 1, 2), WORDS(1, 0));
@@ -217,6 +218,8 @@ static void callers_rows(void)
     callers_row("a far exchange, then a block of two", 4, WORDS(2, 1, 3, 2, 3, 2, 3, 1, 0), WORDS(2, 1, 3, 0));
     callers_row("sizes of no record", 3, WORDS(0, 0, 1, 9, 2, 7, 0), WORDS(0, 1, 2));
     callers_row("a block before row 0", 1, WORDS(0, 2, 0), WORDS(0));
+    callers_row("the largest indexes", 3, WORDS(largest, 1, largest, 1, largest, 1, 0), WORDS(largest, 0, 1));
+    callers_row("the largest indexes and sizes", 2, WORDS(largest, largest, largest, largest, largest), WORDS(largest, 0));
 }
 
 /* One broken record for each row, in each way that a record can be broken, and for the mark. */

@@ -144,6 +144,7 @@ pub fn l_permuted(a: &[f64], record: &[u32], l: &mut [f64], n: usize) -> Result<
 /// # Ok::<(), urgyelpat::Refusal>(())
 /// ```
 pub fn callers_row(record: &[u32], n: usize, row: usize) -> usize {
+    assert!(record.len() / 2 >= n, "a record of fewer than 2n words");
     let mut row = row;
     let mut rest = n; // the exchanges of the rows from here on are taken back
     while rest > 0 {

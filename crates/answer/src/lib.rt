@@ -15,7 +15,7 @@ pub enum Answer {
     SliceLength,
     // The pivot record breaks its rule: the row, or the order for the mark.
     BadRecord(u32),
-    // Solve: a zero mark stands, at this row.
+    // Solve: a zero mark stands, at this row of the factor.
     ZeroMark(u32),
     // Cholesky: the diagonal at this column is zero, negative or NaN.
     NotPositive(u32),

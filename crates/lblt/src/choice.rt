@@ -19,7 +19,7 @@ pub struct Largest {
 }
 
 pub enum Choice {
-    // The column is zero.
+    // No pivot.
     Null,
     // A pivot of size 1.
     One(usize),

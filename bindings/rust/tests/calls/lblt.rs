@@ -30,6 +30,12 @@ fn a_mark_leads_back_to_the_callers_row() {
     assert_eq!([0, 1].map(|row| factor.callers_row(row)), [1, 0]);
 }
 
+#[test]
+#[should_panic(expected = "fewer than 2n words")]
+fn a_record_too_short_has_no_rows() {
+    urgyelpat::lblt::callers_row(&[0], 1, 0);
+}
+
 /// Row k of L ends with the 1 in column k, and so does the caller's row of Pᵀ·L.
 #[test]
 fn each_row_of_the_factor_is_the_callers_row_of_the_permuted_one() {
