@@ -9,6 +9,7 @@ ghost use mathlib.Core.Path.{_≡_};
 ghost use mathlib.Core.Bool.{cond};
 ghost use Rattle.answer.specs.Number.{isDone};
 ghost use Rattle.io.specs.Counts.{Counts};
+ghost use Rattle.sheet_main.specs.Status.{Status};
 
 const STATUS_FILENO: i32 = 3;
 
@@ -68,7 +69,9 @@ fn status(answer: Answer, written: bool) -> u8
 }
 
 // Writes the warning and the response of s, and answers the digit of the status.
-fn answer_to(s: &[u8]) -> u8 {
+fn answer_to(s: &[u8]) -> u8
+    ensures { λ r. ⌜ Status (now (s .entry)) r ⌝ }
+{
     let mut output = io::large_buffer();
     let end = sheet::warn(s, &mut output);
     let warned = io::write_all(STDERR_FILENO, &output[..end]);
