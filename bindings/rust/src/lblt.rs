@@ -231,9 +231,8 @@ impl LBLT {
     /// use urgyelpat::{Refusal, LBLT};
     ///
     /// let factor = LBLT::new(vec![1.0, 2.0, 0.0, 4.0], 2)?;
-    /// if let Err(Refusal::ZeroMark { row }) = factor.solve(&[1.0, 1.0]) {
-    ///     assert_eq!((row, factor.callers_row(row)), (1, 0));
-    /// }
+    /// assert_eq!(factor.solve(&[1.0, 1.0]), Err(Refusal::ZeroMark { row: 1 }));
+    /// assert_eq!(factor.callers_row(1), 0);
     /// # Ok::<(), Refusal>(())
     /// ```
     pub fn callers_row(&self, row: usize) -> usize {
