@@ -14,10 +14,10 @@ use Rattle.matrix.specs.Grid.{Sound, load}
 use Rattle.matrix.specs.Layouts.{Roomy, startOf, lower}
 use Rattle.matrix.proofs.Loops.{for-none, for-same, for-one, for-four, for-join}
 use Rattle.matrix.proofs.Places.{lower-at, lower-within}
-use Rattle.cholesky.specs.declared.strip.Source.{Source}
+use Rattle.strips.specs.declared.Source.{Source}
 use Rattle.cholesky.specs.Column.{less, updated, taken, divided, part}
 use Rattle.cholesky.specs.Run.{updates, below}
-use Rattle.cholesky.specs.Strip.{rowAt, Strip, plus, axpyOf, axpy4Of, ratioOf}
+use Rattle.strips.specs.Strip.{rowAt, Strip, plus, axpyOf, axpy4Of, ratioOf}
 use Rattle.cholesky.specs.Leaves.{Leaves}
 use Rattle.cholesky.specs.Engine.{Reach, Sourced, Taken}
 use Rattle.cholesky.proofs.Parts.{Where, within, above, beside, where?, part-in, part-above, part-beside, Agree, agree-same, part-agree, leaves-agree, leaves-none, leaves-as, leaves-then, strip-leaves}

@@ -1,4 +1,3 @@
-pub mod Strips
 pub mod Parts
 pub mod Outcomes
 pub mod Judging

@@ -20,7 +20,7 @@ use Rattle.matrix.proofs.Grids.{load-in, load-is, mask-in, same-cells}
 use Rattle.matrix.proofs.Loops.{for-same}
 use Rattle.matrix.proofs.Places.{in-lower}
 use Rattle.cholesky.specs.Column.{less, updated, part}
-use Rattle.cholesky.specs.Strip.{Strip}
+use Rattle.strips.specs.Strip.{Strip}
 use Rattle.cholesky.specs.Leaves.{Leaves}
 
 -- ---- a part replaced

@@ -17,9 +17,9 @@ use Rattle.matrix.specs.Layouts.{Roomy, startOf, placeIn, sizeOf, lower, square
 use Rattle.matrix.proofs.Grids.{load-is}
 use Rattle.matrix.proofs.Places.{digits-row, digits-column, digits-within, lower-at}
 use Rattle.matrix.proofs.Squares.{fills-each}
-use Rattle.cholesky.specs.Strip.{Strip, rowAt, zeroAt}
+use Rattle.strips.specs.Strip.{Strip, rowAt, zeroAt}
 use Rattle.cholesky.specs.Readers.{triangle, down, inStrict, strict, zeroes}
-use Rattle.cholesky.proofs.Strips.{strip-as, strip-join}
+use Rattle.strips.proofs.Strips.{strip-as, strip-join}
 
 -- ---- places
 

@@ -9,7 +9,7 @@ use Rattle.matrix.specs.declared.Layout.{Layout}
 use Rattle.matrix.specs.Loop.{for}
 use Rattle.matrix.specs.Grid.{load}
 use Rattle.matrix.specs.Layouts.{startOf, lower}
-use Rattle.cholesky.specs.declared.strip.Source.{Source}
+use Rattle.strips.specs.declared.Source.{Source}
 use Rattle.cholesky.specs.declared.engine.Verdict.{Verdict}
 use Rattle.cholesky.specs.declared.engine.Step.{Step}
 use Rattle.cholesky.specs.Column.{taken, part}

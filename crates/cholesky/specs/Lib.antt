@@ -1,7 +1,6 @@
 pub mod Column
 pub mod Run
 pub mod Crate
-pub mod Strip
 pub mod Leaves
 pub mod Engine
 pub mod Promise

@@ -8,7 +8,7 @@ ghost use Rattle.cholesky.specs.Run.{updates, below, judged, run as ran}
 ghost use Rattle.cholesky.specs.Crate.{crateRule};
 ghost use Rattle.cholesky.specs.Leaves.{Leaves, Ends};
 ghost use Rattle.cholesky.specs.Engine.{Reach, Sourced, Taken, Judgement, Advanced};
-use crate::strip::Source;
+use strips::Source;
 use answer::Answer;
 use matrix::Layout;
 
@@ -64,7 +64,7 @@ fn subtract(y: Layout, a: &mut [f64], r: usize, j: usize, k: usize)
     ensures { λ _. ⌜ Leaves y (now (a .entry)) (now (a .exit)) (part r j (taken (load (lower y) (now (a .entry))) j k (k + 1)) (load (lower y) (now (a .entry)))) ⌝ }
 {
     let s = source(y, a, j, k);
-    crate::strip::axpy(a, y.start(j), r, y.order, s);
+    strips::axpy(a, y.start(j), r, y.order, s);
 }
 
 // The same for the four columns from k on.
@@ -79,7 +79,7 @@ fn subtract4(y: Layout, a: &mut [f64], r: usize, j: usize, k: usize)
     let t = source(y, a, j, k + 1);
     let u = source(y, a, j, k + 2);
     let v = source(y, a, j, k + 3);
-    crate::strip::axpy4(a, y.start(j), r, y.order, s, t, u, v);
+    strips::axpy4(a, y.start(j), r, y.order, s, t, u, v);
 }
 
 // Takes off one column or four from k on, and answers the next.
@@ -120,7 +120,7 @@ fn divide(y: Layout, a: &mut [f64], r: usize, j: usize)
     ensures { λ _. ⌜ Leaves y (now (a .entry)) (now (a .exit)) (below r j (load (lower y) (now (a .entry)))) ⌝ }
 {
     let d = matrix::get(y, a, j, j);
-    crate::strip::unscale(a, y.start(j), r, y.order, d);
+    strips::unscale(a, y.start(j), r, y.order, d);
 }
 
 // The updated column j gets its root, and the rows below are divided by it.

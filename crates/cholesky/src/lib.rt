@@ -7,7 +7,6 @@ ghost use Rattle.cholesky.specs.Solve.{Solved};
 
 mod engine;
 mod readers;
-mod strip;
 
 use answer::Answer;
 use answer::Valued;

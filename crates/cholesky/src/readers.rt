@@ -4,7 +4,7 @@ ghost use Prim.Native.Nat.{_*_, _<_};
 ghost use lib.ListN.{length};
 ghost use Rattle.matrix.specs.Grid.{Sound, Holds, load, mask};
 ghost use Rattle.matrix.specs.Layouts.{Roomy, lower, square, Fills};
-ghost use Rattle.cholesky.specs.Strip.{Strip};
+ghost use Rattle.strips.specs.Strip.{Strip};
 ghost use Rattle.cholesky.specs.Readers.{productOf, triangle, down, strict, zeroes};
 use matrix::Layout;
 
@@ -33,7 +33,7 @@ pub fn clear_above(y: Layout, a: &mut [f64])
     let n = y.order;
     let mut j: usize = 0;
     while j < n {
-        crate::strip::clear(a, y.start(j), 0, j);
+        strips::clear(a, y.start(j), 0, j);
         j += 1;
     }
 }
@@ -47,8 +47,8 @@ fn copy_column(y: Layout, a: &[f64], l: &mut [f64], j: usize)
     ensures { λ _. ⌜ Strip (j * y .order) 0 (y .order) (down (triangle (load (lower y) (now (a .entry)))) j) (now (l .entry)) (now (l .exit)) ⌝ }
 {
     let to = j * y.order;
-    crate::strip::clear(l, to, 0, j);
-    crate::strip::copy(a, l, y.start(j), to, j, y.order);
+    strips::clear(l, to, 0, j);
+    strips::copy(a, l, y.start(j), to, j, y.order);
 }
 
 pub fn copy(y: Layout, a: &[f64], l: &mut [f64])

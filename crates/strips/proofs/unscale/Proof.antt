@@ -1,11 +1,11 @@
--- `strip::unscale` meets its contract. Assumes nothing.
+-- `unscale` meets its contract. Assumes nothing.
 use Prim.Native.Nat.{_-_}
 use native.Mathlib.Omega.{arith}
 use borrow.Author.Needs.{needs}
-use Rattle.cholesky.specs.Strip.{ratioOf}
-use Rattle.cholesky.proofs.Strips.{Passed, strip-none, strip-more, strip-all, ratio-row}
-use Rattle.cholesky.proofs.strip.unscale.Statement.{statement}
-use Rattle.cholesky.proofs.strip.unscale.Tie as tie
+use Rattle.strips.specs.Strip.{ratioOf}
+use Rattle.strips.proofs.Strips.{Passed, strip-none, strip-more, strip-all, ratio-row}
+use Rattle.strips.proofs.unscale.Statement.{statement}
+use Rattle.strips.proofs.unscale.Tie as tie
 
 abbrev Inv-loop : tie.InvT-loop
 Inv-loop a₀ at lo hi d i₀ a i = Passed at lo hi (ratioOf a₀ at d) a₀ i a

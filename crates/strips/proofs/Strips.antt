@@ -12,8 +12,8 @@ use lib.ListN.{length, set, length-set}
 use lib.Seq.{getD-set-same, getD-set-other}
 use lib.Ieee.{Float, nan, binary64, add, mul, div}
 use borrow.Author.Tests.{ltb-true, ltb-false}
-use Rattle.cholesky.specs.declared.strip.Source.{Source}
-use Rattle.cholesky.specs.Strip.{rowAt, Strip, plus, axpyOf, axpy4Of, ratioOf}
+use Rattle.strips.specs.declared.Source.{Source}
+use Rattle.strips.specs.Strip.{rowAt, Strip, plus, axpyOf, axpy4Of, ratioOf}
 
 pub record Passed (s lo hi : ℕ) (v : ℕ → Float) (l₀ : List Float) (i : ℕ) (l : List Float) : Type 0 where
   pub from : lo ≤ i

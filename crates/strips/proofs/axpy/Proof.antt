@@ -1,11 +1,11 @@
--- `strip::axpy` meets its contract. Assumes nothing.
+-- `axpy` meets its contract. Assumes nothing.
 use Prim.Native.Nat.{_-_}
 use native.Mathlib.Omega.{arith}
-use Rattle.cholesky.specs.Strip.{axpyOf}
-use Rattle.cholesky.proofs.Strips.{Passed, strip-none, strip-more, strip-all, axpy-row}
+use Rattle.strips.specs.Strip.{axpyOf}
+use Rattle.strips.proofs.Strips.{Passed, strip-none, strip-more, strip-all, axpy-row}
 use borrow.Author.Needs.{needs}
-use Rattle.cholesky.proofs.strip.axpy.Statement.{statement}
-use Rattle.cholesky.proofs.strip.axpy.Tie as tie
+use Rattle.strips.proofs.axpy.Statement.{statement}
+use Rattle.strips.proofs.axpy.Tie as tie
 
 abbrev Inv-loop : tie.InvT-loop
 Inv-loop a₀ to lo hi s from i₀ a i = Passed to lo hi (axpyOf a₀ to s) a₀ i a

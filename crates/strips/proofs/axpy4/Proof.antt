@@ -1,11 +1,11 @@
--- `strip::axpy4` meets its contract. Assumes nothing.
+-- `axpy4` meets its contract. Assumes nothing.
 use Prim.Native.Nat.{_-_}
 use native.Mathlib.Omega.{arith}
-use Rattle.cholesky.specs.Strip.{axpy4Of}
-use Rattle.cholesky.proofs.Strips.{Passed, strip-none, strip-more, strip-all, axpy4-row}
+use Rattle.strips.specs.Strip.{axpy4Of}
+use Rattle.strips.proofs.Strips.{Passed, strip-none, strip-more, strip-all, axpy4-row}
 use borrow.Author.Needs.{needs}
-use Rattle.cholesky.proofs.strip.axpy4.Statement.{statement}
-use Rattle.cholesky.proofs.strip.axpy4.Tie as tie
+use Rattle.strips.proofs.axpy4.Statement.{statement}
+use Rattle.strips.proofs.axpy4.Tie as tie
 
 abbrev Inv-loop : tie.InvT-loop
 Inv-loop a₀ to lo hi s t u v at-s at-t at-u at-v i₀ a i = Passed to lo hi (axpy4Of a₀ to s t u v) a₀ i a

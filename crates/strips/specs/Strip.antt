@@ -4,7 +4,7 @@ use mathlib.Core.List.{List}
 use Prim.Native.Nat.{ℕ, _+_, _≤_, _<_}
 use lib.ListN.{length, getD}
 use lib.Ieee.{Float, nan, binary64, ofBits, add, mul, div}
-use Rattle.cholesky.specs.declared.strip.Source.{Source}
+use Rattle.strips.specs.declared.Source.{Source}
 
 -- row i of the column that starts at s
 abbrev pub rowAt : List Float → ℕ → ℕ → Float
