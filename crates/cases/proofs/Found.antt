@@ -18,7 +18,7 @@ use Rattle.lblt.specs.Factor.{answerOf, full, factored, recorded, Factored}
 use Rattle.lblt.proofs.Done.{Same}
 use Rattle.lblt_column.specs.Column.{solveColumn}
 use Rattle.lblt_sides.specs.Columns.{eachColumn}
-use Rattle.lblt_solve.specs.Diagonal.{zeroFloat, determinantOf}
+use Rattle.lblt_solve.specs.Diagonal.{determinantOf}
 use Rattle.lblt_solve.specs.Calls.{lowerOf, readerAnswer, solveAnswer, Solved, Determined}
 use Rattle.cholesky.specs.Promise.{in-room, checked, batch, Extended}
 use Rattle.cholesky.specs.Solve.{solveAnswer as trianglesAnswer, solveSides, Solved as SolvedByTriangles}
@@ -26,6 +26,7 @@ use Rattle.cholesky.proofs.Checks.{Checked, fit, unfit, check?}
 use Rattle.udu.specs.Promise.{Sizes, right, wrong, sizesOf, uduOf, answerBy, foundOf, LeftBy, Factored as FactoredUdu}
 use Rattle.cases.specs.Calls.{floats, bitsOf, answered, lentWords, lentFloats, Call, lbltFactor, lbltDeterminant, lbltSolve, lbltLargest, choleskyFactor, choleskySolve, choleskySolveSizes, uduFactor, root, Gives}
 use Rattle.matrix.proofs.Slices.{listed, is-listed, overlaid, holds-overlaid, fills-listed}
+use Rattle.matrix.specs.Rounded.{plusZero}
 
 -- ---- LBLT's factor
 
@@ -57,7 +58,7 @@ module _ (n : ℕ) (a : List Float) (words : List ℕ) where
   unfoldable pub determinantNumbers : List (List ℕ)
   determinantNumbers =
       let r = readerAnswer n n a words a in
-      answered r ∷ (toBits binary64 (cond (isDone r) (determinantOf n (lowerOf n a) words) zeroFloat) ∷ []) ∷ []
+      answered r ∷ (toBits binary64 (cond (isDone r) (determinantOf n (lowerOf n a) words) plusZero) ∷ []) ∷ []
 
   pub determines : {v : Valued} → Determined n a words v → (answered (v .answer) ∷ (toBits binary64 (v .value) ∷ []) ∷ []) ≡ determinantNumbers
   unfolding determinantNumbers

@@ -5,14 +5,15 @@ use Prim.Native.Nat.{ℕ}
 use lib.Dec.{T}
 use lib.Ieee.{Float, lt}
 use Rattle.answer.specs.declared.Answer.the-variants.{Done, NotPositive}
+use Rattle.matrix.specs.Rounded.{plusZero}
 use Rattle.leaf.specs.Root.{rootOf}
-use Rattle.cholesky.specs.Crate.{zero, positive}
+use Rattle.cholesky.specs.Crate.{positive}
 use Rattle.cholesky.specs.Engine.{Judgement}
 
-pub judge-passed : (d : Float) (j : ℕ) (x : Float) → lt zero d ≡ true → x ≡ rootOf d → Judgement d j (record { answer = Done; root = x })
+pub judge-passed : (d : Float) (j : ℕ) (x : Float) → lt plusZero d ≡ true → x ≡ rootOf d → Judgement d j (record { answer = Done; root = x })
 unfolding positive
 judge-passed d j x passes is = record { answer = rw passes; root = λ h. is }
 
-pub judge-refused : (d : Float) (j : ℕ) (x : Float) → lt zero d ≡ false → Judgement d j (record { answer = NotPositive j; root = x })
+pub judge-refused : (d : Float) (j : ℕ) (x : Float) → lt plusZero d ≡ false → Judgement d j (record { answer = NotPositive j; root = x })
 unfolding positive
 judge-refused d j x fails = record { answer = rw fails; root = λ h. absurd (subst (λ (b : Bool). T (not b)) h tt) }

@@ -15,13 +15,13 @@ use Rattle.matrix.specs.Grid.{Holds, load, mask}
 use Rattle.matrix.specs.Layouts.{lower, square, Fills}
 use Rattle.matrix.proofs.Grids.{holds-unique}
 use Rattle.matrix.proofs.Squares.{fills-unique}
-use Rattle.cholesky.specs.Crate.{zero}
+use Rattle.matrix.specs.Rounded.{plusZero}
 use Rattle.cholesky.specs.Promise.{in-room, checked, Fitting}
 use Rattle.cholesky.specs.Readers.{productOf, squared, Determined, triangle, sliced, Copied, strict, zeroes, Unpacked}
 use Rattle.cholesky.proofs.Promises.{checked-fitting, checked-unfit}
 
 module _ (room n : ℕ) where
-  pub determined-unfit : (l : List Float) (x : Answer) → x ≡ checked room 0 n (length l) Done → isDone x ≡ false → Determined room n l (record { answer = x; value = zero })
+  pub determined-unfit : (l : List Float) (x : Answer) → x ≡ checked room 0 n (length l) Done → isDone x ≡ false → Determined room n l (record { answer = x; value = plusZero })
   determined-unfit l x is refused = record { answer = is; value = rw refused }
 
   pub determined-fit : (l : List Float) (p : Float) → Fitting room 0 n (length l) → p ≡ productOf n (load (lower (in-room room n)) l) → Determined room n l (record { answer = Done; value = mul binary64 p p })

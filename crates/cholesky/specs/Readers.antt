@@ -5,7 +5,7 @@ use mathlib.Core.List.{List}
 use Prim.Native.Nat.{ℕ, _*_}
 use lib.Dec.{eqb, leb, ltb}
 use lib.ListN.{length}
-use lib.Ieee.{Float, binary64, ofBits, mul}
+use lib.Ieee.{Float, binary64, mul}
 use Rattle.answer.specs.declared.Answer.{Answer}
 use Rattle.answer.specs.declared.Answer.the-variants.{Done, SliceLength}
 use Rattle.answer.specs.declared.Valued.{Valued}
@@ -15,13 +15,10 @@ use Rattle.matrix.specs.Matrix.{Matrix}
 use Rattle.matrix.specs.Loop.{for}
 use Rattle.matrix.specs.Grid.{Grid, Holds, load, mask}
 use Rattle.matrix.specs.Layouts.{placeIn, sizeOf, lower, square, Fills}
-use Rattle.cholesky.specs.Crate.{zero}
+use Rattle.matrix.specs.Rounded.{plusZero, one}
 use Rattle.cholesky.specs.Promise.{in-room, checked}
 
 -- ---- the determinant
-
-abbrev pub one : Float
-one = ofBits binary64 0x3ff0_0000_0000_0000
 
 unfoldable pub times : Matrix → ℕ → Float → Float
 times M i x = mul binary64 x (M i i)
@@ -36,13 +33,13 @@ squared x = mul binary64 x x
 
 pub record Determined (room n : ℕ) (l : List Float) (r : Valued) : Type 0 where
   pub answer : r .answer ≡ checked room 0 n (length l) Done
-  pub value : r .value ≡ cond (isDone (r .answer)) (squared (productOf n (load (lower (in-room room n)) l))) zero
+  pub value : r .value ≡ cond (isDone (r .answer)) (squared (productOf n (load (lower (in-room room n)) l))) plusZero
 
 -- ---- l, in a lent matrix of its own
 
 -- M with zeros above the diagonal
 unfoldable pub triangle : Matrix → Matrix
-triangle M i j = cond (leb j i) (M i j) zero
+triangle M i j = cond (leb j i) (M i j) plusZero
 
 -- column j of M
 abbrev pub down : Matrix → ℕ → ℕ → Float
@@ -68,7 +65,7 @@ unfolding inStrict placeIn sizeOf
 strict y = record { inside = inStrict (y .order); place = placeIn y; size = sizeOf y }
 
 abbrev pub zeroes : Matrix
-zeroes i j = zero
+zeroes i j = plusZero
 
 pub record Unpacked (room n : ℕ) (l₀ l : List Float) (r : Answer) : Type 0 where
   pub answer : r ≡ checked room 0 n (length l₀) Done

@@ -8,8 +8,8 @@ use Rattle.leaf.specs.Abs.{absOf}
 use Rattle.leaf.specs.Maximum.{maximumOf}
 use Rattle.matrix.specs.Matrix.{Matrix}
 use Rattle.matrix.specs.Loop.{for}
-use Rattle.lblt.specs.Rounded.{_⊗_, _⊘_, nought, α}
-use Rattle.lblt.specs.Choice.{greater, columnMax, alongRow, downColumn, rowMax, contest, choiceBy, choose}
+use Rattle.matrix.specs.Rounded.{_⊗_, _⊘_, plusZero}
+use Rattle.lblt.specs.Choice.{α, greater, columnMax, alongRow, downColumn, rowMax, contest, choiceBy, choose}
 use Rattle.lblt.specs.declared.choice.Largest.{Largest}
 use Rattle.lblt.specs.declared.choice.Choice.{Choice}
 use Rattle.lblt.specs.declared.choice.Choice.the-variants.{Null, One, Two}
@@ -29,7 +29,7 @@ module _ (M : Matrix) (k i : ℕ) (top : Largest) {magnitude : Float} (is : magn
       let test' : lt (top .colmax) (absOf (M i k)) ≡ false = rw is at test in
       rw test'
 
-pub no-rows : (n : ℕ) (M : Matrix) (k : ℕ) → n ≤ k + 1 → record { imax = 0; colmax = nought } ≡ columnMax n M k
+pub no-rows : (n : ℕ) (M : Matrix) (k : ℕ) → n ≤ k + 1 → record { imax = 0; colmax = plusZero } ≡ columnMax n M k
 unfolding columnMax
 no-rows n M k none = rw (le-ltb (k + 1) n none)
 
@@ -39,7 +39,7 @@ unfolding columnMax
 scanned n M k some is all = rw (lt-ltb (k + 1) n some) (rw is at all)
 
 pub row-scanned : (n : ℕ) (M : Matrix) (k i : ℕ) {left all : Float}
-    → left ≡ for k i (alongRow M i) nought → all ≡ for (i + 1) n (downColumn M i) left → all ≡ rowMax n M k i
+    → left ≡ for k i (alongRow M i) plusZero → all ≡ for (i + 1) n (downColumn M i) left → all ≡ rowMax n M k i
 unfolding rowMax
 row-scanned n M k i is all = rw is at all
 
@@ -75,14 +75,14 @@ module _ (n : ℕ) (M : Matrix) (k : ℕ) {top : Largest} {diag most : Float} (i
   unfolding choose
   by e = e ∙ ap (choiceBy n M k) largest
 
-  pub chooses-null : eq most nought ≡ true → Null ≡ choose n M k
+  pub chooses-null : eq most plusZero ≡ true → Null ≡ choose n M k
   unfolding choiceBy
   chooses-null test =
-      let test' : eq (maximumOf (absOf (M k k)) (top .colmax)) nought ≡ true = rw (max, is) at test in
+      let test' : eq (maximumOf (absOf (M k k)) (top .colmax)) plusZero ≡ true = rw (max, is) at test in
       by (rw test')
 
-  module _ (some : eq most nought ≡ false) where
-    some' : eq (maximumOf (absOf (M k k)) (top .colmax)) nought ≡ false
+  module _ (some : eq most plusZero ≡ false) where
+    some' : eq (maximumOf (absOf (M k k)) (top .colmax)) plusZero ≡ false
     some' = rw (max, is) at some
 
     pub chooses-contest : {r : Choice} → lt diag (α ⊗ top .colmax) ≡ true → r ≡ contest M k top (rowMax n M k (top .imax)) → r ≡ choose n M k

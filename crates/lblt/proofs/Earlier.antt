@@ -6,7 +6,7 @@ use lib.Dec.{eqb}
 use lib.Ieee.{Float}
 use Rattle.matrix.specs.Matrix.{Matrix, entry, exchange}
 use Rattle.matrix.specs.Loop.{for}
-use Rattle.lblt.specs.Rounded.{_⊖_, _⊗_}
+use Rattle.matrix.specs.Rounded.{_⊖_, _⊗_}
 use Rattle.lblt.specs.Choice.{choose}
 use Rattle.lblt.specs.Interchange.{swapBelow, swapBetween, interchange, brought1, brought2}
 use Rattle.lblt.specs.Update.{blockAt, work1, work2, rank2At, rank2By, rank2, update2}

@@ -5,7 +5,7 @@ use native.Mathlib.Omega.{arith}
 use lib.Ieee.{Float, neg}
 use Rattle.matrix.specs.Matrix.{Matrix}
 use Rattle.matrix.specs.Loop.{for}
-use Rattle.lblt.specs.Rounded.{_⊕_, _⊗_, _⊘_, one}
+use Rattle.matrix.specs.Rounded.{_⊕_, _⊗_, _⊘_, one}
 use Rattle.lblt.specs.Update.{rank1At, rank1, scaleAt, eliminate1, update1}
 use Rattle.lblt.proofs.Loops.{for-still, for-at}
 use Rattle.lblt.proofs.Stores.{stores}

@@ -9,7 +9,7 @@ use Rattle.matrix.specs.Loop.{for}
 use Rattle.matrix.specs.Grid.{Grid, Holds, load}
 use Rattle.matrix.proofs.Loops.{for-more}
 use Rattle.matrix.proofs.Grids.{Turned, holds-then, holds-as}
-use Rattle.lblt.specs.Rounded.{_⊕_, _⊖_, _⊗_}
+use Rattle.matrix.specs.Rounded.{_⊕_, _⊖_, _⊗_}
 use Rattle.lblt.specs.Update.{rank1At, rank1, rank2At, rank2By, rank2}
 use Rattle.lblt.specs.Engine.{both1At, workBy, workAt, workedAt, storeWork, both2At}
 use Rattle.lblt.specs.declared.rank2.Block.{Block}

@@ -10,8 +10,8 @@ use borrow.Author.Tests.{ltb-true, le-ltb}
 use Rattle.leaf.specs.Abs.{absOf}
 use Rattle.leaf.specs.Maximum.{maximumOf}
 use Rattle.matrix.specs.Matrix.{Matrix}
-use Rattle.lblt.specs.Rounded.{_⊗_, _⊘_, nought, α}
-use Rattle.lblt.specs.Choice.{greater, columnMax, rowMax, contest, choiceBy, choose}
+use Rattle.matrix.specs.Rounded.{_⊗_, _⊘_, plusZero}
+use Rattle.lblt.specs.Choice.{α, greater, columnMax, rowMax, contest, choiceBy, choose}
 use Rattle.lblt.specs.declared.choice.Largest.{Largest}
 use Rattle.lblt.specs.declared.choice.Choice.{Choice}
 use Rattle.lblt.specs.declared.choice.Choice.the-variants.{Null, One, Two}
@@ -23,7 +23,7 @@ either P true f g = f refl
 either P false f g = g refl
 
 -- no absolute value is below α·0
-never-below : (x : Float) → lt (absOf x) (α ⊗ nought) ≡ false
+never-below : (x : Float) → lt (absOf x) (α ⊗ plusZero) ≡ false
 unfolding absOf lt mul round ofBits ofFields
 never-below nan = refl
 never-below (inf s) = refl
@@ -72,7 +72,7 @@ contest-within n M k top rowmax h below =
 pub choose-range : (n : ℕ) (M : Matrix) (k : ℕ) → k < n → Within n k (choose n M k)
 unfolding choose choiceBy Within
 choose-range n M k h =
-    either (Within n k) (eq (maximumOf (absOf (M k k)) (columnMax n M k .colmax)) nought) {x = Null} (λ null. tt)
+    either (Within n k) (eq (maximumOf (absOf (M k k)) (columnMax n M k .colmax)) plusZero) {x = Null} (λ null. tt)
     (λ some. either (Within n k) (lt (absOf (M k k)) (α ⊗ columnMax n M k .colmax)) {x = contest M k (columnMax n M k) (rowMax n M k (columnMax n M k .imax))} {y = One k}
     (λ small. contest-within n M k (columnMax n M k) (rowMax n M k (columnMax n M k .imax)) h (contest-range n M k refl refl small))
     (λ large. (omega arith, h)))

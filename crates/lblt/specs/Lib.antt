@@ -1,4 +1,3 @@
-pub mod Rounded
 pub mod Choice
 pub mod Interchange
 pub mod Update

@@ -4,7 +4,7 @@ use lib.Ieee.{Float, neg}
 use Rattle.leaf.specs.Abs.{absOf}
 use Rattle.matrix.specs.Matrix.{Matrix, entry}
 use Rattle.matrix.specs.Loop.{for}
-use Rattle.lblt.specs.Rounded.{_⊕_, _⊖_, _⊗_, _⊘_, one}
+use Rattle.matrix.specs.Rounded.{_⊕_, _⊖_, _⊗_, _⊘_, one}
 use Rattle.lblt.specs.declared.rank2.Block.{Block}
 
 -- ---- size 1, inv = 1 / a(k,k)

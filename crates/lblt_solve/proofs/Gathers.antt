@@ -18,7 +18,8 @@ use Rattle.matrix.specs.declared.Layout.{Layout}
 use Rattle.matrix.specs.Grid.{load, mask}
 use Rattle.matrix.specs.Layouts.{lower, startOf, square, inSquare}
 use Rattle.matrix.proofs.Loops.{for-none, for-more, for-same}
-use Rattle.lblt_solve.specs.Diagonal.{zeroFloat, oneFloat, allZero}
+use Rattle.matrix.specs.Rounded.{plusZero, one}
+use Rattle.lblt_solve.specs.Diagonal.{allZero}
 use Rattle.lblt_column.proofs.Offsets.{offset-at}
 use Rattle.lblt_solve.specs.Permuted.{identity, swapColumns, plusProduct, gatherColumn, plusColumn}
 
@@ -77,18 +78,18 @@ stored r k v L i j = at (eqb i r) refl
 -- ---- ones on the diagonal
 
 abbrev pub putOne : ℕ → Matrix → Matrix
-putOne k M = entry M k k oneFloat
+putOne k M = entry M k k one
 
 pub identity-loop : (n : ℕ) → for 0 n putOne (mask (square n) allZero) ≡ mask (square n) identity
 unfolding mask square inSquare allZero identity
 identity-loop n =
-    rows-loop (λ r v c. cond (eqb c r) oneFloat (v c)) putOne n (mask (square n) allZero) (mask (square n) identity)
-    (λ r i j L. stored r r oneFloat L i j)
+    rows-loop (λ r v c. cond (eqb c r) one (v c)) putOne n (mask (square n) allZero) (mask (square n) identity)
+    (λ r i j L. stored r r one L i j)
     (λ i j. at i j (ltb i n) (ltb j n) (eqb j i) refl refl refl)
   where
     at : (i j : ℕ) (a b c : Bool) → ltb i n ≡ a → ltb j n ≡ b → eqb j i ≡ c
-        → cond {A = Row} (ltb i n) (λ c. cond (eqb c i) oneFloat (cond (ltb i n && ltb c n) zeroFloat nan)) (λ c. cond (ltb i n && ltb c n) zeroFloat nan) j
-        ≡ cond (ltb i n && ltb j n) (cond (eqb j i) oneFloat zeroFloat) nan
+        → cond {A = Row} (ltb i n) (λ c. cond (eqb c i) one (cond (ltb i n && ltb c n) plusZero nan)) (λ c. cond (ltb i n && ltb c n) plusZero nan) j
+        ≡ cond (ltb i n && ltb j n) (cond (eqb j i) one plusZero) nan
     at i j false b c e f h = rw e
     at i j true true c e f h = rw (e, f)
     at i j true false true e f h =

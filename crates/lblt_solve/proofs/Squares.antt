@@ -14,7 +14,8 @@ use Rattle.matrix.specs.Layouts.{square, placeSquare, Fills}
 use Rattle.matrix.proofs.Grids.{holds-put, holds-then, holds-as}
 use Rattle.matrix.proofs.Places.{in-square, square-at, digits-within}
 use Rattle.matrix.proofs.Squares.{square-sound, fills-each}
-use Rattle.lblt_solve.specs.Diagonal.{zeroFloat, allZero}
+use Rattle.matrix.specs.Rounded.{plusZero}
+use Rattle.lblt_solve.specs.Diagonal.{allZero}
 use Rattle.lblt_solve.specs.Engine.{Squared}
 use Rattle.lblt_sides.proofs.Parts.{product-small}
 
@@ -47,18 +48,18 @@ put-square n l i j x long row column = holds-put (square n) l (square-sound n l 
 
 pub record Cleared (l₀ : List Float) (p : ℕ) (l : List Float) : Type 0 where
   pub long : length l ≡ length l₀
-  pub zero : (k : ℕ) → k < p → getD l k nan ≡ zeroFloat
+  pub zero : (k : ℕ) → k < p → getD l k nan ≡ plusZero
 
 pub cleared-none : (l : List Float) → Cleared l 0 l
 cleared-none l = record { long = refl; zero = λ k h. absurd (omega arith) }
 
-pub cleared-more : {l₀ l : List Float} {p : ℕ} → Cleared l₀ p l → p < length l → Cleared l₀ (p + 1) (set l p zeroFloat)
-cleared-more {l₀} {l} {p} c below = record { long = length-set l p zeroFloat ∙ c .long; zero = at }
+pub cleared-more : {l₀ l : List Float} {p : ℕ} → Cleared l₀ p l → p < length l → Cleared l₀ (p + 1) (set l p plusZero)
+cleared-more {l₀} {l} {p} c below = record { long = length-set l p plusZero ∙ c .long; zero = at }
   where
-    at : (k : ℕ) → k < p + 1 → getD (set l p zeroFloat) k nan ≡ zeroFloat
+    at : (k : ℕ) → k < p + 1 → getD (set l p plusZero) k nan ≡ plusZero
     at k h =
-        ⊎-elim (λ e. rw e (getD-set-same l p zeroFloat nan below))
-        (λ lower. getD-set-other l p k zeroFloat nan (λ (e : k ≡ p). omega arith) ∙ c .zero k lower)
+        ⊎-elim (λ e. rw e (getD-set-same l p plusZero nan below))
+        (λ lower. getD-set-other l p k plusZero nan (λ (e : k ≡ p). omega arith) ∙ c .zero k lower)
         (eq-or-lt-of-le (let h' : k ≤ p = omega arith in h'))
 
 pub cleared-all : {n : ℕ} {l₀ l : List Float} {p : ℕ} → Cleared l₀ p l → length l ≤ p → length l₀ ≡ n * n → Fills n l (mask (square n) allZero)

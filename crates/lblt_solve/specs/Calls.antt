@@ -14,11 +14,12 @@ use Rattle.matrix.specs.declared.Layout.{Layout}
 use Rattle.matrix.specs.Matrix.{Matrix}
 use Rattle.matrix.specs.Grid.{load}
 use Rattle.matrix.specs.Layouts.{lower, Fills}
+use Rattle.matrix.specs.Rounded.{plusZero}
 use Rattle.pivots.specs.Words.{markAt, wordsOf}
 use Rattle.pivots.specs.Rule.{checked}
 use Rattle.lblt_column.specs.Column.{solveColumn}
 use Rattle.lblt_sides.specs.Columns.{eachColumn}
-use Rattle.lblt_solve.specs.Diagonal.{zeroFloat, determinantOf}
+use Rattle.lblt_solve.specs.Diagonal.{determinantOf}
 
 -- the lower triangle of an n·n matrix: nothing else of it is read
 abbrev pub whole : ℕ → Layout
@@ -49,7 +50,7 @@ pub record Solved (n columns : ℕ) (a : List Float) (words : List ℕ) (b : Lis
 
 pub record Determined (n : ℕ) (a : List Float) (words : List ℕ) (r : Valued) : Type 0 where
   pub answer : r .answer ≡ readerAnswer n n a words a
-  pub value : r .value ≡ cond (isDone (r .answer)) (determinantOf n (lowerOf n a) words) zeroFloat
+  pub value : r .value ≡ cond (isDone (r .answer)) (determinantOf n (lowerOf n a) words) plusZero
 
 -- a matrix M of n·n numbers is filled in where done, and as it was where refused
 pub record Filled (n : ℕ) (a : List Float) (words : List ℕ) (M : Matrix) (l : List Float) (r : Answer) (l' : List Float) : Type 0 where

@@ -1,18 +1,13 @@
 -- `determinant` and `d`, from the diagonal blocks.
 use mathlib.Core.List.{List}
 use Prim.Native.Nat.{ℕ, _+_}
-use lib.Ieee.{Float, binary64, ofBits, mul}
+use lib.Ieee.{Float, binary64, mul}
 use Rattle.matrix.specs.Matrix.{Matrix, entry}
 use Rattle.matrix.specs.Grid.{mask}
 use Rattle.matrix.specs.Layouts.{square}
+use Rattle.matrix.specs.Rounded.{plusZero, one}
 use Rattle.lblt_column.specs.Blocks.{bySize, forwards}
 use Rattle.lblt_column.specs.Column.{blockDeterminant}
-
-abbrev pub zeroFloat : Float
-zeroFloat = ofBits binary64 0
-
-abbrev pub oneFloat : Float
-oneFloat = ofBits binary64 0x3ff0_0000_0000_0000
 
 -- ---- the product of the blocks' determinants, from 1
 
@@ -20,12 +15,12 @@ unfoldable pub timesBlock : Matrix → List ℕ → ℕ → Float → Float
 timesBlock A words k x = mul binary64 x (bySize words k (A k k) (blockDeterminant A k))
 
 unfoldable pub determinantOf : ℕ → Matrix → List ℕ → Float
-determinantOf n A words = forwards n words (timesBlock A words) oneFloat
+determinantOf n A words = forwards n words (timesBlock A words) one
 
 -- ---- the block diagonal matrix
 
 unfoldable pub allZero : ℕ → ℕ → Float
-allZero i j = zeroFloat
+allZero i j = plusZero
 
 unfoldable pub diagonalTwo : Matrix → ℕ → Matrix → Matrix
 diagonalTwo A k D =

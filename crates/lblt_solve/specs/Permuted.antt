@@ -8,12 +8,12 @@ use Rattle.matrix.specs.Matrix.{Matrix}
 use Rattle.matrix.specs.Loop.{for}
 use Rattle.matrix.specs.Grid.{mask}
 use Rattle.matrix.specs.Layouts.{square}
+use Rattle.matrix.specs.Rounded.{plusZero, one}
 use Rattle.pivots.specs.Words.{indexAt}
 use Rattle.lblt_column.specs.Blocks.{bySize, forwards}
-use Rattle.lblt_solve.specs.Diagonal.{zeroFloat, oneFloat}
 
 unfoldable pub identity : Matrix
-identity i j = cond (eqb j i) oneFloat zeroFloat
+identity i j = cond (eqb j i) one plusZero
 
 -- columns p and q exchanged, in the rows below n
 unfoldable pub swapColumns : ℕ → ℕ → ℕ → Matrix → Matrix

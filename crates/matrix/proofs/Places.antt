@@ -12,8 +12,8 @@ use lib.ListN.{length, getD}
 use lib.Ieee.{Float, nan}
 use lib.Ieee.Fits.{and-l, and-r, and-i}
 use Rattle.matrix.specs.declared.Layout.{Layout}
-use Rattle.matrix.specs.Grid.{Grid, Fair, Sound, load}
-use Rattle.matrix.specs.Layouts.{Roomy, startOf, sizeOf, inLower, placeIn, lower, inUpper, inSquare, placeSquare, upper, square}
+use Rattle.matrix.specs.Grid.{Grid, Fair, load}
+use Rattle.matrix.specs.Layouts.{Roomy, startOf, sizeOf, inLower, placeIn, lower, inUpper, inSquare, placeSquare, upper, square, Laid}
 use Rattle.matrix.proofs.Grids.{load-in}
 
 -- ---- i + j·n with i below n
@@ -104,10 +104,14 @@ square-at n l i j row column = load-in (square n) l i j (in-square n i j row col
 
 -- ---- offsets within a layout
 
+-- the product of two numbers up to 1,024
+pub product-small : (n m : ℕ) → n ≤ 1024 → m ≤ 1024 → n * m ≤ 1048576
+product-small n m h g = mul-le-mul {n₁ = n} {m₁ = m} {n₂ = 1024} {m₂ = 1024} h g
+
 pub start-small : (y : Layout) (j : ℕ) → Roomy y → j ≤ y .order → startOf y j ≤ 1048576
 unfolding startOf
-start-small y j roomy below = mul-le-mul {n₁ = j} {m₁ = y .room} {n₂ = 1024} {m₂ = 1024} (omega arith) (omega arith)
+start-small y j roomy below = product-small j (y .room) (omega arith) (omega arith)
 
-pub lower-within : (y : Layout) (l : List Float) (i j : ℕ) → Roomy y → Sound (lower y) l → j ≤ i → i < y .order → i + startOf y j < length l
+pub lower-within : (y : Layout) (l : List Float) (i j : ℕ) → Laid y l → j ≤ i → i < y .order → i + startOf y j < length l
 unfolding lower placeIn
-lower-within y l i j roomy good le lt = rw (good .long) (good .fair .within i j (in-lower y i j le lt))
+lower-within y l i j laid le lt = rw (laid .sound .long) (laid .sound .fair .within i j (in-lower y i j le lt))

@@ -7,8 +7,16 @@ use lib.Dec.{leb, ltb}
 use lib.ListN.{length}
 use lib.Ieee.{Float}
 use Rattle.matrix.specs.Matrix.{Matrix}
-use Rattle.matrix.specs.Grid.{Grid, load}
+use Rattle.matrix.specs.Grid.{Grid, Sound, load}
 use Rattle.matrix.specs.declared.Layout.{Layout}
+
+-- a square matrix of order n
+abbrev pub full : ℕ → Layout
+full n = record { order = n; room = n }
+
+-- the first n rows and columns of a room
+abbrev pub inRoom : ℕ → ℕ → Layout
+inRoom n room = record { order = n; room = room }
 
 -- the order is at most the room, and the room at most 1,024
 pub record Roomy (y : Layout) : Type 0 where
@@ -19,6 +27,7 @@ pub record Roomy (y : Layout) : Type 0 where
 unfoldable pub startOf : Layout → ℕ → ℕ
 startOf y j = j * y .room
 
+-- how many numbers a slice of the layout has
 unfoldable pub sizeOf : Layout → ℕ
 sizeOf y = y .room * y .room
 
@@ -32,6 +41,11 @@ placeIn y i j = i + startOf y j
 unfoldable pub lower : Layout → Grid
 unfolding inLower placeIn sizeOf
 lower y = record { inside = inLower (y .order); place = placeIn y; size = sizeOf y }
+
+-- l is a slice of the layout y
+pub record Laid (y : Layout) (l : List Float) : Type 0 where
+  pub roomy : Roomy y
+  pub sound : Sound (lower y) l
 
 unfoldable pub inUpper : ℕ → ℕ → ℕ → Bool
 inUpper n i j = leb i j && ltb j n

@@ -1,4 +1,6 @@
+pub mod Rounded
 pub mod Matrix
 pub mod Loop
 pub mod Grid
 pub mod Layouts
+pub mod Sizes

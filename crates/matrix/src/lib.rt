@@ -2,8 +2,12 @@
 ghost use mathlib.Core.Path.{_≡_};
 ghost use Prim.Native.Nat.{_≤_, _<_};
 ghost use Rattle.matrix.specs.Matrix.{entry, exchange};
-ghost use Rattle.matrix.specs.Grid.{Sound, Holds, load};
-ghost use Rattle.matrix.specs.Layouts.{Roomy, startOf, lower};
+ghost use Rattle.matrix.specs.Grid.{Holds, load};
+ghost use Rattle.matrix.specs.Layouts.{full, inRoom, Roomy, startOf, sizeOf, lower, Laid};
+ghost use Rattle.matrix.specs.Sizes.{sizeTests};
+ghost use Rattle.answer.specs.Refusals.{tested};
+ghost use Rattle.answer.specs.declared.Answer.the-variants.{Done};
+use answer::Answer;
 
 // Where the lower triangle of a matrix stands: `order` rows and columns in a room of room·room numbers.
 pub struct Layout {
@@ -12,6 +16,56 @@ pub struct Layout {
 }
 
 impl Layout {
+    // A square matrix of order n.
+    pub fn full(n: usize) -> Layout
+        ensures { λ r. ⌜ r ≡ full n ⌝ }
+    {
+        Layout { order: n, room: n }
+    }
+
+    // The first n rows and columns of a room.
+    pub fn in_room(n: usize, room: usize) -> Layout
+        ensures { λ r. ⌜ r ≡ inRoom n room ⌝ }
+    {
+        Layout {
+            order: n,
+            room: room,
+        }
+    }
+
+    // How many numbers a slice of the layout has.
+    pub fn length(self) -> usize
+        requires { ⌜ Roomy self ⌝ }
+        ensures { λ r. ⌜ r ≡ sizeOf self ⌝ }
+    {
+        self.room * self.room
+    }
+
+    // Codes 1 to 3 for a slice of `len` numbers, the first `earlier` rows of which came earlier.
+    pub fn check(self, earlier: usize, len: usize) -> Answer
+        ensures { λ r. ⌜ r ≡ tested (sizeTests self earlier len) Done ⌝ }
+    {
+        if 1024 < self.room {
+            return Answer::OutOfRange;
+        }
+        if 1024 < self.order {
+            return Answer::OutOfRange;
+        }
+        if 1024 < earlier {
+            return Answer::OutOfRange;
+        }
+        if self.room < self.order {
+            return Answer::OrderAboveRoom;
+        }
+        if self.order < earlier {
+            return Answer::OrderAboveRoom;
+        }
+        if len != self.length() {
+            return Answer::MatrixLength;
+        }
+        Answer::Done
+    }
+
     // Where column j starts: entry (i, j) stands at i + start(j).
     pub fn start(self, j: usize) -> usize
         requires { ⌜ Roomy self ⌝ }
@@ -23,8 +77,7 @@ impl Layout {
 }
 
 pub fn get(y: Layout, a: &[f64], i: usize, j: usize) -> f64
-    requires { ⌜ Roomy y ⌝ }
-    requires { ⌜ Sound (lower y) (now a) ⌝ }
+    requires { ⌜ Laid y (now a) ⌝ }
     requires { ⌜ j ≤ i ⌝ }
     requires { ⌜ i < y .order ⌝ }
     ensures { λ r. ⌜ r ≡ load (lower y) (now (a .entry)) i j ⌝ }
@@ -33,8 +86,7 @@ pub fn get(y: Layout, a: &[f64], i: usize, j: usize) -> f64
 }
 
 pub fn put(y: Layout, a: &mut [f64], i: usize, j: usize, v: f64)
-    requires { ⌜ Roomy y ⌝ }
-    requires { ⌜ Sound (lower y) (now a) ⌝ }
+    requires { ⌜ Laid y (now a) ⌝ }
     requires { ⌜ j ≤ i ⌝ }
     requires { ⌜ i < y .order ⌝ }
     ensures { λ _. ⌜ Holds (lower y) (now (a .entry)) (now (a .exit)) (entry (load (lower y) (now (a .entry))) i j v) ⌝ }
@@ -44,8 +96,7 @@ pub fn put(y: Layout, a: &mut [f64], i: usize, j: usize, v: f64)
 
 // Exchanges the entries (i, j) and (r, c).
 pub fn swap(y: Layout, a: &mut [f64], i: usize, j: usize, r: usize, c: usize)
-    requires { ⌜ Roomy y ⌝ }
-    requires { ⌜ Sound (lower y) (now a) ⌝ }
+    requires { ⌜ Laid y (now a) ⌝ }
     requires { ⌜ j ≤ i ⌝ }
     requires { ⌜ i < y .order ⌝ }
     requires { ⌜ c ≤ r ⌝ }

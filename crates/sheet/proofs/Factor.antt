@@ -13,12 +13,13 @@ use Rattle.matrix.specs.Matrix.{Matrix}
 use Rattle.matrix.specs.Grid.{load}
 use Rattle.matrix.specs.Layouts.{startOf, lower}
 use Rattle.matrix.proofs.Places.{lower-at}
+use Rattle.matrix.specs.Rounded.{plusZero}
 use Rattle.pivots.specs.Words.{wordsOf, Sized}
 use Rattle.pivots.specs.Rule.{checked}
 use Rattle.lblt.specs.Factor.{answerOf, full, factored, recorded, Stored}
 use Rattle.lblt.proofs.Accepted.{accepted}
 use Rattle.lblt_solve.specs.Calls.{lowerOf, readerAnswer, Determined}
-use Rattle.lblt_solve.specs.Diagonal.{zeroFloat, determinantOf}
+use Rattle.lblt_solve.specs.Diagonal.{determinantOf}
 use Rattle.sheet_text.specs.Place.{places}
 use Rattle.sheet_text.proofs.EachPlace.{each-same, each-place}
 use Rattle.sheet_page.specs.Page.{matrixIn, bitsAt, bitsOf, pageLines, pageOf}
@@ -63,7 +64,7 @@ module _ (n : ℕ) (a : List Float) (words : List ℕ) (q : Square n a words) wh
     unfolding lowerOf
     determinant-is v d =
         d .value
-        ∙ ap (λ (done : Bool). cond done (determinantOf n (lowerOf n a′) words′) zeroFloat) (ap isDone (d .answer) ∙ reader-done)
+        ∙ ap (λ (done : Bool). cond done (determinantOf n (lowerOf n a′) words′) plusZero) (ap isDone (d .answer) ∙ reader-done)
         ∙ ap (λ (M : Matrix). determinantOf n M words′) (s .matrix .cells)
         ∙ ap (determinantOf n (factored n (load (lower (full n)) a) words .matrix)) (s .pivots)
 

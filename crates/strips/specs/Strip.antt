@@ -3,7 +3,8 @@ use mathlib.Core.Path.{_≡_}
 use mathlib.Core.List.{List}
 use Prim.Native.Nat.{ℕ, _+_, _≤_, _<_}
 use lib.ListN.{length, getD}
-use lib.Ieee.{Float, nan, binary64, ofBits, add, mul, div}
+use lib.Ieee.{Float, nan}
+use Rattle.matrix.specs.Rounded.{_⊕_, _⊗_, _⊘_, plusZero}
 use Rattle.strips.specs.declared.Source.{Source}
 
 -- row i of the column that starts at s
@@ -18,7 +19,7 @@ pub record Strip (s lo hi : ℕ) (v : ℕ → Float) (l₀ l : List Float) : Typ
 
 -- x, plus row i of a column times its multiplier
 unfoldable pub plus : List Float → Source → ℕ → Float → Float
-plus l s i x = add binary64 x (mul binary64 (s .scale) (rowAt l (s .start) i))
+plus l s i x = x ⊕ s .scale ⊗ rowAt l (s .start) i
 
 unfoldable pub axpyOf : List Float → ℕ → Source → ℕ → Float
 unfolding plus
@@ -29,7 +30,7 @@ unfolding plus
 axpy4Of l to s t u v i = plus l v i (plus l u i (plus l t i (plus l s i (rowAt l to i))))
 
 unfoldable pub ratioOf : List Float → ℕ → Float → ℕ → Float
-ratioOf l s d i = div binary64 (rowAt l s i) d
+ratioOf l s d i = rowAt l s i ⊘ d
 
 abbrev pub zeroAt : ℕ → Float
-zeroAt i = ofBits binary64 0
+zeroAt i = plusZero

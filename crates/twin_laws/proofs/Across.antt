@@ -14,9 +14,10 @@ use Rattle.matrix.specs.Matrix.{Matrix}
 use Rattle.matrix.specs.Loop.{for}
 use Rattle.matrix.specs.Grid.{load}
 use Rattle.matrix.specs.Layouts.{lower}
+use Rattle.matrix.specs.Rounded.{plusZero}
 use Rattle.cholesky.specs.Column.{updated}
 use Rattle.cholesky.specs.Run.{Outcome, column, run}
-use Rattle.cholesky.specs.Crate.{zero, positive, crateRule}
+use Rattle.cholesky.specs.Crate.{positive, crateRule}
 use Rattle.cholesky.specs.Leaves.{Ends}
 use Rattle.cholesky.specs.Promise.{in-room, Fitting, Extended}
 use Rattle.cholesky.specs.Batches.{Rising, Batches}
@@ -61,17 +62,17 @@ module _ (A L : Matrix) (p : ℕ) where
     -- q = p + 1: the crumb decides
     pub record Neighbours : Type 0 where
       -- not above zero: row q is refused, and the crumb stays on its diagonal
-      pub refused : lt zero crumb ≡ false → r ≡ NotPositive q
-      pub leaves : lt zero crumb ≡ false → L q q ≡ crumb
+      pub refused : lt plusZero crumb ≡ false → r ≡ NotPositive q
+      pub leaves : lt plusZero crumb ≡ false → L q q ≡ crumb
       -- above zero: row q is accepted, and the crumb's root stands there
-      pub accepted : lt zero crumb ≡ true → Answers (q + 1) n r
-      pub root : lt zero crumb ≡ true → L q q ≡ rootOf crumb
+      pub accepted : lt plusZero crumb ≡ true → Answers (q + 1) n r
+      pub root : lt plusZero crumb ≡ true → L q q ≡ rootOf crumb
 
 -- ---- the answer of some columns
 
-ruled-is : (x : Float) (j : ℕ) → ruled crateRule x j ≡ cond (lt zero x) Done (NotPositive j)
+ruled-is : (x : Float) (j : ℕ) → ruled crateRule x j ≡ cond (lt plusZero x) Done (NotPositive j)
 unfolding positive
-ruled-is x j = pick (lt zero x)
+ruled-is x j = pick (lt plusZero x)
   where
     pick : (b : Bool) → cond (isDone (cond b Done (NotPositive j))) Done (cond b Done (NotPositive j)) ≡ cond b Done (NotPositive j)
     pick true = refl
@@ -168,16 +169,16 @@ module _ (room m n p q : ℕ) (cuts : List ℕ) (l₀ l l' : List Float) (r : An
     crumb-is : Updated crateRule A q q ≡ crumb A L p
     crumb-is = twin-next crateRule A p q (omega arith) (given .left) (given .diagonal) accepted-p next ∙ ap (λ (x : Float). remainder crateRule x x) v-is
 
-    answer-q : run crateRule 0 (q + 1) A .answer ≡ cond (lt zero (crumb A L p)) Done (NotPositive q)
+    answer-q : run crateRule 0 (q + 1) A .answer ≡ cond (lt plusZero (crumb A L p)) Done (NotPositive q)
     answer-q =
         twin-refused crateRule A p q (omega arith) (given .left) (given .diagonal) accepted-p next
         ∙ ap (λ (x : Float). ruled crateRule (remainder crateRule x x) q) v-is
         ∙ ruled-is (crumb A L p) q
 
-    refused-q : lt zero (crumb A L p) ≡ false → run crateRule 0 (q + 1) A .answer ≡ NotPositive q
+    refused-q : lt plusZero (crumb A L p) ≡ false → run crateRule 0 (q + 1) A .answer ≡ NotPositive q
     refused-q none = answer-q ∙ rw none
 
-    done-q : lt zero (crumb A L p) ≡ true → run crateRule 0 (q + 1) A .answer ≡ Done
+    done-q : lt plusZero (crumb A L p) ≡ true → run crateRule 0 (q + 1) A .answer ≡ Done
     done-q some = answer-q ∙ rw some
 
     onwards : for (q + 1) n (column crateRule 0) (run crateRule 0 (q + 1) A) ≡ run crateRule 0 n A

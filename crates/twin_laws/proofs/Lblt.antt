@@ -10,7 +10,7 @@ use lib.Ieee.{Float, neg}
 use borrow.Author.Tests.{eq-eqb}
 use Rattle.matrix.specs.Matrix.{Matrix, entry}
 use Rattle.matrix.specs.Loop.{for}
-use Rattle.lblt.specs.Rounded.{_⊕_, _⊖_, _⊗_, _⊘_, one}
+use Rattle.matrix.specs.Rounded.{_⊕_, _⊖_, _⊗_, _⊘_, one}
 use Rattle.lblt.specs.declared.rank2.Block.{Block}
 use Rattle.lblt.specs.Interchange.{interchange, brought1, brought2}
 use Rattle.lblt.specs.Step.{pivot1, pivot2}

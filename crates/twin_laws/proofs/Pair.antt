@@ -14,8 +14,8 @@ use Rattle.leaf.specs.Maximum.{maximumOf}
 use Rattle.matrix.specs.Matrix.{Matrix}
 use Rattle.matrix.specs.Loop.{turns, for}
 use Rattle.pivots.specs.Words.{paired, marked}
-use Rattle.lblt.specs.Rounded.{_⊗_, _⊘_, nought, one, α}
-use Rattle.lblt.specs.Choice.{columnMax, choiceBy, choose, contest, rowMax}
+use Rattle.matrix.specs.Rounded.{_⊗_, _⊘_, plusZero, one}
+use Rattle.lblt.specs.Choice.{α, columnMax, choiceBy, choose, contest, rowMax}
 use Rattle.lblt.specs.declared.choice.Choice.{Choice}
 use Rattle.lblt.specs.declared.choice.Choice.the-variants.{Null, One}
 use Rattle.lblt.specs.Interchange.{brought1}
@@ -41,7 +41,7 @@ twice true = refl
 twice false = refl
 
 -- a size is zero exactly if the number is
-size-zero : (x : Float) → eq (absOf x) nought ≡ eq x nought
+size-zero : (x : Float) → eq (absOf x) plusZero ≡ eq x plusZero
 unfolding absOf eq ofBits
 size-zero nan = refl
 size-zero (inf s) = refl
@@ -53,7 +53,7 @@ unfolding fits
 same-fits s m e held = held
 
 -- a size is not below its share
-not-below-share : (x : Float) → T (fits binary64 x) → eq x nought ≡ false → lt (absOf x) (α ⊗ absOf x) ≡ false
+not-below-share : (x : Float) → T (fits binary64 x) → eq x plusZero ≡ false → lt (absOf x) (α ⊗ absOf x) ≡ false
 unfolding absOf eq ofBits lt mul
 not-below-share nan held other = refl
 not-below-share (inf s) held other = refl
@@ -62,7 +62,7 @@ not-below-share (fin false zero e) held other = absurd (true≢false (simp zero-
 not-below-share (fin s (suc m) e) held other = share-not-above m e (same-fits s m e held)
 
 -- no size is below α times nothing
-not-below-nothing : (y : Float) → lt (absOf y) (α ⊗ nought) ≡ false
+not-below-nothing : (y : Float) → lt (absOf y) (α ⊗ plusZero) ≡ false
 unfolding absOf lt mul ofBits
 not-below-nothing nan = refl
 not-below-nothing (inf s) = refl
@@ -72,29 +72,29 @@ not-below-nothing (fin s m e) = rw (zero-mul (down e)) (le-ltb (m * up e * 1) 0 
 
 -- what is taken for nothing: zero or NaN
 unfoldable pub gone : Float → Bool
-gone y = eq (maximumOf (absOf y) nought) nought
+gone y = eq (maximumOf (absOf y) plusZero) plusZero
 
-gone-zero : (x : Float) → eq x nought ≡ true → gone x ≡ true
+gone-zero : (x : Float) → eq x plusZero ≡ true → gone x ≡ true
 unfolding gone maximumOf absOf isNan eq lt ofBits
 gone-zero nan h = refl
 gone-zero (inf s) h = h
 gone-zero (fin s m e) h =
-    ap (λ (b : Bool). eq (cond b nought (fin false m e)) nought) (ap (ltb (m * up e * 1)) (zero-mul (down e)) ∙ le-ltb (m * up e * 1) 0 (omega arith))
+    ap (λ (b : Bool). eq (cond b plusZero (fin false m e)) plusZero) (ap (ltb (m * up e * 1)) (zero-mul (down e)) ∙ le-ltb (m * up e * 1) 0 (omega arith))
     ∙ size-zero (fin s m e) ∙ h
 
 -- two equal sizes: nothing, or the diagonal
-equal-sizes : (x : Float) → T (fits binary64 x) → (c : Choice) → cond (eq (maximumOf (absOf x) (absOf x)) nought) Null (cond (lt (absOf x) (α ⊗ absOf x)) c (One 0)) ≡ cond (eq x nought) Null (One 0)
-equal-sizes x held c = rw (maximum-same (absOf x), size-zero x) (pick (eq x nought) refl)
+equal-sizes : (x : Float) → T (fits binary64 x) → (c : Choice) → cond (eq (maximumOf (absOf x) (absOf x)) plusZero) Null (cond (lt (absOf x) (α ⊗ absOf x)) c (One 0)) ≡ cond (eq x plusZero) Null (One 0)
+equal-sizes x held c = rw (maximum-same (absOf x), size-zero x) (pick (eq x plusZero) refl)
   where
-    pick : (b : Bool) → eq x nought ≡ b → cond b Null (cond (lt (absOf x) (α ⊗ absOf x)) c (One 0)) ≡ cond b Null (One 0)
+    pick : (b : Bool) → eq x plusZero ≡ b → cond b Null (cond (lt (absOf x) (α ⊗ absOf x)) c (One 0)) ≡ cond b Null (One 0)
     pick true e = refl
     pick false e = rw (not-below-share x held e)
 
-first-choice : (M : Matrix) (x : Float) → T (fits binary64 x) → M 0 0 ≡ x → M 1 0 ≡ x → choose 2 M 0 ≡ cond (eq x nought) Null (One 0)
+first-choice : (M : Matrix) (x : Float) → T (fits binary64 x) → M 0 0 ≡ x → M 1 0 ≡ x → choose 2 M 0 ≡ cond (eq x plusZero) Null (One 0)
 unfolding choose choiceBy columnMax for turns
 first-choice M x held corner side =
-    ap (λ (y : Float). cond (eq (maximumOf (absOf y) (absOf (M 1 0))) nought) Null (cond (lt (absOf y) (α ⊗ absOf (M 1 0))) c (One 0))) corner
-    ∙ ap (λ (y : Float). cond (eq (maximumOf (absOf x) (absOf y)) nought) Null (cond (lt (absOf x) (α ⊗ absOf y)) c (One 0))) side
+    ap (λ (y : Float). cond (eq (maximumOf (absOf y) (absOf (M 1 0))) plusZero) Null (cond (lt (absOf y) (α ⊗ absOf (M 1 0))) c (One 0))) corner
+    ∙ ap (λ (y : Float). cond (eq (maximumOf (absOf x) (absOf y)) plusZero) Null (cond (lt (absOf x) (α ⊗ absOf y)) c (One 0))) side
     ∙ equal-sizes x held c
   where
     c : Choice
@@ -103,7 +103,7 @@ first-choice M x held corner side =
 last-choice : (N : Matrix) → choose 2 N 1 ≡ cond (gone (N 1 1)) Null (One 1)
 unfolding choose choiceBy columnMax gone
 last-choice N =
-    ap (λ (b : Bool). cond (eq (maximumOf (absOf (N 1 1)) nought) nought) Null (cond b (contest N 1 (record { imax = 0; colmax = nought }) (rowMax 2 N 1 0)) (One 1))) (not-below-nothing (N 1 1))
+    ap (λ (b : Bool). cond (eq (maximumOf (absOf (N 1 1)) plusZero) plusZero) Null (cond b (contest N 1 (record { imax = 0; colmax = plusZero }) (rowMax 2 N 1 0)) (One 1))) (not-below-nothing (N 1 1))
 
 -- ---- the whole answer
 
@@ -133,7 +133,7 @@ module _ (M : Matrix) (x : Float) (held : T (fits binary64 x)) (corner : M 0 0 �
   recorded-by s e = ap (λ (t : State). marked 2 (t .words) (t .mark)) e
 
   -- x zero: both columns are null, the mark is row 0, and nothing is changed
-  pub pair-zero : eq x nought ≡ true → (recorded 2 M words ≡ 0 ∷ 1 ∷ 1 ∷ 1 ∷ 1 ∷ []) × (factored 2 M words .matrix ≡ M)
+  pub pair-zero : eq x plusZero ≡ true → (recorded 2 M words ≡ 0 ∷ 1 ∷ 1 ∷ 1 ∷ 1 ∷ []) × (factored 2 M words .matrix ≡ M)
   unfolding after begun take firstMark paired marked
   pair-zero none =
       let first : choose 2 M 0 ≡ Null = first-choice M x held corner side ∙ ap (λ (b : Bool). cond b Null (One 0)) none in
@@ -160,7 +160,7 @@ module _ (M : Matrix) (x : Float) (held : T (fits binary64 x)) (corner : M 0 0 �
       (recorded-by (take 2 (after (One 0)) (One 1)) is, ap (λ (s : State). s .matrix) is ∙ last-pivot (pivot1 2 0 0 M))
 
   -- any other x: a pivot of size 1 in its place, and the mark is row 1 if nothing is left
-  pub pair-other : eq x nought ≡ false → (recorded 2 M words ≡ 0 ∷ 1 ∷ 1 ∷ 1 ∷ cond (gone (trail x x x x)) 2 0 ∷ []) × (factored 2 M words .matrix ≡ pivot1 2 0 0 M)
+  pub pair-other : eq x plusZero ≡ false → (recorded 2 M words ≡ 0 ∷ 1 ∷ 1 ∷ 1 ∷ cond (gone (trail x x x x)) 2 0 ∷ []) × (factored 2 M words .matrix ≡ pivot1 2 0 0 M)
   pair-other some =
       by-left-over (gone (trail x x x x))
       (last-choice (pivot1 2 0 0 M) ∙ ap (λ (y : Float). cond (gone y) Null (One 1)) left-over)

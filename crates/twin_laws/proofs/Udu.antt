@@ -7,7 +7,8 @@ use lib.Dec.{leb, eqb}
 use borrow.Author.Tests.{ne-eqb, le-leb, eqb-true}
 use lib.Ieee.{Float, binary64, mul, div, eq}
 use Rattle.matrix.specs.Matrix.{Matrix}
-use Rattle.udu.specs.Columns.{plusZero, one, Found, nothing, crossed, diagonal, lastEntry, earlierEntry, entryOf, withDiagonal, withColumn, Run, accepted, refused, judged, column, run}
+use Rattle.matrix.specs.Rounded.{plusZero, one}
+use Rattle.udu.specs.Columns.{Found, nothing, crossed, diagonal, lastEntry, earlierEntry, entryOf, withDiagonal, withColumn, Run, accepted, refused, judged, column, run}
 use Rattle.udu.specs.Promise.{foundOf}
 use Rattle.udu.proofs.Totals.{total-same}
 

@@ -21,7 +21,8 @@ use Rattle.answer.specs.declared.Answer.the-variants.{Done, ZeroDiagonal}
 use Rattle.matrix.specs.Matrix.{Matrix}
 use Rattle.matrix.specs.Grid.{load}
 use Rattle.matrix.specs.Layouts.{upper}
-use Rattle.udu.specs.Columns.{plusZero, one, total, Found, nothing, squared, diagonal, lastEntry, entryOf, withDiagonal, withColumn, Run, accepted, refused, judged, column, run}
+use Rattle.matrix.specs.Rounded.{plusZero, one}
+use Rattle.udu.specs.Columns.{total, Found, nothing, squared, diagonal, lastEntry, entryOf, withDiagonal, withColumn, Run, accepted, refused, judged, column, run}
 use Rattle.udu.specs.Promise.{Sizes, right, sizesOf, uduOf, answerOf, foundOf, Filled, answerBy, LeftBy, Factored}
 use Rattle.udu.specs.Leaves.{Sized, Columned, squareOf}
 use Rattle.udu.proofs.Filled.{cell}

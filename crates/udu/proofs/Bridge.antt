@@ -10,7 +10,8 @@ use Rattle.matrix.specs.Matrix.{Matrix}
 use Rattle.matrix.specs.Grid.{load}
 use Rattle.matrix.specs.Layouts.{upper}
 use Rattle.matrix.proofs.Places.{upper-at}
-use Rattle.udu.specs.Columns.{Found, one, total, squared, crossed, diagonal, lastEntry, earlierEntry, entryOf}
+use Rattle.matrix.specs.Rounded.{one}
+use Rattle.udu.specs.Columns.{Found, total, squared, crossed, diagonal, lastEntry, earlierEntry, entryOf}
 use Rattle.udu.specs.Promise.{Filled}
 use Rattle.udu.specs.Leaves.{squareOf, foundIn, lastDiagonal, earlierDiagonal}
 use Rattle.udu.proofs.Totals.{total-same}

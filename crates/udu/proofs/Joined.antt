@@ -9,7 +9,8 @@ use native.Mathlib.Omega.{arith}
 use borrow.Author.Tests.{eq-eqb, ne-eqb}
 use lib.ListN.{length, getD, set}
 use lib.Ieee.{Float, nan, binary64, sub, mul, div}
-use Rattle.udu.specs.Columns.{Found, one, total, squared, crossed, lastEntry, earlierEntry}
+use Rattle.matrix.specs.Rounded.{one}
+use Rattle.udu.specs.Columns.{Found, total, squared, crossed, lastEntry, earlierEntry}
 use Rattle.udu.specs.Leaves.{Written, Stepped, multiplied, divided, summed, squareOf, foundIn, earlierDiagonal}
 use Rattle.udu.proofs.Offsets.{later-start}
 use Rattle.udu.proofs.Written.{written-more, written-then, written-as}

@@ -14,7 +14,8 @@ use lib.ListN.{length}
 use lib.Ieee.{Float, eq}
 use Rattle.answer.specs.declared.Answer.the-variants.{Done, ZeroDiagonal}
 use Rattle.matrix.specs.Matrix.{Matrix}
-use Rattle.udu.specs.Columns.{Found, Run, accepted, refused, plusZero, nothing, judged, column, run, diagonal, entryOf, withDiagonal, withColumn}
+use Rattle.matrix.specs.Rounded.{plusZero}
+use Rattle.udu.specs.Columns.{Found, Run, accepted, refused, nothing, judged, column, run, diagonal, entryOf, withDiagonal, withColumn}
 use Rattle.udu.specs.Promise.{Filled, answerOf, foundOf}
 use Rattle.udu.specs.Leaves.{Clear, Stepped, Columned}
 use Rattle.udu.proofs.Written.{written-as}

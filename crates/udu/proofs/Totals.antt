@@ -3,7 +3,8 @@ use mathlib.Core.Path.{_≡_, refl, _∙_, ap}
 use Prim.Native.Nat.{ℕ, zero, suc, _+_, _-_, _≤_, _<_}
 use native.Mathlib.Omega.{arith}
 use lib.Ieee.{Float, binary64, add}
-use Rattle.udu.specs.Columns.{total, plusZero}
+use Rattle.matrix.specs.Rounded.{plusZero}
+use Rattle.udu.specs.Columns.{total}
 
 pub total-none : (f : ℕ → Float) (a : ℕ) → plusZero ≡ total f a (a - a)
 unfolding total

@@ -16,8 +16,8 @@ use native.Mathlib.Omega.{arith}
 use lib.ListN.{length, getD, set, length-set}
 use lib.Seq.{getD-set-same, getD-set-other}
 use lib.Ieee.{Float, nan, binary64, add, sub, mul, div}
+use Rattle.matrix.specs.Rounded.{plusZero}
 use Rattle.udu.specs.declared.column.Four.{Four}
-use Rattle.udu.specs.Columns.{plusZero}
 use Rattle.udu.specs.Leaves.{Written, Clear, added, addedFour, divided}
 
 pub written-none : {l : List Float} {at : ℕ} {f : ℕ → Float} → Written l l at 0 f

@@ -2,14 +2,9 @@
 use mathlib.Core.Bool.{Bool, true, false, cond, _&&_}
 use Prim.Native.Nat.{ℕ, zero, suc, _+_, _-_}
 use lib.Dec.{leb, eqb}
-use lib.Ieee.{Float, binary64, ofBits, add, sub, mul, div, eq}
+use lib.Ieee.{Float, binary64, add, sub, mul, div, eq}
 use Rattle.matrix.specs.Matrix.{Matrix}
-
-abbrev pub plusZero : Float
-plusZero = ofBits binary64 0
-
-abbrev pub one : Float
-one = ofBits binary64 0x3ff0_0000_0000_0000
+use Rattle.matrix.specs.Rounded.{plusZero, one}
 
 -- the c terms f(a), f(a + 1), .. added to +0 one after the other
 unfoldable pub total : (ℕ → Float) → ℕ → ℕ → Float

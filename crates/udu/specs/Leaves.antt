@@ -8,8 +8,9 @@ use lib.ListN.{length, getD, set}
 use lib.Ieee.{Float, nan, binary64, add, sub, mul, div, eq}
 use Rattle.answer.specs.declared.Answer.{Answer}
 use Rattle.matrix.specs.Matrix.{Matrix}
+use Rattle.matrix.specs.Rounded.{plusZero, one}
 use Rattle.udu.specs.declared.column.Four.{Four}
-use Rattle.udu.specs.Columns.{Found, Run, plusZero, one, total, squared, crossed, lastEntry, earlierEntry}
+use Rattle.udu.specs.Columns.{Found, Run, total, squared, crossed, lastEntry, earlierEntry}
 use Rattle.udu.specs.Promise.{Filled, answerOf, foundOf}
 
 -- the slices of an order n that is allowed

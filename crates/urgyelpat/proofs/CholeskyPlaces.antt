@@ -18,8 +18,9 @@ use Rattle.matrix.specs.Loop.{for}
 use Rattle.matrix.specs.Grid.{load}
 use Rattle.matrix.specs.Layouts.{lower}
 use Rattle.matrix.proofs.Loops.{for-none, for-more}
+use Rattle.matrix.specs.Rounded.{plusZero}
 use Rattle.cholesky.specs.Run.{Outcome, updates, earlier, judged, worked, column, started, run}
-use Rattle.cholesky.specs.Crate.{crateRule, positive, zero as zeroFloat}
+use Rattle.cholesky.specs.Crate.{crateRule, positive}
 use Rattle.cholesky.specs.Promise.{checked, in-room, Extended}
 use Rattle.cholesky.specs.Solve.{solveAnswer, Solved}
 use Rattle.cholesky.specs.Readers.{sliced, Copied, Unpacked, Determined}
@@ -31,7 +32,7 @@ outcome-test k false x y a b = b
 
 verdict-within : (d : Float) (j : ℕ) → Within j (positive d j)
 unfolding positive
-verdict-within d j = within-test j (lt zeroFloat d) Done (NotPositive j) (λ e. within-none j) (λ e. omega arith)
+verdict-within d j = within-test j (lt plusZero d) Done (NotPositive j) (λ e. within-none j) (λ e. omega arith)
 
 judged-within : (j : ℕ) (U : Matrix) → Within j (judged crateRule j U .answer)
 unfolding judged

@@ -12,7 +12,8 @@ use Rattle.answer.specs.declared.Answer.{Answer}
 use Rattle.matrix.specs.Matrix.{Matrix}
 use Rattle.matrix.specs.Grid.{load}
 use Rattle.matrix.specs.Layouts.{upper}
-use Rattle.udu.specs.Columns.{Found, Run, accepted, refused, plusZero, diagonal, judged, column, run}
+use Rattle.matrix.specs.Rounded.{plusZero}
+use Rattle.udu.specs.Columns.{Found, Run, accepted, refused, diagonal, judged, column, run}
 use Rattle.udu.specs.Promise.{Sizes, right, sizesOf, uduOf, answerOf, answerBy, Factored}
 use Rattle.urgyelpat.proofs.Within.{Within, within-none, left-false}
 

@@ -15,7 +15,7 @@ start-requires c κs = search needs
 
 within : (c : tie.After-start) → c .before .before .args .i + startOf (c .before .before .args .y) (c .before .before .args .j) < length (now (c .before .before .args .a))
 within c =
-    lower-within (c .before .before .args .y) (now (c .before .before .args .a)) (c .before .before .args .i) (c .before .before .args .j) (c .before .before .pre .0) (c .before .before .pre .1 .0) (c .before .before .pre .1 .1 .0) (c .before .before .pre .1 .1 .1)
+    lower-within (c .before .before .args .y) (now (c .before .before .args .a)) (c .before .before .args .i) (c .before .before .args .j) (c .before .before .pre .0) (c .before .before .pre .1 .0) (c .before .before .pre .1 .1)
 
 add-result : tie.Need-add-result
 add-result c = omega (arith, within c)
@@ -27,7 +27,7 @@ shared-slice-read-result : tie.Need-shared-slice-read-result
 shared-slice-read-result c = omega (arith, within (c .before))
 
 returns : tie.Need-returns
-returns c = rw (c .before .start .ensures) (sym (lower-at (c .before .before .before .args .y) (now (c .before .before .before .args .a)) (c .before .before .before .args .i) (c .before .before .before .args .j) (c .before .before .before .pre .1 .1 .0) (c .before .before .before .pre .1 .1 .1)))
+returns c = rw (c .before .start .ensures) (sym (lower-at (c .before .before .before .args .y) (now (c .before .before .before .args .a)) (c .before .before .before .args .i) (c .before .before .before .args .j) (c .before .before .before .pre .1 .0) (c .before .before .before .pre .1 .1)))
 
 pub get-spec : {M : Type 1} → statement M
 get-spec =

@@ -15,7 +15,7 @@ start-requires c κs = search needs
 
 within : (c : tie.After-start) → c .before .before .args .i + startOf (c .before .before .args .y) (c .before .before .args .j) < length (now (c .before .before .args .a))
 within c =
-    lower-within (c .before .before .args .y) (now (c .before .before .args .a)) (c .before .before .args .i) (c .before .before .args .j) (c .before .before .pre .0) (c .before .before .pre .1 .0) (c .before .before .pre .1 .1 .0) (c .before .before .pre .1 .1 .1)
+    lower-within (c .before .before .args .y) (now (c .before .before .args .a)) (c .before .before .args .i) (c .before .before .args .j) (c .before .before .pre .0) (c .before .before .pre .1 .0) (c .before .before .pre .1 .1)
 
 add-a : tie.Need-add-a
 add-a c = omega (arith, within c)
@@ -33,7 +33,7 @@ returns : tie.Need-returns
 unfolding lower placeIn
 returns c =
     rw (c .start .ensures)
-    (holds-put (lower (c .before .before .args .y)) (now (c .before .before .args .a)) (c .before .before .pre .1 .0) (c .before .before .args .i) (c .before .before .args .j) (in-lower (c .before .before .args .y) (c .before .before .args .i) (c .before .before .args .j) (c .before .before .pre .1 .1 .0) (c .before .before .pre .1 .1 .1)) (c .before .before .args .v))
+    (holds-put (lower (c .before .before .args .y)) (now (c .before .before .args .a)) (c .before .before .pre .0 .sound) (c .before .before .args .i) (c .before .before .args .j) (in-lower (c .before .before .args .y) (c .before .before .args .i) (c .before .before .args .j) (c .before .before .pre .1 .0) (c .before .before .pre .1 .1)) (c .before .before .args .v))
 
 pub put-spec : {M : Type 1} → statement M
 put-spec = tie.close (tie.spec start-requires add-a mul-a slice-write-a same-length returns)

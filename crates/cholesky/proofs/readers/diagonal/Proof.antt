@@ -6,7 +6,8 @@ use lib.Ieee.{binary64, mul}
 use Rattle.matrix.specs.Grid.{load}
 use Rattle.matrix.specs.Layouts.{lower}
 use Rattle.matrix.proofs.Loops.{Ran, ran-none, ran-more, ran-all}
-use Rattle.cholesky.specs.Readers.{one, times, productOf}
+use Rattle.matrix.specs.Rounded.{one}
+use Rattle.cholesky.specs.Readers.{times, productOf}
 use borrow.Author.Needs.{needs}
 use Rattle.cholesky.proofs.readers.diagonal.Statement.{statement}
 use Rattle.cholesky.proofs.readers.diagonal.Tie as tie

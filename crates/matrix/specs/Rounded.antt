@@ -17,12 +17,9 @@ x ⊗ y = mul binary64 x y
 abbrev pub _⊘_ : Float → Float → Float
 x ⊘ y = div binary64 x y
 
-abbrev pub nought : Float
-nought = ofBits binary64 0
+-- +0
+abbrev pub plusZero : Float
+plusZero = ofBits binary64 0
 
 abbrev pub one : Float
 one = ofBits binary64 0x3ff0_0000_0000_0000
-
--- 0.6403882032022076
-abbrev pub α : Float
-α = ofBits binary64 0x3fe4_7e0f_66af_ed07
