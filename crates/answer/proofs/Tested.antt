@@ -2,11 +2,11 @@
 --   tested-all   all tests hold: the answer is what comes after them
 --   tested-at    a test fails and those before it hold: the answer is its refusal
 --   tested-join  one list after another
---   tested-each  what is true of each refusal, and of what comes after, is true of the answer
+--   tested-each  what is true of each refusal, and of what comes after where all hold, is true of the answer
 --   all-hold     done: all tests hold
 --   tested-fixed refused: the answer does not hang on what comes after
 -- Assumes nothing.
-use mathlib.Core.Path.{_≡_, refl, sym, _∙_, ap, subst}
+use mathlib.Core.Path.{_≡_, refl, sym, _∙_, ap}
 use mathlib.Core.Bool.{Bool, true, false, cond, true≢false}
 use mathlib.Core.List.{List, [], _∷_, _++_}
 use mathlib.Core.Logic.{_⊎_, inl, inr}
@@ -50,14 +50,14 @@ unfolding tested
 tested-join [] more r = refl
 tested-join (t ∷ tests) more r = ap (λ (a : Answer). cond (t .holds) a (t .refusal)) (tested-join tests more r)
 
-pub tested-each : (P : Answer → Type 0) (tests : List Test) (r : Answer) → Each P tests → P r → P (tested tests r)
+pub tested-each : (P : Answer → Type 0) (tests : List Test) (r : Answer) → Each P tests → (AllHold tests → P r) → P (tested tests r)
 unfolding tested
-tested-each P [] r each last = last
-tested-each P (t ∷ tests) r each last = pick (t .holds) (tested-each P tests r (each .1) last)
+tested-each P [] r each last = last tt
+tested-each P (t ∷ tests) r each last = pick (t .holds) refl (tested-each P tests r (each .1))
   where
-    pick : (b : Bool) → P (tested tests r) → P (cond b (tested tests r) (t .refusal))
-    pick true rest = rest
-    pick false rest = each .0
+    pick : (b : Bool) → t .holds ≡ b → ((AllHold tests → P r) → P (tested tests r)) → P (cond b (tested tests r) (t .refusal))
+    pick true e rest = rest (λ h. last (e, h))
+    pick false e rest = each .0
 
 -- all hold, or one fails
 pub hold? : (tests : List Test) → AllHold tests ⊎ ((a : Answer) × Fails a tests)

@@ -8,9 +8,9 @@ ghost use Rattle.cholesky.specs.Run.{updates, below, judged, run as ran}
 ghost use Rattle.cholesky.specs.Crate.{crateRule};
 ghost use Rattle.cholesky.specs.Leaves.{Leaves, Ends};
 ghost use Rattle.cholesky.specs.Engine.{Reach, Sourced, Taken, Judgement, Advanced};
-use strips::Source;
 use answer::Answer;
 use matrix::Layout;
+use strips::Source;
 
 // What is answered to a diagonal, `Done` if it passes, and then its root.
 pub struct Verdict {

@@ -1,14 +1,13 @@
 -- Slices that fit their layout: what the tests of size tell, and what steps leave of it. Assumes nothing.
-use mathlib.Core.Path.{_≡_, refl, sym, _∙_}
+use mathlib.Core.Path.{_≡_, refl, _∙_}
 use mathlib.Core.Bool.{true}
 use mathlib.Core.List.{List}
-use Prim.Native.Nat.{ℕ, _*_, _≤_}
+use Prim.Native.Nat.{ℕ, _≤_}
 use native.Mathlib.Omega.{arith}
 use lib.ListN.{length}
 use lib.Ieee.{Float}
 use borrow.Author.Tests.{leb-true, le-leb, eqb-true, eq-eqb}
 use Rattle.answer.specs.declared.Answer.{Answer}
-use Rattle.answer.specs.declared.Answer.the-variants.{Done}
 use Rattle.answer.specs.Number.{isDone}
 use Rattle.answer.specs.Refusals.{tested}
 use Rattle.answer.proofs.Tested.{AllHold, Refusals, tested-all, all-hold}
@@ -29,8 +28,7 @@ module _ (y : Layout) (m len : ℕ) where
   fits-hold f =
       let ordered : y .order ≤ y .room = f .roomy .ordered in
       let small : y .room ≤ 1024 = f .roomy .small in
-      let rising : m ≤ y .order = f .rising in
-      (
+      let rising : m ≤ y .order = f .rising in (
         le-leb (y .room) 1024 small,
         (
           le-leb (y .order) 1024 (omega arith),

@@ -5,19 +5,20 @@
 --     boundary-one, boundary-two   the boundary after it
 --     last-one, last-two           the block that ends before k, by the size at k − 1, and the boundary where it starts
 --     mark-row                     what a mark names
-use mathlib.Core.Bool.{Bool, true, false, cond, _&&_, _||_, true≢false}
+use mathlib.Core.Bool.{Bool, true, false, _&&_, _||_}
 use mathlib.Core.List.{List}
 use mathlib.Core.Logic.{⊎-elim}
-use mathlib.Core.Path.{_≡_, refl, sym, subst}
+use mathlib.Core.Path.{_≡_, refl, subst}
 use Prim.Native.Nat.{ℕ, zero, suc, _+_, _-_, _<_, _≤_}
 use native.Mathlib.Nat.{eq-or-lt-of-le}
 use native.Mathlib.Omega.{arith}
-use borrow.Author.Tests.{ltb-false, leb-true, eqb-true}
-use lib.Dec.{leb, ltb, eqb}
-use Rattle.answer.specs.declared.Answer.the-variants.{Done, BadRecord}
+use borrow.Author.Tests.{leb-true, eqb-true}
+use lib.Dec.{leb, eqb}
+use Rattle.answer.specs.declared.Answer.the-variants.{Done}
 use Rattle.answer.specs.Number.{isDone}
+use Rattle.answer.proofs.Tested.{AllHold, all-hold}
 use Rattle.pivots.specs.Words.{sizeAt, markAt}
-use Rattle.pivots.specs.Rule.{blockOf, faultFrom, faultOf, soundMark, checked, Accepted}
+use Rattle.pivots.specs.Rule.{blockOf, faultFrom, faultOf, recordTests, checked, Accepted}
 use Rattle.pivots.proofs.Blocks.{One, Two, one-rows, two-rows, block-found, first, second}
 use Rattle.pivots.proofs.Faults.{from-next, from-stop}
 
@@ -40,13 +41,12 @@ pub record Boundary (n : ℕ) (words : List ℕ) (k : ℕ) : Type 0 where
 
 -- ---- an accepted record
 
-rows-done : (n : ℕ) (words : List ℕ) → isDone (checked n words) ≡ true → n ≤ faultOf n words
+record-holds : (n : ℕ) (words : List ℕ) → isDone (checked n words) ≡ true → AllHold (recordTests n words)
 unfolding checked
-rows-done n words done = at (ltb (faultOf n words) n) refl done
-  where
-    at : (b : Bool) → ltb (faultOf n words) n ≡ b → isDone (cond b (BadRecord (faultOf n words)) (cond (soundMark n words) Done (BadRecord n))) ≡ true → n ≤ faultOf n words
-    at true e d = absurd (true≢false (sym d))
-    at false e d = ltb-false _ _ e
+record-holds n words done = all-hold (recordTests n words) Done (refl, (refl, tt)) done .0
+
+rows-done : (n : ℕ) (words : List ℕ) → isDone (checked n words) ≡ true → n ≤ faultOf n words
+rows-done n words done = leb-true n (faultOf n words) (record-holds n words done .0)
 
 rest-of : (fuel n : ℕ) (words : List ℕ) (k : ℕ) → k ≤ n → n ≤ k + fuel → n ≤ faultFrom fuel n words k → Rest n words k
 rest-of zero n words k within enough sound = end {k = k} (omega arith)
@@ -165,18 +165,12 @@ pub record MarkedRow (n : ℕ) (words : List ℕ) : Type 0 where
   pub size : sizeAt words (markAt n words - 1) ≡ 1
 
 pub mark-row : {n : ℕ} {words : List ℕ} → Accepted n words → (markAt n words ≡ 0 → ⊥) → MarkedRow n words
-unfolding checked
 mark-row {n} {words} a set =
     record { row = leb-true _ _ (first (leb (markAt n words) n) _ both); size = eqb-true _ _ (second (leb (markAt n words) n) _ both) }
   where
-    sound : (rows mark : Bool) → isDone (cond rows (BadRecord (faultOf n words)) (cond mark Done (BadRecord n))) ≡ true → mark ≡ true
-    sound true mark d = absurd (true≢false (sym d))
-    sound false true d = refl
-    sound false false d = absurd (true≢false (sym d))
-
     or : (a b : Bool) → (a ≡ true → ⊥) → (a || b) ≡ true → b ≡ true
     or true b h e = absurd (h refl)
     or false b h e = e
 
     both : (leb (markAt n words) n && eqb (sizeAt words (markAt n words - 1)) 1) ≡ true
-    both = or (eqb (markAt n words) 0) _ (λ e. set (eqb-true _ _ e)) (sound (ltb (faultOf n words) n) (soundMark n words) (a .done))
+    both = or (eqb (markAt n words) 0) _ (λ e. set (eqb-true _ _ e)) (record-holds n words (a .done) .1 .0)

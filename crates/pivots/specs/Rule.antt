@@ -1,12 +1,13 @@
 -- The rule of a pivot record, and what its check answers.
 use mathlib.Core.Bool.{Bool, true, cond, _&&_, _||_}
-use mathlib.Core.List.{List}
+use mathlib.Core.List.{List, [], _∷_}
 use mathlib.Core.Path.{_≡_}
 use Prim.Native.Nat.{ℕ, zero, suc, _+_, _-_}
 use lib.Dec.{leb, ltb, eqb}
 use Rattle.answer.specs.declared.Answer.{Answer}
 use Rattle.answer.specs.declared.Answer.the-variants.{Done, BadRecord}
 use Rattle.answer.specs.Number.{isDone}
+use Rattle.answer.specs.Refusals.{Test, _otherwise_, tested}
 use Rattle.pivots.specs.Words.{indexAt, sizeAt, markAt, Sized}
 
 -- size 1 at row k: an index in k..n−1
@@ -39,11 +40,11 @@ abbrev pub soundMark : ℕ → List ℕ → Bool
 soundMark n words = eqb (markAt n words) 0 || (leb (markAt n words) n && eqb (sizeAt words (markAt n words - 1)) 1)
 
 -- the rows are judged before the mark
+abbrev pub recordTests : ℕ → List ℕ → List Test
+recordTests n words = (leb n (faultOf n words) otherwise BadRecord (faultOf n words)) ∷ (soundMark n words otherwise BadRecord n) ∷ []
+
 unfoldable pub checked : ℕ → List ℕ → Answer
-checked n words =
-    cond (ltb (faultOf n words) n)
-    (BadRecord (faultOf n words))
-    (cond (soundMark n words) Done (BadRecord n))
+checked n words = tested (recordTests n words) Done
 
 -- a record that is accepted
 pub record Accepted (n : ℕ) (words : List ℕ) : Type 0 where

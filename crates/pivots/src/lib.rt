@@ -1,8 +1,8 @@
 // The pivot record: for each row the index and size of its pivot, then the mark; its check, readers and writers.
 ghost use mathlib.Core.Path.{_≡_};
-ghost use Prim.Native.Nat.{_<_, _+_, _*_};
+ghost use Prim.Native.Nat.{_<_, _≤_, _+_, _*_};
 ghost use lib.ListN.{length};
-ghost use Rattle.pivots.specs.Words.{Sized, indexAt, sizeAt, markAt, paired, marked};
+ghost use Rattle.pivots.specs.Words.{wordsOf, Sized, indexAt, sizeAt, markAt, paired, marked};
 ghost use Rattle.pivots.specs.Rule.{blockOf, faultOf, checked};
 use answer::Answer;
 
@@ -10,6 +10,14 @@ fn wide(word: u32) -> usize
     ensures { λ r. ⌜ r ≡ word ⌝ }
 {
     word as usize
+}
+
+// The words of a record of order n.
+pub fn words(n: usize) -> usize
+    requires { ⌜ n ≤ 1024 ⌝ }
+    ensures { λ r. ⌜ r ≡ wordsOf n ⌝ }
+{
+    2 * n + 1
 }
 
 pub fn index(words: &[u32], row: usize) -> usize

@@ -1,8 +1,7 @@
 -- `Layout::check` answers by the first test of size that fails. Assumes nothing.
 use mathlib.Core.Path.{refl, sym, _∙_}
-use native.Mathlib.Omega.{arith}
 use borrow.Author.Tests.{le-leb, lt-leb, ne-eqb}
-use Rattle.answer.proofs.Tested.{Fails, here, later, tested-at}
+use Rattle.answer.proofs.Tested.{here, later, tested-at}
 use Rattle.matrix.proofs.Sizes.{fits-pass}
 use Rattle.matrix.proofs.Layout.check.Statement.{statement}
 use Rattle.matrix.proofs.Layout.check.Tie as tie
