@@ -1,6 +1,6 @@
 -- The laws of a slice that holds a matrix, over any grid.
 --   holds-none  holds-put  holds-then    nothing done; one entry stored; one step after another
---   turned-none turned-more turned-all   a loop that writes: `Turned g lo hi f l₀ i l` is its invariant
+--   turned-none -more -two -all          a loop that writes: `Turned g lo hi f l₀ i l` is its invariant
 --   holds-unique                         two slices that hold one matrix over one slice are equal
 --   load-in     same-cells               an entry of `load`; two matrices that agree on the grid
 -- Assumes nothing.
@@ -21,7 +21,7 @@ use borrow.Author.Tests.{eq-eqb, eqb-true, eqb-false}
 use Rattle.matrix.specs.Matrix.{Matrix, entry}
 use Rattle.matrix.specs.Loop.{for}
 use Rattle.matrix.specs.Grid.{Grid, Fair, Sound, load, mask, Free, Holds}
-use Rattle.matrix.proofs.Loops.{for-none, for-more}
+use Rattle.matrix.proofs.Loops.{for-none, for-more, for-two, for-join}
 
 -- ---- an entry of a slice
 
@@ -119,6 +119,18 @@ pub turned-more : {g : Grid} {lo hi : ℕ} {f : ℕ → Matrix → Matrix} {l₀
     → Turned g lo hi f l₀ i l → i < hi → Holds g l l' (f i (load g l)) → Turned g lo hi f l₀ (i + 1) l'
 turned-more {g} {lo} {hi} {f} {l₀} {i} {l} {l'} t below step =
     record { from = omega arith; upto = omega arith; holds = holds-as (holds-then (f i) (t .holds) step) (sym (for-more lo i f (load g l₀) (t .from))) }
+
+-- two turns more
+pub turned-two : {g : Grid} {lo hi : ℕ} {f : ℕ → Matrix → Matrix} {l₀ : List Float} {i : ℕ} {l l' : List Float}
+    → Turned g lo hi f l₀ i l → i + 1 < hi → Holds g l l' (f (i + 1) (f i (load g l))) → Turned g lo hi f l₀ (i + 2) l'
+turned-two {g} {lo} {hi} {f} {l₀} {i} t below step =
+    record {
+      from = omega (arith, t .from);
+      upto = omega arith;
+      holds =
+          holds-as (holds-then (λ (M : Matrix). f (i + 1) (f i M)) (t .holds) step)
+          (sym (for-two i f (for lo i f (load g l₀))) ∙ for-join lo i (i + 2) f (load g l₀) (t .from) (omega arith));
+    }
 
 pub turned-all : {g : Grid} {lo hi : ℕ} {f : ℕ → Matrix → Matrix} {l₀ : List Float} {i : ℕ} {l : List Float}
     → Turned g lo hi f l₀ i l → hi ≤ i → Holds g l₀ l (for lo hi f (load g l₀))

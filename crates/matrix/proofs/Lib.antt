@@ -1,4 +1,7 @@
+pub mod Tests
 pub mod Loops
+pub mod Turning
+pub mod Stores
 pub mod Grids
 pub mod Places
 pub mod Sizes

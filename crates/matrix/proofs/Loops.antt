@@ -1,5 +1,12 @@
--- The laws of loops. The invariant of a loop that rises is `Ran lo hi f s₀ i s`: from lo on, up to i, f has turned s₀ into s.
--- That of a loop that falls is `Fell n f s₀ i s`: the turns below i make of s what all n make of s₀.
+-- The laws of loops.
+--   for-none for-one for-two for-four    no turn, one, two, four
+--   for-more for-first for-at            the last turn, the first, one in between
+--   for-join                             one loop after another
+--   for-related                          two loops that stay related, turn by turn; of it:
+--   for-keeps for-still for-same for-past   what all turns keep or leave; loops whose turns agree; a change that no turn sees
+--   for-fused                            two loops one after the other as one
+--   Ran    from lo on, up to i, f has turned s₀ into s: the invariant of a loop that rises
+--   Fell   the turns below i make of s what all n make of s₀: that of a loop that falls
 -- Assumes nothing.
 use mathlib.Core.Path.{_≡_, refl, sym, _∙_, ap}
 use Prim.Native.Nat.{ℕ, zero, suc, _+_, _-_, _≤_, _<_}
@@ -21,24 +28,20 @@ for-more lo i f s from =
     let last : lo + (i - lo) ≡ i = omega arith in
     ap (turns lo f s) count ∙ ap (λ (k : ℕ). f k (turns lo f s (i - lo))) last
 
--- two loops whose turns agree
-pub for-same : {S : Type 0} (lo hi : ℕ) (f g : ℕ → S → S) (s : S) → ((i : ℕ) (x : S) → lo ≤ i → i < hi → f i x ≡ g i x) → for lo hi f s ≡ for lo hi g s
-unfolding for turns
-for-same {S} lo hi f g s same = go (hi - lo) (omega arith)
-  where
-    go : (c : ℕ) → c ≤ hi - lo → turns lo f s c ≡ turns lo g s c
-    go zero h = refl
-    go (suc c) h = same (lo + c) (turns lo f s c) (omega arith) (omega arith) ∙ ap (g (lo + c)) (go c (omega arith))
-
--- one turn, and four
 pub for-one : {S : Type 0} (lo : ℕ) (f : ℕ → S → S) (s : S) → for lo (lo + 1) f s ≡ f lo s
 for-one lo f s = for-more lo lo f s (omega arith) ∙ ap (f lo) (for-none lo f s)
 
+-- the turn after the first k
+next : {S : Type 0} (lo k : ℕ) (f : ℕ → S → S) (s : S) {x : S} → for lo (lo + k) f s ≡ x → for lo (lo + (k + 1)) f s ≡ f (lo + k) x
+next lo k f s e =
+    let place : lo + (k + 1) ≡ lo + k + 1 = omega arith in
+    ap (λ (h : ℕ). for lo h f s) place ∙ for-more lo (lo + k) f s (omega arith) ∙ ap (f (lo + k)) e
+
+pub for-two : {S : Type 0} (lo : ℕ) (f : ℕ → S → S) (s : S) → for lo (lo + 2) f s ≡ f (lo + 1) (f lo s)
+for-two lo f s = next lo 1 f s (for-one lo f s)
+
 pub for-four : {S : Type 0} (lo : ℕ) (f : ℕ → S → S) (s : S) → for lo (lo + 4) f s ≡ f (lo + 3) (f (lo + 2) (f (lo + 1) (f lo s)))
-for-four {S} lo f s = last 3 (last 2 (last 1 (for-one lo f s)))
-  where
-    last : (k : ℕ) {x : S} → for lo (lo + k) f s ≡ x → for lo (lo + (k + 1)) f s ≡ f (lo + k) x
-    last k e = let place : lo + (k + 1) ≡ lo + k + 1 = omega arith in ap (λ (h : ℕ). for lo h f s) place ∙ for-more lo (lo + k) f s (omega arith) ∙ ap (f (lo + k)) e
+for-four lo f s = next lo 3 f s (next lo 2 f s (for-two lo f s))
 
 -- one loop after another
 pub for-join : {S : Type 0} (lo mid hi : ℕ) (f : ℕ → S → S) (s : S) → lo ≤ mid → mid ≤ hi → for mid hi f (for lo mid f s) ≡ for lo hi f s
@@ -53,6 +56,41 @@ for-join {S} lo mid hi f s from upto =
         let place : mid + c ≡ lo + ((mid - lo) + c) = omega arith in
         let count : suc ((mid - lo) + c) ≡ (mid - lo) + suc c = omega arith in
         ap (f (mid + c)) (go c) ∙ ap (λ (k : ℕ). f k (turns lo f s ((mid - lo) + c))) place ∙ ap (turns lo f s) count
+
+-- a loop up to turn j, turn j, and the rest
+pub for-at : {S : Type 0} (lo hi j : ℕ) (f : ℕ → S → S) (s : S) → lo ≤ j → j < hi → for lo hi f s ≡ for (j + 1) hi f (f j (for lo j f s))
+for-at lo hi j f s from upto = sym (for-join lo (j + 1) hi f s (omega arith) (omega arith)) ∙ ap (for (j + 1) hi f) (for-more lo j f s from)
+
+pub for-first : {S : Type 0} (lo hi : ℕ) (f : ℕ → S → S) (s : S) → lo < hi → for lo hi f s ≡ for (lo + 1) hi f (f lo s)
+for-first {S} lo hi f s some = for-at lo hi lo f s (omega arith) some ∙ ap (λ (x : S). for (lo + 1) hi f (f lo x)) (for-none lo f s)
+
+-- ---- what holds through a loop
+
+-- two loops that stay related, turn by turn
+pub for-related : {S X : Type 0} (R : S → X → Type 0) (lo hi : ℕ) (f : ℕ → S → S) (g : ℕ → X → X) {s : S} {x : X}
+    → R s x → ((i : ℕ) (t : S) (y : X) → lo ≤ i → i < hi → R t y → R (f i t) (g i y)) → R (for lo hi f s) (for lo hi g x)
+unfolding for turns
+for-related R lo hi f g {s} {x} start each = go (hi - lo) (omega arith)
+  where
+    go : (c : ℕ) → c ≤ hi - lo → R (turns lo f s c) (turns lo g x c)
+    go zero h = start
+    go (suc c) h = each (lo + c) (turns lo f s c) (turns lo g x c) (omega arith) (omega arith) (go c (omega arith))
+
+-- what each turn keeps
+pub for-keeps : {S : Type 0} (P : S → Type 0) (lo hi : ℕ) (f : ℕ → S → S) (s : S) → P s → ((i : ℕ) (x : S) → lo ≤ i → i < hi → P x → P (f i x)) → P (for lo hi f s)
+for-keeps {S} P lo hi f s start each = for-related {X = S} (λ x y. P x) lo hi f f {x = s} start (λ i x y from upto is. each i x from upto is)
+
+-- what no turn changes
+pub for-still : {S X : Type 0} (see : S → X) (lo hi : ℕ) (f : ℕ → S → S) (s : S) → ((i : ℕ) (x : S) → lo ≤ i → i < hi → see (f i x) ≡ see x) → see (for lo hi f s) ≡ see s
+for-still {S} see lo hi f s each = for-keeps (λ (x : S). see x ≡ see s) lo hi f s refl (λ i x from upto is. each i x from upto ∙ is)
+
+-- two loops whose turns agree
+pub for-same : {S : Type 0} (lo hi : ℕ) (f g : ℕ → S → S) (s : S) → ((i : ℕ) (x : S) → lo ≤ i → i < hi → f i x ≡ g i x) → for lo hi f s ≡ for lo hi g s
+for-same {S} lo hi f g s same = for-related {S = S} {X = S} (λ x y. x ≡ y) lo hi f g refl (λ i x y from upto is. same i x from upto ∙ ap (g i) is)
+
+-- a loop past a change that its turns do not see
+pub for-past : {S : Type 0} (lo hi : ℕ) (f : ℕ → S → S) (h : S → S) (s : S) → ((i : ℕ) (x : S) → lo ≤ i → i < hi → f i (h x) ≡ h (f i x)) → for lo hi f (h s) ≡ h (for lo hi f s)
+for-past {S} lo hi f h s each = for-related {S = S} {X = S} (λ x y. x ≡ h y) lo hi f f refl (λ i x y from upto is. ap (f i) is ∙ each i y from upto)
 
 -- two loops as one, where a later turn of the first may come after an earlier one of the second
 pub for-fused
@@ -71,6 +109,8 @@ for-fused {S} lo hi f g s past = go (hi - lo) (omega arith)
     go zero h = refl
     go (suc c) h = ap (g (lo + c)) (over c c (omega arith) (omega arith) (turns lo f s c) ∙ ap (f (lo + c)) (go c (omega arith)))
 
+-- ---- the invariant of a loop that rises
+
 pub record Ran {S : Type 0} (lo hi : ℕ) (f : ℕ → S → S) (s₀ : S) (i : ℕ) (s : S) : Type 0 where
   pub from : lo ≤ i
   pub upto : i ≤ hi
@@ -86,7 +126,27 @@ ran-more {lo = lo} {f = f} {s₀ = s₀} {i = i} r below e =
 pub ran-all : {S : Type 0} {lo hi : ℕ} {f : ℕ → S → S} {s₀ : S} {i : ℕ} {s : S} → Ran lo hi f s₀ i s → hi ≤ i → s ≡ for lo hi f s₀
 ran-all {lo = lo} {f = f} {s₀ = s₀} r past = r .is ∙ ap (λ (k : ℕ). for lo k f s₀) (omega arith)
 
+-- c turns more, and two
+pub ran-on : {S : Type 0} {lo hi : ℕ} {f : ℕ → S → S} {s₀ : S} {i : ℕ} {s s' : S} (c : ℕ) → Ran lo hi f s₀ i s → i + c ≤ hi → s' ≡ for i (i + c) f s → Ran lo hi f s₀ (i + c) s'
+ran-on {lo = lo} {f = f} {s₀ = s₀} {i = i} c r below e =
+    record { from = omega (arith, r .from); upto = below; is = e ∙ ap (for i (i + c) f) (r .is) ∙ for-join lo i (i + c) f s₀ (r .from) (omega arith) }
+
+pub ran-two : {S : Type 0} {lo hi : ℕ} {f : ℕ → S → S} {s₀ : S} {i : ℕ} {s s' : S} → Ran lo hi f s₀ i s → i + 1 < hi → s' ≡ f (i + 1) (f i s) → Ran lo hi f s₀ (i + 2) s'
+ran-two {f = f} {i = i} {s = s} r below e = ran-on 2 r (omega arith) (e ∙ sym (for-two i f s))
+
 -- ---- loops that fall
+
+-- two loops that stay related, turn by turn
+pub falling-related : {S X : Type 0} (R : S → X → Type 0) (n : ℕ) (f : ℕ → S → S) (g : ℕ → X → X) (s : S) (x : X)
+    → R s x → ((i : ℕ) (t : S) (y : X) → i < n → R t y → R (f i t) (g i y)) → R (falling n f s) (falling n g x)
+unfolding falling
+falling-related R zero f g s x start each = start
+falling-related R (suc i) f g s x start each =
+    falling-related R i f g (f i s) (g i x) (each i s x (omega arith) start) (λ j t y below is. each j t y (omega arith) is)
+
+-- what no turn changes
+pub falling-still : {S X : Type 0} (see : S → X) (n : ℕ) (f : ℕ → S → S) (s : S) → ((i : ℕ) (x : S) → i < n → see (f i x) ≡ see x) → see (falling n f s) ≡ see s
+falling-still {S} see n f s each = falling-related {X = S} (λ x y. see x ≡ see s) n f f s s refl (λ i x y below is. each i x below ∙ is)
 
 pub record Fell {S : Type 0} (n : ℕ) (f : ℕ → S → S) (s₀ : S) (i : ℕ) (s : S) : Type 0 where
   pub upto : i ≤ n

@@ -58,8 +58,8 @@ laid-fits {y} f = record { roomy = f .roomy; sound = record { fair = lower-fair 
     size : (y : Layout) → sizeOf y ≡ lower y .size
     size y = unfold lower in refl
 
--- after a step
-pub laid-after : {y : Layout} {l l' : List Float} {M : Matrix} → Laid y l → Holds (lower y) l l' M → Laid y l'
+-- what a step leaves
+pub laid-after : {y : Layout} {l l₀ l' : List Float} {M : Matrix} → Laid y l → Holds (lower y) l₀ l' M → Laid y l'
 laid-after laid step = record { roomy = laid .roomy; sound = step .sound }
 
 pub full-roomy : (n : ℕ) → n ≤ 1024 → Roomy (full n)
