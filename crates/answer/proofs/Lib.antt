@@ -1,3 +1,4 @@
 pub mod Back
 pub mod Done
 pub mod Tested
+pub mod Within

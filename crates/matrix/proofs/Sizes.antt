@@ -11,6 +11,7 @@ use Rattle.answer.specs.declared.Answer.{Answer}
 use Rattle.answer.specs.Number.{isDone}
 use Rattle.answer.specs.Refusals.{tested}
 use Rattle.answer.proofs.Tested.{AllHold, Refusals, tested-all, all-hold}
+use Rattle.answer.proofs.Within.{Within, within-tested}
 use Rattle.matrix.specs.declared.Layout.{Layout}
 use Rattle.matrix.specs.Matrix.{Matrix}
 use Rattle.matrix.specs.Grid.{Holds}
@@ -49,6 +50,12 @@ module _ (y : Layout) (m len : ℕ) where
   -- what is done fits
   pub done-fits : (r : Answer) → isDone (tested (sizeTests y m len) r) ≡ true → Fits y m len
   done-fits r done = hold-fits (all-hold (sizeTests y m len) r sizes-refuse done .0)
+
+  -- the place of what comes after the tests is at most the order, so the answer's is at most 1,024
+  pub sizes-within : (r : Answer) → Within (y .order) r → Within 1024 (tested (sizeTests y m len) r)
+  sizes-within r last =
+      within-tested 1024 (sizeTests y m len) r (omega arith, (omega arith, (omega arith, (omega arith, (omega arith, (omega arith, tt))))))
+      (λ h. let small : y .order ≤ 1024 = leb-true (y .order) 1024 (h .1 .0) in omega (arith, last, small))
 
 -- ---- slices of a layout
 
