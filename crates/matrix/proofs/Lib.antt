@@ -8,3 +8,6 @@ pub mod Sizes
 pub mod Squares
 pub mod Products
 pub mod Slices
+pub mod ColumnsLoops
+pub mod Columns
+pub mod ColumnsLent

@@ -3,3 +3,5 @@ pub mod Faults
 pub mod Checked
 pub mod Boundaries
 pub mod Written
+pub mod Walks
+pub mod WholeWalks

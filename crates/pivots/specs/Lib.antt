@@ -1,2 +1,4 @@
 pub mod Words
 pub mod Rule
+pub mod Blocks
+pub mod inner

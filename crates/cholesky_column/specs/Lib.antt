@@ -1,2 +1,0 @@
-pub mod Triangles
-pub mod Engine

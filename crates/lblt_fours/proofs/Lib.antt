@@ -1,4 +1,0 @@
-pub mod Rows
-pub mod Sweeps
-pub mod Steps
-pub mod Groups

@@ -1,4 +1,0 @@
-pub mod Parts
-pub mod EachColumn
-pub mod EachAfter
-pub mod Blocks

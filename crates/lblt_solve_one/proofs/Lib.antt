@@ -1,0 +1,4 @@
+pub mod Keeps
+pub mod Steps
+pub mod Early
+pub mod ColumnBlocks

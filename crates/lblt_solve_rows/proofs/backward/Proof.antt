@@ -1,0 +1,51 @@
+-- `backward` goes through the blocks from the last row back.
+use Rattle.pivots.proofs.Walks.{Back, back-none, back-more, back-all, block-before, rows-positive}
+use Rattle.lblt_solve_one.specs.Column.{backwardBlock}
+use Rattle.lblt_solve_one.proofs.ColumnBlocks.{columns-backed}
+use Prim.Native.Nat.{_-_}
+use Rattle.matrix.specs.Layouts.{lower}
+use Rattle.matrix.specs.Grid.{load}
+use lib.ListN.{length}
+use native.Mathlib.Omega.{arith}
+use mathlib.Core.Path.{_≡_, refl, _∙_}
+use Rattle.matrix.specs.Columns.{eachColumn}
+use Rattle.lblt_solve_rows.proofs.backward.Statement.{statement}
+use Rattle.lblt_solve_rows.proofs.backward.Tie as tie
+use Rattle.lblt_solve_rows.proofs.backward_block.Reads as backward-block-reads
+
+abbrev Inv-loop : tie.InvT-loop
+Inv-loop y a words b₀ columns k₀ b k = Back (y .order) words (λ k. eachColumn (y .order) columns (backwardBlock (y .order) (load (lower y) a) words k)) b₀ k b × (length b ≡ length b₀)
+
+abbrev μ-loop : tie.MeasureT-loop
+μ-loop y a words b₀ columns k₀ b k = k
+
+loop-holds : tie.Need-loop-holds Inv-loop μ-loop
+loop-holds c = (back-none (c .before .before .before .pre .0 .accepted), refl)
+
+backward-block-requires : tie.Need-backward-block-requires Inv-loop μ-loop
+backward-block-requires c κs = (c .before .before .before .before .before .before .pre .0 .factor, (record { few = c .before .before .before .before .before .before .pre .1 .few; long = c .before .before .loop .inv .1 ∙ c .before .before .before .before .before .before .pre .1 .long }, block-before (c .before .before .before .before .before .before .pre .0 .accepted) (c .before .before .loop .inv .0 .boundary) (c .before .loop-test .taken)))
+
+loop-less : tie.Need-loop-less Inv-loop μ-loop
+loop-less c = omega (arith, c .before .before .before .before .loop-test .taken, c .before .before .backward-block .ensures .row, rows-positive (c .before .before .before .before .before .before .before .before .before .args .words .now) (c .before .before .before .before .before .loop .k - 1))
+
+loop-again : tie.Need-loop-again Inv-loop μ-loop
+loop-again c = (back-more (c .before .before .before .before .before .loop .inv .0) (c .before .before .before .before .loop-test .taken) (c .before .before .backward-block .ensures .row) (c .before .before .backward-block .ensures .column), c .before .before .backward-block .kept .1 .1 .1 .0 ∙ c .before .before .before .before .before .loop .inv .1)
+
+same-length : tie.Need-same-length Inv-loop μ-loop
+same-length c = c .before .loop .inv .1
+
+returns : tie.Need-returns Inv-loop μ-loop
+returns c = columns-backed _ _ _ (c .before .before .before .before .before .pre .1 .long) _ _ (back-all (c .before .loop .inv .0) (c .loop-test .left))
+
+pub backward-spec : {M : Type 1} → statement M
+backward-spec =
+    tie.close
+    (tie.spec
+    Inv-loop
+    μ-loop
+    loop-holds
+    backward-block-requires
+    loop-less
+    loop-again
+    same-length
+    returns)

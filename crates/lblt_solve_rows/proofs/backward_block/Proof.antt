@@ -1,0 +1,74 @@
+-- `backward_block` takes the rows below from one block, across the columns.
+use Rattle.pivots.proofs.Walks.{reads-two}
+use Rattle.lblt_solve_one.proofs.ColumnBlocks.{columns-backed-one, columns-backed-two}
+use native.Mathlib.Omega.{arith}
+use mathlib.Core.Path.{_∙_}
+use Prim.Native.Nat.{_-_}
+use borrow.Author.Needs.{needs}
+use Rattle.lblt_solve_rows.proofs.backward_block.Statement.{statement}
+use Rattle.lblt_solve_rows.proofs.backward_block.Tie as tie
+use Rattle.lblt_solve_rows.proofs.gather_row.Reads as gather-row-reads
+use Rattle.lblt_solve_rows.proofs.swap_rows.Reads as swap-rows-reads
+use Rattle.pivots.proofs.index.Reads as index-reads
+use Rattle.pivots.proofs.size.Reads as size-reads
+
+sub-k1 : tie.Need-sub-k1
+sub-k1 c = search needs
+
+index-requires : tie.Need-index-requires
+index-requires c κs = search needs
+
+gather-row-requires : tie.Need-gather-row-requires
+gather-row-requires c κs = (c .before .before .before .before .before .pre .0, (c .before .before .before .before .before .pre .1 .0, (omega (arith, c .before .before .before .before .before .pre .1 .1 .inside), c .before .before .before .before .before .pre .1 .1 .end)))
+
+size-requires : tie.Need-size-requires
+size-requires c κs = search needs
+
+swap-rows-requires : tie.Need-swap-rows-requires
+swap-rows-requires c κs = search needs
+
+sub-result : tie.Need-sub-result
+sub-result c = search needs
+
+same-length : tie.Need-same-length
+same-length c = search needs
+
+returns : tie.Need-returns
+returns c = columns-backed-one _ _ _ (c .before .before .before .before .before .before .before .before .before .before .before .before .before .before .pre .1 .0 .long) _ _ _ (c .before .before .before .before .before .size .ensures) (c .before .before .before .before .before .before .before .before .before .before .index .ensures) (c .before .before .before .before .if1 .taken) (c .before .before .before .before .before .before .before .before .gather-row .ensures) (c .before .before .swap-rows .ensures)
+
+sub-gather-row : tie.Need-sub-gather-row
+sub-gather-row c = omega (arith, c .before .before .before .before .before .before .before .before .before .before .before .pre .1 .1 .rows, reads-two (c .before .before .before .before .before .before .before .before .before .before .before .args .words .now) (c .before .before .before .before .before .before .before .before .before .before .before .args .k - 1) (c .before .before .size .ensures) (c .before .if1 .left))
+
+gather-row-requires-2 : tie.Need-gather-row-requires-2
+gather-row-requires-2 c κs = (c .before .before .before .before .before .before .before .before .before .before .before .pre .0, (record { few = c .before .before .before .before .before .before .before .before .before .before .before .pre .1 .0 .few; long = c .before .before .before .before .before .gather-row .kept .1 .1 .0 ∙ c .before .before .before .before .before .before .before .before .before .before .before .pre .1 .0 .long }, (omega (arith, c .before .before .before .before .before .before .before .before .before .before .before .pre .1 .1 .inside), c .before .before .before .before .before .before .before .before .before .before .before .pre .1 .1 .end)))
+
+swap-rows-requires-2 : tie.Need-swap-rows-requires-2
+swap-rows-requires-2 c κs = search needs
+
+sub-result-2 : tie.Need-sub-result-2
+sub-result-2 c = omega (arith, c .before .before .before .before .before .before .before .before .before .before .before .before .before .before .before .before .before .before .pre .1 .1 .rows, reads-two (c .before .before .before .before .before .before .before .before .before .before .before .before .before .before .before .before .before .before .args .words .now) (c .before .before .before .before .before .before .before .before .before .before .before .before .before .before .before .before .before .before .args .k - 1) (c .before .before .before .before .before .before .before .before .before .size .ensures) (c .before .before .before .before .before .before .before .before .if1 .left))
+
+same-length-2 : tie.Need-same-length-2
+same-length-2 c = search needs
+
+returns-2 : tie.Need-returns-2
+returns-2 c = columns-backed-two _ _ _ (c .before .before .before .before .before .before .before .before .before .before .before .before .before .before .before .before .before .before .pre .1 .0 .long) _ _ _ (c .before .before .before .before .before .before .before .before .before .size .ensures) (c .before .before .before .before .before .before .before .before .before .before .before .before .before .before .index .ensures) (c .before .before .before .before .before .before .before .before .if1 .left) (c .before .before .before .before .before .before .before .before .before .before .before .before .gather-row .ensures) (c .before .before .before .before .before .before .gather-row2 .ensures) (c .before .before .swap-rows2 .ensures)
+
+pub backward-block-spec : {M : Type 1} → statement M
+backward-block-spec =
+    tie.close
+    (tie.spec
+    sub-k1
+    index-requires
+    gather-row-requires
+    size-requires
+    swap-rows-requires
+    sub-result
+    same-length
+    returns
+    sub-gather-row
+    gather-row-requires-2
+    swap-rows-requires-2
+    sub-result-2
+    same-length-2
+    returns-2)

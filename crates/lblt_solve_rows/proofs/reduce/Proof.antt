@@ -1,0 +1,51 @@
+-- `reduce` goes through the blocks from the first row on.
+use Rattle.pivots.proofs.Walks.{Along, along-none, along-more, along-all, block-at, rows-positive}
+use Rattle.lblt_solve_one.specs.inner.Engine.{reduceBlock}
+use Rattle.lblt_solve_one.proofs.ColumnBlocks.{columns-reduced}
+use Prim.Native.Nat.{_-_}
+use Rattle.matrix.specs.Layouts.{lower}
+use Rattle.matrix.specs.Grid.{load}
+use lib.ListN.{length}
+use native.Mathlib.Omega.{arith}
+use mathlib.Core.Path.{_≡_, refl, _∙_}
+use Rattle.matrix.specs.Columns.{eachColumn}
+use Rattle.lblt_solve_rows.proofs.reduce.Statement.{statement}
+use Rattle.lblt_solve_rows.proofs.reduce.Tie as tie
+use Rattle.lblt_solve_rows.proofs.reduce_block.Reads as reduce-block-reads
+
+abbrev Inv-loop : tie.InvT-loop
+Inv-loop y a words b₀ columns n k₀ b k = Along n words (λ k. eachColumn (y .order) columns (reduceBlock (y .order) (load (lower y) a) words k)) b₀ k b × (length b ≡ length b₀)
+
+abbrev μ-loop : tie.MeasureT-loop
+μ-loop y a words b₀ columns n k₀ b k = n - k
+
+loop-holds : tie.Need-loop-holds Inv-loop μ-loop
+loop-holds c = (along-none (c .before .before .before .pre .0 .accepted), refl)
+
+reduce-block-requires : tie.Need-reduce-block-requires Inv-loop μ-loop
+reduce-block-requires c κs = (c .before .before .before .before .before .before .pre .0 .factor, (record { few = c .before .before .before .before .before .before .pre .1 .few; long = c .before .before .loop .inv .1 ∙ c .before .before .before .before .before .before .pre .1 .long }, block-at (c .before .before .before .before .before .before .pre .0 .accepted) (c .before .before .loop .inv .0 .boundary) (c .before .loop-test .taken)))
+
+loop-less : tie.Need-loop-less Inv-loop μ-loop
+loop-less c = omega (arith, c .before .before .before .before .loop-test .taken, c .before .before .reduce-block .ensures .row, rows-positive (c .before .before .before .before .before .before .before .before .before .args .words .now) (c .before .before .before .before .before .loop .k))
+
+loop-again : tie.Need-loop-again Inv-loop μ-loop
+loop-again c = (along-more (c .before .before .before .before .before .loop .inv .0) (c .before .before .before .before .loop-test .taken) (c .before .before .reduce-block .ensures .row) (c .before .before .reduce-block .ensures .column), c .before .before .reduce-block .kept .1 .1 .1 .0 ∙ c .before .before .before .before .before .loop .inv .1)
+
+same-length : tie.Need-same-length Inv-loop μ-loop
+same-length c = c .before .loop .inv .1
+
+returns : tie.Need-returns Inv-loop μ-loop
+returns c = columns-reduced _ _ _ (c .before .before .before .before .before .pre .1 .long) _ _ (along-all (c .before .loop .inv .0) (c .loop-test .left))
+
+pub reduce-spec : {M : Type 1} → statement M
+reduce-spec =
+    tie.close
+    (tie.spec
+    Inv-loop
+    μ-loop
+    loop-holds
+    reduce-block-requires
+    loop-less
+    loop-again
+    same-length
+    returns)

@@ -1,0 +1,80 @@
+-- `reduce_block` takes one block of the factor from the rows below, and divides its own, across the columns.
+use Rattle.pivots.proofs.Walks.{reads-two}
+use Rattle.lblt_solve_one.proofs.ColumnBlocks.{columns-reduced-one, columns-reduced-two}
+use native.Mathlib.Omega.{arith}
+use mathlib.Core.Path.{_∙_}
+use borrow.Author.Needs.{needs}
+use Rattle.lblt_solve_rows.proofs.reduce_block.Statement.{statement}
+use Rattle.lblt_solve_rows.proofs.reduce_block.Tie as tie
+use Rattle.lblt_solve_rows.proofs.divide_one.Reads as divide-one-reads
+use Rattle.lblt_solve_rows.proofs.divide_two.Reads as divide-two-reads
+use Rattle.lblt_solve_rows.proofs.eliminate_one.Reads as eliminate-one-reads
+use Rattle.lblt_solve_rows.proofs.eliminate_two.Reads as eliminate-two-reads
+use Rattle.lblt_solve_rows.proofs.swap_rows.Reads as swap-rows-reads
+use Rattle.pivots.proofs.index.Reads as index-reads
+use Rattle.pivots.proofs.size.Reads as size-reads
+
+index-requires : tie.Need-index-requires
+index-requires c κs = search needs
+
+size-requires : tie.Need-size-requires
+size-requires c κs = search needs
+
+swap-rows-requires : tie.Need-swap-rows-requires
+swap-rows-requires c κs = search needs
+
+eliminate-one-requires : tie.Need-eliminate-one-requires
+eliminate-one-requires c κs = search needs
+
+divide-one-requires : tie.Need-divide-one-requires
+divide-one-requires c κs = (c .before .before .before .before .before .before .before .before .before .before .before .before .before .before .before .pre .0, (record { few = c .before .before .before .before .before .before .before .before .before .before .before .before .before .before .before .pre .1 .0 .few; long = c .before .before .before .eliminate-one .kept .1 .1 .0 ∙ c .before .before .before .before .before .before .before .swap-rows .kept .0 ∙ c .before .before .before .before .before .before .before .before .before .before .before .before .before .before .before .pre .1 .0 .long }, c .before .before .before .before .before .before .before .before .before .before .before .before .before .before .before .pre .1 .1 .inside))
+
+add-result : tie.Need-add-result
+add-result c = search needs
+
+same-length : tie.Need-same-length
+same-length c = search needs
+
+returns : tie.Need-returns
+returns c = columns-reduced-one _ _ _ (c .before .before .before .before .before .before .before .before .before .before .before .before .before .before .before .before .before .before .pre .1 .0 .long) _ _ _ (c .before .before .before .before .before .before .before .before .before .before .before .before .before .size .ensures) (c .before .before .before .before .before .before .before .before .before .before .before .before .before .before .index .ensures) (c .before .before .before .before .before .before .before .before .before .before .before .before .if1 .taken) (c .before .before .before .before .before .before .before .before .before .before .swap-rows .ensures) (c .before .before .before .before .before .before .eliminate-one .ensures) (c .before .before .divide-one .ensures)
+
+add-swap-rows : tie.Need-add-swap-rows
+add-swap-rows c = search needs
+
+swap-rows-requires-2 : tie.Need-swap-rows-requires-2
+swap-rows-requires-2 c κs = (omega (arith, c .before .before .before .before .before .before .before .pre .0 .roomy), (c .before .before .before .before .before .before .before .pre .1 .0, (omega (arith, c .before .before .before .before .before .before .before .pre .1 .1 .rows, reads-two (c .before .before .before .before .before .before .before .args .words .now) (c .before .before .before .before .before .before .before .args .k) (c .before .before .size .ensures) (c .before .if1 .left)), omega (arith, c .before .before .before .before .before .before .before .pre .1 .1 .index, c .before .before .before .index .ensures))))
+
+eliminate-two-requires : tie.Need-eliminate-two-requires
+eliminate-two-requires c κs = (c .before .before .before .before .before .before .before .before .before .before .before .pre .0, (record { few = c .before .before .before .before .before .before .before .before .before .before .before .pre .1 .0 .few; long = c .before .before .before .swap-rows2 .kept .0 ∙ c .before .before .before .before .before .before .before .before .before .before .before .pre .1 .0 .long }, omega (arith, c .before .before .before .before .before .before .before .before .before .before .before .pre .1 .1 .rows, reads-two (c .before .before .before .before .before .before .before .before .before .before .before .args .words .now) (c .before .before .before .before .before .before .before .before .before .before .before .args .k) (c .before .before .before .before .before .before .size .ensures) (c .before .before .before .before .before .if1 .left))))
+
+divide-two-requires : tie.Need-divide-two-requires
+divide-two-requires c κs = (c .before .before .before .before .before .before .before .before .before .before .before .before .before .before .before .pre .0, (record { few = c .before .before .before .before .before .before .before .before .before .before .before .before .before .before .before .pre .1 .0 .few; long = c .before .before .before .eliminate-two .kept .1 .1 .0 ∙ c .before .before .before .before .before .before .before .swap-rows2 .kept .0 ∙ c .before .before .before .before .before .before .before .before .before .before .before .before .before .before .before .pre .1 .0 .long }, omega (arith, c .before .before .before .before .before .before .before .before .before .before .before .before .before .before .before .pre .1 .1 .rows, reads-two (c .before .before .before .before .before .before .before .before .before .before .before .before .before .before .before .args .words .now) (c .before .before .before .before .before .before .before .before .before .before .before .before .before .before .before .args .k) (c .before .before .before .before .before .before .before .before .before .before .size .ensures) (c .before .before .before .before .before .before .before .before .before .if1 .left))))
+
+add-result-2 : tie.Need-add-result-2
+add-result-2 c = search needs
+
+same-length-2 : tie.Need-same-length-2
+same-length-2 c = search needs
+
+returns-2 : tie.Need-returns-2
+returns-2 c = columns-reduced-two _ _ _ (c .before .before .before .before .before .before .before .before .before .before .before .before .before .before .before .before .before .before .pre .1 .0 .long) _ _ _ (c .before .before .before .before .before .before .before .before .before .before .before .before .before .size .ensures) (c .before .before .before .before .before .before .before .before .before .before .before .before .before .before .index .ensures) (c .before .before .before .before .before .before .before .before .before .before .before .before .if1 .left) (c .before .before .before .before .before .before .before .before .before .before .swap-rows2 .ensures) (c .before .before .before .before .before .before .eliminate-two .ensures) (c .before .before .divide-two .ensures)
+
+pub reduce-block-spec : {M : Type 1} → statement M
+reduce-block-spec =
+    tie.close
+    (tie.spec
+    index-requires
+    size-requires
+    swap-rows-requires
+    eliminate-one-requires
+    divide-one-requires
+    add-result
+    same-length
+    returns
+    add-swap-rows
+    swap-rows-requires-2
+    eliminate-two-requires
+    divide-two-requires
+    add-result-2
+    same-length-2
+    returns-2)
