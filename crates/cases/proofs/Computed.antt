@@ -4,19 +4,20 @@ use mathlib.Core.List.{List, [], _∷_, map, _++_}
 use Prim.Native.Nat.{ℕ}
 use lib.ListN.{getD, drop}
 use lib.Ieee.{ofBits, toBits, le, sub, mul, div, isNan}
+use Rattle.answer.specs.Refusals.{tested}
 use Rattle.leaf.specs.Abs.{absOf}
 use Rattle.leaf.specs.Maximum.{maximumOf}
 use Rattle.leaf.specs.Root.{rootOf}
 use Rattle.matrix.specs.Matrix.{exchange}
 use Rattle.matrix.specs.Loop.{for, falling}
 use Rattle.matrix.specs.Grid.{load, mask}
-use Rattle.matrix.specs.Layouts.{lower, upper, square}
+use Rattle.matrix.specs.Layouts.{sizeOf, lower, upper, square}
 use Rattle.pivots.specs.Words.{paired, marked}
 use Rattle.pivots.specs.Rule.{blockOf, faultFrom, checked}
 use Rattle.lblt.specs.Choice.{choose, choiceBy, contest, rowMax, alongRow, downColumn, columnMax, greater}
-use Rattle.lblt.specs.Factor.{answerOf, begun, factored, recorded}
+use Rattle.lblt.specs.Factor.{firstState, finalState, recorded}
 use Rattle.lblt.specs.Interchange.{interchange, brought1, brought2}
-use Rattle.lblt.specs.Step.{run, step, take, pivot1, pivot2, firstMark}
+use Rattle.lblt.specs.Step.{stepped, step, take, pivot1, pivot2, firstMark}
 use Rattle.lblt.specs.Update.{rank1At, rank1, scaleAt, eliminate1, update1, blockBy, blockAt, multiplier, work1, work2, rank2At, rank2By, rank2, update2}
 use Rattle.lblt_column.specs.Blocks.{bySize, rowsOf, blocksFrom, forwards, blocksTo, backwards}
 use Rattle.lblt_column.specs.Column.{swapRows, lessOne, lessTwo, eliminateOne, eliminateTwo, forwardBlock, divideOne, blockDeterminant, divideTwo, divideBlock, lessProduct, gatherRow, backwardBlock, solveColumn}
@@ -47,7 +48,7 @@ hold [] e = none
 hold (c ∷ cs) e = more c cs (subst (Gives (c .call)) (ap (λ (l : List (List (List ℕ))). getD l 0 []) e) (gives (c .call))) (hold cs (ap (drop 1) e))
 
 computed : map foundIn (table ++ twinTable) ≡ map numbersIn (table ++ twinTable)
-unfolding ofBits toBits le sub mul div isNan absOf maximumOf rootOf exchange for falling load mask lower upper square paired marked blockOf faultFrom checked choose choiceBy contest rowMax alongRow downColumn columnMax greater answerOf begun factored recorded interchange brought1 brought2 run step take pivot1 pivot2 firstMark rank1At rank1 scaleAt eliminate1 update1 blockBy blockAt multiplier work1 work2 rank2At rank2By rank2 update2 bySize rowsOf blocksFrom forwards blocksTo backwards lowerOf readerAnswer solveAnswer swapRows lessOne lessTwo eliminateOne eliminateTwo forwardBlock divideOne blockDeterminant divideTwo divideBlock lessProduct gatherRow backwardBlock solveColumn eachColumn timesBlock determinantOf positive choleskyColumns fitted trianglesAnswer solveSides solveTriangles diagonal entryOf withDiagonal withColumn nothing sizesOf uduOf floats bitsOf listed overlay overlaid lbltWords lbltSlice determinantNumbers solveNumbers choleskyAnswer choleskySlice choleskySolveNumbers uduNumbers
+unfolding tested sizeOf ofBits toBits le sub mul div isNan absOf maximumOf rootOf exchange for falling load mask lower upper square paired marked blockOf faultFrom checked choose choiceBy contest rowMax alongRow downColumn columnMax greater firstState finalState recorded interchange brought1 brought2 stepped step take pivot1 pivot2 firstMark rank1At rank1 scaleAt eliminate1 update1 blockBy blockAt multiplier work1 work2 rank2At rank2By rank2 update2 bySize rowsOf blocksFrom forwards blocksTo backwards lowerOf readerAnswer solveAnswer swapRows lessOne lessTwo eliminateOne eliminateTwo forwardBlock divideOne blockDeterminant divideTwo divideBlock lessProduct gatherRow backwardBlock solveColumn eachColumn timesBlock determinantOf positive choleskyColumns fitted trianglesAnswer solveSides solveTriangles diagonal entryOf withDiagonal withColumn nothing sizesOf uduOf floats bitsOf listed overlay overlaid lbltWords lbltSlice determinantNumbers solveNumbers choleskyAnswer choleskySlice choleskySolveNumbers uduNumbers
 computed = refl
 
 -- document 01's starred cases and those beside them, and twin rows

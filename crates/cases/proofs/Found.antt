@@ -10,11 +10,12 @@ use Rattle.answer.specs.declared.Answer.{Answer}
 use Rattle.answer.specs.declared.Answer.the-variants.{Done}
 use Rattle.answer.specs.declared.Valued.{Valued}
 use Rattle.answer.specs.Number.{isDone}
+use Rattle.answer.specs.Refusals.{tested}
 use Rattle.leaf.specs.Root.{rootOf}
 use Rattle.matrix.specs.Grid.{load, mask}
-use Rattle.matrix.specs.Layouts.{lower, square}
+use Rattle.matrix.specs.Layouts.{full, lower, square}
 use Rattle.lblt.specs.Choice.{columnMax}
-use Rattle.lblt.specs.Factor.{answerOf, full, factored, recorded, Factored}
+use Rattle.lblt.specs.Factor.{factorTests, finalState, recorded, Factored}
 use Rattle.lblt.proofs.Done.{Same}
 use Rattle.lblt_column.specs.Column.{solveColumn}
 use Rattle.lblt_sides.specs.Columns.{eachColumn}
@@ -31,25 +32,28 @@ use Rattle.matrix.specs.Rounded.{plusZero}
 -- ---- LBLT's factor
 
 module _ (n : ℕ) (a : List Float) (words : List ℕ) where
+  abbrev pub lbltAnswer : Answer
+  lbltAnswer = tested (factorTests (full n) a words) Done
+
   unfoldable pub lbltWords : List ℕ
-  lbltWords = cond (isDone (answerOf n a words)) (recorded n (load (lower (full n)) a) words) words
+  lbltWords = cond (isDone lbltAnswer) (recorded n (load (lower (full n)) a) words) words
 
   unfoldable pub lbltSlice : List Float
-  lbltSlice = cond (isDone (answerOf n a words)) (overlaid (full n) a (factored n (load (lower (full n)) a) words .matrix)) a
+  lbltSlice = cond (isDone lbltAnswer) (overlaid (full n) a (finalState n (load (lower (full n)) a) words .matrix)) a
 
-  pub factors : {r : Answer} {a' : List Float} {words' : List ℕ} → Factored n a words r a' words' → Same r (answerOf n a words) a' lbltSlice words' lbltWords
+  pub factors : {r : Answer} {a' : List Float} {words' : List ℕ} → Factored (full n) a words r a' words' → Same r lbltAnswer a' lbltSlice words' lbltWords
   unfolding lbltWords lbltSlice
   factors {r} {a'} {words'} f = at (isDone r) refl
     where
-      same : {b : Bool} → isDone r ≡ b → isDone (answerOf n a words) ≡ b
+      same : {b : Bool} → isDone r ≡ b → isDone lbltAnswer ≡ b
       same e = ap isDone (sym (f .answer)) ∙ e
 
-      at : (b : Bool) → isDone r ≡ b → Same r (answerOf n a words) a' lbltSlice words' lbltWords
+      at : (b : Bool) → isDone r ≡ b → Same r lbltAnswer a' lbltSlice words' lbltWords
       at true e =
-          let stored = f .done e in
+          let stored = f .left .done e in
           record { answer = f .answer; matrix = rw (same e) (holds-overlaid (le-refl n) (stored .matrix)); pivots = rw (same e) (stored .pivots) }
       at false e =
-          let kept = f .refused e in
+          let kept = f .left .refused e in
           record { answer = f .answer; matrix = rw (same e) (kept .matrix); pivots = rw (same e) (kept .pivots) }
 
 -- ---- LBLT's readers
@@ -133,7 +137,7 @@ abbrev pub leftWords : ℕ → List ℕ → List ℕ
 leftWords n a = lbltWords n (floats a) (lentWords n)
 
 abbrev pub found : Call → List (List ℕ)
-found (lbltFactor n a) = answered (answerOf n (floats a) (lentWords n)) ∷ leftWords n a ∷ bitsOf (leftSlice n a) ∷ []
+found (lbltFactor n a) = answered (lbltAnswer n (floats a) (lentWords n)) ∷ leftWords n a ∷ bitsOf (leftSlice n a) ∷ []
 found (lbltDeterminant n a) = determinantNumbers n (leftSlice n a) (leftWords n a)
 found (lbltSolve n a b) = solveNumbers n (leftSlice n a) (leftWords n a) (floats b)
 found (lbltLargest n a k) = (columnMax n (load (lower (full n)) (floats a)) k .imax ∷ []) ∷ []

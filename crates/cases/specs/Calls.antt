@@ -10,11 +10,11 @@ use Rattle.answer.specs.declared.Valued.{Valued}
 use Rattle.answer.specs.Number.{codeOf, placeOf}
 use Rattle.leaf.specs.Root.{rootOf}
 use Rattle.matrix.specs.Grid.{load}
-use Rattle.matrix.specs.Layouts.{lower}
+use Rattle.matrix.specs.Layouts.{full, lower}
 use Rattle.pivots.specs.Words.{wordsOf}
 use Rattle.lblt.specs.declared.choice.Largest.{Largest}
 use Rattle.lblt.specs.Choice.{columnMax}
-use Rattle.lblt.specs.Factor.{full, Factored}
+use Rattle.lblt.specs.Factor.{Factored}
 use Rattle.lblt_solve.specs.Calls.{Solved, Determined}
 use Rattle.cholesky.specs.Promise.{Extended}
 use Rattle.cholesky.specs.Solve.{Solved as SolvedByTriangles}
@@ -57,15 +57,15 @@ pub data Call : Type 0 where
 abbrev pub Gives : Call → List (List ℕ) → Type 0
 -- the answer, the record, the slice
 Gives (lbltFactor n a) numbers =
-    (r : Answer) (a' : List Float) (words : List ℕ) → Factored n (floats a) (lentWords n) r a' words
+    (r : Answer) (a' : List Float) (words : List ℕ) → Factored (full n) (floats a) (lentWords n) r a' words
     → (answered r ∷ words ∷ bitsOf a' ∷ []) ≡ numbers
 -- by what the factor leaves: the answer, the value
 Gives (lbltDeterminant n a) numbers =
-    (r : Answer) (a' : List Float) (words : List ℕ) (v : Valued) → Factored n (floats a) (lentWords n) r a' words → Determined n a' words v
+    (r : Answer) (a' : List Float) (words : List ℕ) (v : Valued) → Factored (full n) (floats a) (lentWords n) r a' words → Determined n a' words v
     → (answered (v .answer) ∷ (toBits binary64 (v .value) ∷ []) ∷ []) ≡ numbers
 -- by what the factor leaves: the answer, the right-hand side
 Gives (lbltSolve n a b) numbers =
-    (r s : Answer) (a' b' : List Float) (words : List ℕ) → Factored n (floats a) (lentWords n) r a' words → Solved n 1 a' words (floats b) s b'
+    (r s : Answer) (a' b' : List Float) (words : List ℕ) → Factored (full n) (floats a) (lentWords n) r a' words → Solved n 1 a' words (floats b) s b'
     → (answered s ∷ bitsOf b' ∷ []) ≡ numbers
 -- the row imax of column k
 Gives (lbltLargest n a k) numbers = (r : Largest) → r ≡ columnMax n (load (lower (full n)) (floats a)) k → ((r .imax ∷ []) ∷ []) ≡ numbers

@@ -16,15 +16,17 @@ use Rattle.answer.specs.Number.{isDone}
 use Rattle.matrix.specs.Matrix.{Matrix}
 use Rattle.matrix.specs.Grid.{load}
 use Rattle.matrix.specs.Layouts.{lower}
+use Rattle.matrix.specs.declared.Layout.{Layout}
+use Rattle.matrix.proofs.Tests.{either}
 use Rattle.pivots.specs.Words.{indexWord, sizeWord, markWord, markAt, Sized, paired, marked}
 use Rattle.pivots.specs.Rule.{Accepted}
 use Rattle.pivots.proofs.Written.{Written, Marks, written-none, written-one, written-two, written-zero, written-all}
 use Rattle.lblt.specs.Choice.{choose}
-use Rattle.lblt.specs.Step.{State, firstMark, take, step, run}
-use Rattle.lblt.specs.Factor.{begun, factored, recorded, full, Factored}
+use Rattle.lblt.specs.Step.{State, firstMark, take, step, stepped}
+use Rattle.lblt.specs.Factor.{firstState, finalState, recorded, Factored}
 use Rattle.lblt.specs.declared.choice.Choice.{Choice}
-use Rattle.lblt.specs.declared.choice.Choice.the-variants.{Null, One, Two}
-use Rattle.lblt.proofs.Range.{either, Within, choose-range}
+use Rattle.lblt.specs.declared.choice.Choice.the-variants.{ZeroColumn, One, Two}
+use Rattle.lblt.proofs.Range.{Within, choose-range}
 use Rattle.lblt.proofs.Stands.{step-rises}
 use Rattle.lblt.proofs.Done.{done-sized}
 
@@ -46,13 +48,13 @@ marks-kept n words m w = subst (λ (x : ℕ). (x ≡ 0) ⊎ Marks (marked n word
     })
 
 module _ (n : ℕ) where
-  written-null : {words : List ℕ} {k m : ℕ} (b : Bool) → eqb m 0 ≡ b → Written n words k m → k < n → Written n (paired words k k 1) (k + 1) (cond (eqb m 0) (k + 1) m)
-  written-null {words} {k} {m} true e w h = rw e (written-zero (subst (λ (m : ℕ). Written n words k m) (eqb-true m 0 e) w) h)
-  written-null {words} {k} {m} false e w h = rw e (written-one k w (omega arith) h)
+  written-zero-column : {words : List ℕ} {k m : ℕ} (b : Bool) → eqb m 0 ≡ b → Written n words k m → k < n → Written n (paired words k k 1) (k + 1) (cond (eqb m 0) (k + 1) m)
+  written-zero-column {words} {k} {m} true e w h = rw e (written-zero (subst (λ (m : ℕ). Written n words k m) (eqb-true m 0 e) w) h)
+  written-zero-column {words} {k} {m} false e w h = rw e (written-one k w (omega arith) h)
 
   written-take : (S : State) (c : Choice) → Written n (S .words) (S .row) (S .mark) → S .row < n → Within n (S .row) c → Written n (take n S c .words) (take n S c .row) (take n S c .mark)
   unfolding take Within firstMark
-  written-take S Null w h range = written-null (eqb (S .mark) 0) refl w h
+  written-take S ZeroColumn w h range = written-zero-column (eqb (S .mark) 0) refl w h
   written-take S (One p) w h range = written-one p w (range .0) (range .1)
   written-take S (Two p) w h range = written-two p w (omega (arith, range .0)) (range .1)
 
@@ -63,18 +65,18 @@ module _ (n : ℕ) where
   at-the-end : (S : State) → Written n (S .words) (S .row) (S .mark) → n ≤ S .row → Written n (S .words) n (S .mark)
   at-the-end S w past = subst (λ (k : ℕ). Written n (S .words) k (S .mark)) (omega (arith, w .within)) w
 
-  written-run : (fuel : ℕ) (S : State) → Written n (S .words) (S .row) (S .mark) → n ≤ S .row + fuel → Written n (run fuel n S .words) n (run fuel n S .mark)
-  unfolding run
-  written-run zero S w enough = at-the-end S w (omega arith)
-  written-run (suc fuel) S w enough =
+  written-stepped : (fuel : ℕ) (S : State) → Written n (S .words) (S .row) (S .mark) → n ≤ S .row + fuel → Written n (stepped fuel n S .words) n (stepped fuel n S .mark)
+  unfolding stepped
+  written-stepped zero S w enough = at-the-end S w (omega arith)
+  written-stepped (suc fuel) S w enough =
       either (λ (X : State). Written n (X .words) n (X .mark)) (ltb (S .row) n)
-      (λ more. written-run fuel (step n S) (written-step S w (ltb-true (S .row) n more)) (omega (arith, step-rises n S)))
+      (λ more. written-stepped fuel (step n S) (written-step S w (ltb-true (S .row) n more)) (omega (arith, step-rises n S)))
       (λ past. at-the-end S w (ltb-false (S .row) n past))
 
   module _ (M : Matrix) (words : List ℕ) (sized : Sized n words) where
-    written : Written n (factored n M words .words) n (factored n M words .mark)
-    unfolding factored begun
-    written = written-run n (begun M words) (written-none sized) (omega arith)
+    written : Written n (finalState n M words .words) n (finalState n M words .mark)
+    unfolding finalState firstState
+    written = written-stepped n (firstState M words) (written-none sized) (omega arith)
 
     pub accepted : Accepted n (recorded n M words)
     unfolding recorded
@@ -82,14 +84,17 @@ module _ (n : ℕ) where
 
     pub own-mark : (markAt n (recorded n M words) ≡ 0) ⊎ Marks (recorded n M words) n (markAt n (recorded n M words))
     unfolding recorded
-    own-mark = marks-kept n (factored n M words .words) (factored n M words .mark) written
+    own-mark = marks-kept n (finalState n M words .words) (finalState n M words .mark) written
 
 -- of `factor`'s promise
-module _ {n : ℕ} {a : List Float} {words : List ℕ} {r : Answer} {a' : List Float} {words' : List ℕ} (f : Factored n a words r a' words') (done : isDone r ≡ true) where
-  pub factor-accepted : Accepted n words'
-  factor-accepted = subst (Accepted n) (sym (f .done done .pivots)) (accepted n (load (lower (full n)) a) words (done-sized n a words (ap isDone (sym (f .answer)) ∙ done)))
+module _ {y : Layout} {a : List Float} {words : List ℕ} {r : Answer} {a' : List Float} {words' : List ℕ} (f : Factored y a words r a' words') (done : isDone r ≡ true) where
+  sized : Sized (y .order) words
+  sized = done-sized y a words (ap isDone (sym (f .answer)) ∙ done)
 
-  pub factor-marks : (markAt n words' ≡ 0) ⊎ Marks words' n (markAt n words')
+  pub factor-accepted : Accepted (y .order) words'
+  factor-accepted = subst (Accepted (y .order)) (sym (f .left .done done .pivots)) (accepted (y .order) (load (lower y) a) words sized)
+
+  pub factor-marks : (markAt (y .order) words' ≡ 0) ⊎ Marks words' (y .order) (markAt (y .order) words')
   factor-marks =
-      subst (λ (w : List ℕ). (markAt n w ≡ 0) ⊎ Marks w n (markAt n w)) (sym (f .done done .pivots))
-      (own-mark n (load (lower (full n)) a) words (done-sized n a words (ap isDone (sym (f .answer)) ∙ done)))
+      subst (λ (w : List ℕ). (markAt (y .order) w ≡ 0) ⊎ Marks w (y .order) (markAt (y .order) w)) (sym (f .left .done done .pivots))
+      (own-mark (y .order) (load (lower y) a) words sized)

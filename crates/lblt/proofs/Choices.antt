@@ -12,7 +12,7 @@ use Rattle.matrix.specs.Rounded.{_⊗_, _⊘_, plusZero}
 use Rattle.lblt.specs.Choice.{α, greater, columnMax, alongRow, downColumn, rowMax, contest, choiceBy, choose}
 use Rattle.lblt.specs.declared.choice.Largest.{Largest}
 use Rattle.lblt.specs.declared.choice.Choice.{Choice}
-use Rattle.lblt.specs.declared.choice.Choice.the-variants.{Null, One, Two}
+use Rattle.lblt.specs.declared.choice.Choice.the-variants.{ZeroColumn, One, Two}
 
 -- ---- the largest entry of a column
 
@@ -75,9 +75,9 @@ module _ (n : ℕ) (M : Matrix) (k : ℕ) {top : Largest} {diag most : Float} (i
   unfolding choose
   by e = e ∙ ap (choiceBy n M k) largest
 
-  pub chooses-null : eq most plusZero ≡ true → Null ≡ choose n M k
+  pub chooses-zero-column : eq most plusZero ≡ true → ZeroColumn ≡ choose n M k
   unfolding choiceBy
-  chooses-null test =
+  chooses-zero-column test =
       let test' : eq (maximumOf (absOf (M k k)) (top .colmax)) plusZero ≡ true = rw (max, is) at test in
       by (rw test')
 

@@ -4,32 +4,29 @@ use Prim.Native.Nat.{ℕ, _+_, _≤_, _<_}
 use native.Mathlib.Omega.{arith}
 use lib.Dec.{eqb}
 use lib.Ieee.{Float}
-use Rattle.matrix.specs.Matrix.{Matrix, entry, exchange}
+use Rattle.matrix.specs.Matrix.{Matrix, entry}
 use Rattle.matrix.specs.Loop.{for}
 use Rattle.matrix.specs.Rounded.{_⊖_, _⊗_}
+use Rattle.matrix.proofs.Tests.{either}
+use Rattle.matrix.proofs.Loops.{for-still}
+use Rattle.matrix.proofs.Stores.{entry-column, exchange-skip, swaps-skip, column-other}
 use Rattle.lblt.specs.Choice.{choose}
 use Rattle.lblt.specs.Interchange.{swapBelow, swapBetween, interchange, brought1, brought2}
 use Rattle.lblt.specs.Update.{blockAt, work1, work2, rank2At, rank2By, rank2, update2}
 use Rattle.lblt.specs.Step.{State, pivot1, pivot2, take, step}
 use Rattle.lblt.specs.declared.choice.Choice.{Choice}
-use Rattle.lblt.specs.declared.choice.Choice.the-variants.{Null, One, Two}
+use Rattle.lblt.specs.declared.choice.Choice.the-variants.{ZeroColumn, One, Two}
 use Rattle.lblt.specs.declared.rank2.Block.{Block}
-use Rattle.lblt.proofs.Loops.{for-still}
-use Rattle.lblt.proofs.Stores.{entry-column, column-other}
 use Rattle.lblt.proofs.Entries.{updated1}
-use Rattle.lblt.proofs.Range.{either, Within, choose-range}
-
-exchange-other : (M : Matrix) (i j r c row column : ℕ) → (column ≡ j → ⊥) → (column ≡ c → ⊥) → exchange M i j r c row column ≡ M row column
-unfolding exchange
-exchange-other M i j r c row column first second = entry-column (entry M i j (M r c)) r c (M i j) row column second ∙ entry-column M i j (M r c) row column first
+use Rattle.lblt.proofs.Range.{Within, choose-range}
 
 module _ (n : ℕ) (row column : ℕ) where
   swap-earlier : (t p : ℕ) (M : Matrix) → column < t → t ≤ p → interchange n t p M row column ≡ M row column
   unfolding interchange swapBelow swapBetween
   swap-earlier t p M before upto =
-      exchange-other (for (t + 1) p (swapBetween t p) (for (p + 1) n (swapBelow t p) M)) t t p p row column (λ e. omega arith) (λ e. omega arith)
-      ∙ for-still (λ (N : Matrix). N row column) (t + 1) p (swapBetween t p) (for (p + 1) n (swapBelow t p) M) (λ j N low high. exchange-other N j t p j row column (λ e. omega arith) (λ e. omega arith))
-      ∙ for-still (λ (N : Matrix). N row column) (p + 1) n (swapBelow t p) M (λ i N low high. exchange-other N i t i p row column (λ e. omega arith) (λ e. omega arith))
+      exchange-skip (for (t + 1) p (swapBetween t p) (for (p + 1) n (swapBelow t p) M)) t t p p row column (omega arith) (omega arith)
+      ∙ swaps-skip (λ j. j) (λ j. t) (λ j. p) (λ j. j) (t + 1) p (for (p + 1) n (swapBelow t p) M) row column (omega arith)
+      ∙ swaps-skip (λ i. i) (λ i. t) (λ i. i) (λ i. p) (p + 1) n M row column (omega arith)
 
   module _ (k p : ℕ) (M : Matrix) (before : column < k) where
     brought1-earlier : k ≤ p → brought1 n k p M row column ≡ M row column
@@ -40,14 +37,14 @@ module _ (n : ℕ) (row column : ℕ) where
     unfolding brought2
     brought2-earlier upto =
         either (λ (N : Matrix). N row column ≡ M row column) (eqb p (k + 1)) (λ same. refl)
-        (λ other. exchange-other (interchange n (k + 1) p M) (k + 1) k p k row column (λ e. omega arith) (λ e. omega arith) ∙ swap-earlier (k + 1) p M (omega arith) (omega arith))
+        (λ other. exchange-skip (interchange n (k + 1) p M) (k + 1) k p k row column (omega arith) (omega arith) ∙ swap-earlier (k + 1) p M (omega arith) (omega arith))
 
   rank2-earlier : (k : ℕ) (b : Block) (j : ℕ) (M : Matrix) → column < k → k + 2 ≤ j → rank2 n k b j M row column ≡ M row column
   unfolding rank2 rank2By rank2At
   rank2-earlier k b j M before after =
-      entry-column (entry (for j n (rank2At k j w1 w2) M) j k w1) j (k + 1) w2 row column (λ e. omega arith)
-      ∙ entry-column (for j n (rank2At k j w1 w2) M) j k w1 row column (λ e. omega arith)
-      ∙ column-other j (λ i N. N i j ⊖ N i k ⊗ w1 ⊖ N i (k + 1) ⊗ w2) j n M row column (λ e. omega arith)
+      entry-column (entry (for j n (rank2At k j w1 w2) M) j k w1) j (k + 1) w2 row column (omega arith)
+      ∙ entry-column (for j n (rank2At k j w1 w2) M) j k w1 row column (omega arith)
+      ∙ column-other j (λ i N. N i j ⊖ N i k ⊗ w1 ⊖ N i (k + 1) ⊗ w2) j n M row column (omega arith)
     where
       w1 : Float
       w1 = work1 b (M j k) (M j (k + 1))
@@ -70,7 +67,7 @@ module _ (n : ℕ) (row column : ℕ) where
 
   take-earlier : (S : State) (c : Choice) → column < S .row → Within n (S .row) c → take n S c .matrix row column ≡ S .matrix row column
   unfolding take Within
-  take-earlier S Null before range = refl
+  take-earlier S ZeroColumn before range = refl
   take-earlier S (One p) before range = pivot1-earlier (S .row) p (S .matrix) before (range .0)
   take-earlier S (Two p) before range = pivot2-earlier (S .row) p (S .matrix) before (range .0)
 

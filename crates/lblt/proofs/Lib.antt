@@ -1,5 +1,3 @@
-pub mod Loops
-pub mod Stores
 pub mod Choices
 pub mod Range
 pub mod Interchanges
@@ -8,7 +6,7 @@ pub mod Entries
 pub mod Pairs
 pub mod Earlier
 pub mod Stands
-pub mod Runs
+pub mod Going
 pub mod Done
 pub mod Accepted
 pub mod Overwritten

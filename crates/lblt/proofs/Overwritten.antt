@@ -11,10 +11,10 @@ use borrow.Author.Tests.{ltb-true, ltb-false, eqb-true, eqb-false}
 use Rattle.matrix.specs.Matrix.{Matrix}
 use Rattle.pivots.specs.Words.{wordsOf, Sized, paired, marked}
 use Rattle.lblt.specs.Choice.{choose}
-use Rattle.lblt.specs.Step.{State, take, step, run}
-use Rattle.lblt.specs.Factor.{begun, factored, recorded}
+use Rattle.lblt.specs.Step.{State, take, step, stepped}
+use Rattle.lblt.specs.Factor.{firstState, finalState, recorded}
 use Rattle.lblt.specs.declared.choice.Choice.{Choice}
-use Rattle.lblt.specs.declared.choice.Choice.the-variants.{Null, One, Two}
+use Rattle.lblt.specs.declared.choice.Choice.the-variants.{ZeroColumn, One, Two}
 use Rattle.lblt.proofs.Range.{Within, choose-range}
 use Rattle.lblt.proofs.Stands.{step-rises}
 
@@ -51,13 +51,13 @@ over S words = record { matrix = S .matrix; words = words; row = S .row; mark = 
 
 -- the words that a choice notes
 noted : State → Choice → List ℕ → List ℕ
-noted S Null words = paired words (S .row) (S .row) 1
+noted S ZeroColumn words = paired words (S .row) (S .row) 1
 noted S (One p) words = paired words (S .row) p 1
 noted S (Two p) words = paired (paired words (S .row) p 2) (S .row + 1) p 2
 
 take-over : (n : ℕ) (S : State) (words : List ℕ) (c : Choice) → take n (over S words) c ≡ over (take n S c) (noted S c words)
 unfolding take noted
-take-over n S words Null = refl
+take-over n S words ZeroColumn = refl
 take-over n S words (One p) = refl
 take-over n S words (Two p) = refl
 
@@ -67,14 +67,14 @@ paired-long words row index size = simp length-set
 
 noted-long : (S : State) (c : Choice) (words : List ℕ) → length (noted S c words) ≡ length words
 unfolding noted
-noted-long S Null words = paired-long words (S .row) (S .row) 1
+noted-long S ZeroColumn words = paired-long words (S .row) (S .row) 1
 noted-long S (One p) words = paired-long words (S .row) p 1
 noted-long S (Two p) words = paired-long (paired words (S .row) p 2) (S .row + 1) p 2 ∙ paired-long words (S .row) p 2
 
 module _ (n : ℕ) (S : State) (words words' : List ℕ) (long : length words ≡ wordsOf n) (more : S .row < n) (a : Alike (2 * S .row) words words') where
   alike-noted : (c : Choice) → Within n (S .row) c → Alike (2 * take n S c .row) (noted S c words) (noted S c words')
   unfolding take noted Within
-  alike-noted Null range = alike-paired (S .row) (S .row) 1 (omega arith) a
+  alike-noted ZeroColumn range = alike-paired (S .row) (S .row) 1 (omega arith) a
   alike-noted (One p) range = alike-paired (S .row) p 1 (omega arith) a
   alike-noted (Two p) range =
       alike-less (omega arith)
@@ -98,16 +98,16 @@ by-test : (n : ℕ) (b : Bool) {x y x' y' : State} → (b ≡ true → Ends n x 
 by-test n true f g = f refl
 by-test n false f g = g refl
 
-run-over : (fuel n : ℕ) (S : State) (words words' : List ℕ) → length words ≡ wordsOf n → n ≤ S .row + fuel → Alike (2 * S .row) words words' → Ends n (run fuel n (over S words)) (run fuel n (over S words'))
-unfolding run
-run-over zero n S words words' long enough a = record { mark = refl; words = alike-less (omega arith) a; long = long }
-run-over (suc fuel) n S words words' long enough a =
+stepped-over : (fuel n : ℕ) (S : State) (words words' : List ℕ) → length words ≡ wordsOf n → n ≤ S .row + fuel → Alike (2 * S .row) words words' → Ends n (stepped fuel n (over S words)) (stepped fuel n (over S words'))
+unfolding stepped
+stepped-over zero n S words words' long enough a = record { mark = refl; words = alike-less (omega arith) a; long = long }
+stepped-over (suc fuel) n S words words' long enough a =
     by-test n (ltb (S .row) n)
     (λ test.
     let more : S .row < n = ltb-true (S .row) n test in
     let c = choose n (S .matrix) (S .row) in
     rw (step-over n S words, step-over n S words')
-    (run-over fuel n (step n S) (noted S c words) (noted S c words') (noted-long S c words ∙ long) (omega (arith, step-rises n S)) (alike-step n S words words' long more a)))
+    (stepped-over fuel n (step n S) (noted S c words) (noted S c words') (noted-long S c words ∙ long) (omega (arith, step-rises n S)) (alike-step n S words words' long more a)))
     (λ test.
     let past : n ≤ S .row = ltb-false (S .row) n test in
     record { mark = refl; words = alike-less (omega arith) a; long = long })
@@ -121,9 +121,9 @@ alike-all n {words} {words'} m long a =
     ext-getD 0 (set words (2 * n) m) (set words' (2 * n) m) (b .long) (λ p h. b .first p (omega (arith, length-set words (2 * n) m)))
 
 pub overwritten : (n : ℕ) (M : Matrix) (words words' : List ℕ) → Sized n words → Sized n words' → recorded n M words ≡ recorded n M words'
-unfolding recorded factored begun
+unfolding recorded finalState firstState
 overwritten n M words words' sized sized' =
-    let e = run-over n n (record { matrix = M; words = words; row = 0; mark = 0 }) words words' (sized .total) (omega arith)
+    let e = stepped-over n n (record { matrix = M; words = words; row = 0; mark = 0 }) words words' (sized .total) (omega arith)
     (record { long = sized .total ∙ sym (sized' .total); first = λ p h. absurd (omega arith) }) in
-    alike-all n (run n n (record { matrix = M; words = words; row = 0; mark = 0 }) .mark) (e .long) (e .words)
-    ∙ ap (marked n (run n n (record { matrix = M; words = words'; row = 0; mark = 0 }) .words)) (e .mark)
+    alike-all n (stepped n n (record { matrix = M; words = words; row = 0; mark = 0 }) .mark) (e .long) (e .words)
+    ∙ ap (marked n (stepped n n (record { matrix = M; words = words'; row = 0; mark = 0 }) .words)) (e .mark)

@@ -1,6 +1,6 @@
 -- The range of a choice: a pivot of size 1 is a row from k on, one of size 2 a row after k. Assumes nothing.
 use mathlib.Core.Path.{_≡_, refl, sym, _∙_, subst}
-use mathlib.Core.Bool.{Bool, true, false, cond, true≢false}
+use mathlib.Core.Bool.{Bool, true, false, true≢false}
 use Prim.Native.Nat.{ℕ, _+_, _*_, _≤_, _<_}
 use native.Mathlib.Nat.{zero-mul}
 use native.Mathlib.Omega.{arith}
@@ -11,19 +11,15 @@ use Rattle.leaf.specs.Abs.{absOf}
 use Rattle.leaf.specs.Maximum.{maximumOf}
 use Rattle.matrix.specs.Matrix.{Matrix}
 use Rattle.matrix.specs.Rounded.{_⊗_, _⊘_, plusZero}
+use Rattle.matrix.proofs.Tests.{either}
+use Rattle.matrix.proofs.Loops.{for-keeps}
 use Rattle.lblt.specs.Choice.{α, greater, columnMax, rowMax, contest, choiceBy, choose}
 use Rattle.lblt.specs.declared.choice.Largest.{Largest}
 use Rattle.lblt.specs.declared.choice.Choice.{Choice}
-use Rattle.lblt.specs.declared.choice.Choice.the-variants.{Null, One, Two}
-use Rattle.lblt.proofs.Loops.{for-keeps}
-
--- by the two ways of a test
-pub either : {A : Type 0} (P : A → Type 0) (b : Bool) {x y : A} → (b ≡ true → P x) → (b ≡ false → P y) → P (cond b x y)
-either P true f g = f refl
-either P false f g = g refl
+use Rattle.lblt.specs.declared.choice.Choice.the-variants.{ZeroColumn, One, Two}
 
 -- no absolute value is below α·0
-never-below : (x : Float) → lt (absOf x) (α ⊗ plusZero) ≡ false
+pub never-below : (x : Float) → lt (absOf x) (α ⊗ plusZero) ≡ false
 unfolding absOf lt mul round ofBits ofFields
 never-below nan = refl
 never-below (inf s) = refl
@@ -59,7 +55,7 @@ contest-range n M k {top} {diag} is largest test =
     subst (Below n k) (sym largest) (contested n M k (rw (is, largest) at test) (ltb (k + 1) n) refl)
 
 unfoldable pub Within : ℕ → ℕ → Choice → Type 0
-Within n k Null = Unit
+Within n k ZeroColumn = Unit
 Within n k (One p) = (k ≤ p) × (p < n)
 Within n k (Two p) = (k < p) × (p < n)
 
@@ -72,7 +68,7 @@ contest-within n M k top rowmax h below =
 pub choose-range : (n : ℕ) (M : Matrix) (k : ℕ) → k < n → Within n k (choose n M k)
 unfolding choose choiceBy Within
 choose-range n M k h =
-    either (Within n k) (eq (maximumOf (absOf (M k k)) (columnMax n M k .colmax)) plusZero) {x = Null} (λ null. tt)
+    either (Within n k) (eq (maximumOf (absOf (M k k)) (columnMax n M k .colmax)) plusZero) {x = ZeroColumn} (λ null. tt)
     (λ some. either (Within n k) (lt (absOf (M k k)) (α ⊗ columnMax n M k .colmax)) {x = contest M k (columnMax n M k) (rowMax n M k (columnMax n M k .imax))} {y = One k}
     (λ small. contest-within n M k (columnMax n M k) (rowMax n M k (columnMax n M k .imax)) h (contest-range n M k refl refl small))
     (λ large. (omega arith, h)))

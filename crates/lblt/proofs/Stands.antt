@@ -13,10 +13,10 @@ use Rattle.lblt.specs.Choice.{choose}
 use Rattle.lblt.specs.Interchange.{brought1, brought2}
 use Rattle.lblt.specs.Update.{update1, update2}
 use Rattle.lblt.specs.Step.{State, firstMark, pivot1, pivot2, take, step}
-use Rattle.lblt.specs.Engine.{stateAt, Stands}
+use Rattle.lblt.specs.inner.Engine.{stateAt, Stands}
 use Rattle.lblt.specs.declared.Reached.{Reached}
 use Rattle.lblt.specs.declared.choice.Choice.{Choice}
-use Rattle.lblt.specs.declared.choice.Choice.the-variants.{Null, One, Two}
+use Rattle.lblt.specs.declared.choice.Choice.the-variants.{ZeroColumn, One, Two}
 
 module _ {g : Grid} {l l₁ l₂ : List Float} (n k p : ℕ) where
   pub pivots1 : Holds g l l₁ (brought1 n k p (load g l)) → Holds g l₁ l₂ (update1 n k (load g l₁)) → Holds g l l₂ (pivot1 n k p (load g l))
@@ -32,11 +32,11 @@ module _ {y : Layout} {a : List Float} (words : List ℕ) (s : Reached) {r : Cho
   unfolding step stateAt
   stands-by {a'} {words'} {s'} is stands = subst (λ (S : State). Stands y a a' words' s' S) (ap (take (y .order) (stateAt (load (lower y) a) words s)) (sym is ∙ made)) stands
 
-  pub stands-null : {words' : List ℕ} {mark : ℕ}
-      → r ≡ Null → Sound (lower y) a → words' ≡ paired words (s .row) (s .row) 1 → mark ≡ firstMark (s .mark) (s .row)
+  pub stands-zero-column : {words' : List ℕ} {mark : ℕ}
+      → r ≡ ZeroColumn → Sound (lower y) a → words' ≡ paired words (s .row) (s .row) 1 → mark ≡ firstMark (s .mark) (s .row)
       → Stands y a a words' (record { row = s .row + 1; mark = mark }) (step (y .order) (stateAt (load (lower y) a) words s))
   unfolding stateAt take
-  stands-null is sound noted marks = stands-by is (record { matrix = holds-none sound; pairs = noted; row = refl; mark = marks })
+  stands-zero-column is sound noted marks = stands-by is (record { matrix = holds-none sound; pairs = noted; row = refl; mark = marks })
 
   pub stands-one : {a' : List Float} {words' : List ℕ} {p : ℕ}
       → r ≡ One p → Holds (lower y) a a' (pivot1 (y .order) (s .row) p (load (lower y) a)) → words' ≡ paired words (s .row) p 1
@@ -53,7 +53,7 @@ module _ {y : Layout} {a : List Float} (words : List ℕ) (s : Reached) {r : Cho
 -- a step goes on by a row at least
 take-rises : (n : ℕ) (S : State) (c : Choice) → S .row < take n S c .row
 unfolding take
-take-rises n S Null = omega arith
+take-rises n S ZeroColumn = omega arith
 take-rises n S (One p) = omega arith
 take-rises n S (Two p) = omega arith
 

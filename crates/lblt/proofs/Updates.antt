@@ -10,7 +10,7 @@ use Rattle.matrix.specs.Grid.{Grid, Holds, load}
 use Rattle.matrix.proofs.Grids.{holds-then}
 use Rattle.matrix.specs.Rounded.{_⊘_, one}
 use Rattle.lblt.specs.Update.{rank1At, rank1, scaleAt, eliminate1, update1, blockBy, blockAt, rank2By, rank2, update2}
-use Rattle.lblt.specs.Engine.{workBy, workAt, workedAt, storeWork}
+use Rattle.lblt.specs.inner.Engine.{workBy, workAt, workedAt, storeWork}
 use Rattle.lblt.specs.declared.rank2.Block.{Block}
 use Rattle.lblt.specs.declared.rank2.Work.{Work}
 

@@ -10,7 +10,7 @@ use Rattle.matrix.specs.Loop.{for}
 use Rattle.matrix.specs.Rounded.{_⊗_, _⊘_, plusZero}
 use Rattle.lblt.specs.declared.choice.Largest.{Largest}
 use Rattle.lblt.specs.declared.choice.Choice.{Choice}
-use Rattle.lblt.specs.declared.choice.Choice.the-variants.{Null, One, Two}
+use Rattle.lblt.specs.declared.choice.Choice.the-variants.{ZeroColumn, One, Two}
 
 -- 0.6403882032022076
 abbrev pub α : Float
@@ -47,7 +47,7 @@ contest M k top rowmax =
 -- no pivot, the diagonal, or the contest of two rows
 unfoldable pub choiceBy : ℕ → Matrix → ℕ → Largest → Choice
 choiceBy n M k top =
-    cond (eq (maximumOf (absOf (M k k)) (top .colmax)) plusZero) Null
+    cond (eq (maximumOf (absOf (M k k)) (top .colmax)) plusZero) ZeroColumn
     (cond (lt (absOf (M k k)) (α ⊗ top .colmax)) (contest M k top (rowMax n M k (top .imax))) (One k))
 
 unfoldable pub choose : ℕ → Matrix → ℕ → Choice

@@ -1,53 +1,46 @@
--- What `factor` promises.
+-- What `factor` promises, of the lower triangle of a layout y. The call's layout is `full n`.
 use mathlib.Core.Path.{_≡_}
-use mathlib.Core.Bool.{true, false, cond}
-use mathlib.Core.List.{List}
-use Prim.Native.Nat.{ℕ, _*_}
-use lib.Dec.{ltb, eqb}
+use mathlib.Core.List.{List, [], _∷_, _++_}
+use Prim.Native.Nat.{ℕ}
+use lib.Dec.{eqb}
 use lib.ListN.{length}
 use lib.Ieee.{Float}
 use Rattle.answer.specs.declared.Answer.{Answer}
-use Rattle.answer.specs.declared.Answer.the-variants.{Done, OutOfRange, MatrixLength, SliceLength}
-use Rattle.answer.specs.Number.{isDone}
+use Rattle.answer.specs.declared.Answer.the-variants.{Done, SliceLength}
+use Rattle.answer.specs.Refusals.{Test, _otherwise_, tested, Leaving}
 use Rattle.matrix.specs.Matrix.{Matrix}
 use Rattle.matrix.specs.Grid.{load, Holds}
 use Rattle.matrix.specs.Layouts.{lower}
+use Rattle.matrix.specs.Sizes.{sizeTests}
 use Rattle.matrix.specs.declared.Layout.{Layout}
 use Rattle.pivots.specs.Words.{wordsOf, marked}
-use Rattle.lblt.specs.Step.{State, run}
+use Rattle.lblt.specs.Step.{State, stepped}
 
--- the order, then the matrix, then the record
-unfoldable pub answerOf : ℕ → List Float → List ℕ → Answer
-answerOf n a words =
-    cond (ltb 1024 n) OutOfRange
-    (cond (eqb (length a) (n * n)) (cond (eqb (length words) (wordsOf n)) Done SliceLength) MatrixLength)
+-- the order and the matrix, then the record
+abbrev pub factorTests : Layout → List Float → List ℕ → List Test
+factorTests y a words = sizeTests y 0 (length a) ++ ((eqb (length words) (wordsOf (y .order)) otherwise SliceLength) ∷ [])
 
--- a square matrix of order n
-abbrev pub full : ℕ → Layout
-full n = record { order = n; room = n }
-
-unfoldable pub begun : Matrix → List ℕ → State
-begun M words = record { matrix = M; words = words; row = 0; mark = 0 }
+unfoldable pub firstState : Matrix → List ℕ → State
+firstState M words = record { matrix = M; words = words; row = 0; mark = 0 }
 
 -- the state after all steps
-unfoldable pub factored : ℕ → Matrix → List ℕ → State
-factored n M words = run n n (begun M words)
+unfoldable pub finalState : ℕ → Matrix → List ℕ → State
+finalState n M words = stepped n n (firstState M words)
 
 -- the record after all steps, with the mark at its end
 unfoldable pub recorded : ℕ → Matrix → List ℕ → List ℕ
-recorded n M words = marked n (factored n M words .words) (factored n M words .mark)
+recorded n M words = marked n (finalState n M words .words) (finalState n M words .mark)
 
 -- done: a holds the factor, words the record
-pub record Stored (n : ℕ) (a : List Float) (words : List ℕ) (a' : List Float) (words' : List ℕ) : Type 0 where
-  pub matrix : Holds (lower (full n)) a a' (factored n (load (lower (full n)) a) words .matrix)
-  pub pivots : words' ≡ recorded n (load (lower (full n)) a) words
+pub record Stored (y : Layout) (a : List Float) (words : List ℕ) (a' : List Float) (words' : List ℕ) : Type 0 where
+  pub matrix : Holds (lower y) a a' (finalState (y .order) (load (lower y) a) words .matrix)
+  pub pivots : words' ≡ recorded (y .order) (load (lower y) a) words
 
 -- refused: nothing is written
 pub record Untouched (a : List Float) (words : List ℕ) (a' : List Float) (words' : List ℕ) : Type 0 where
   pub matrix : a' ≡ a
   pub pivots : words' ≡ words
 
-pub record Factored (n : ℕ) (a : List Float) (words : List ℕ) (r : Answer) (a' : List Float) (words' : List ℕ) : Type 0 where
-  pub answer : r ≡ answerOf n a words
-  pub done : isDone r ≡ true → Stored n a words a' words'
-  pub refused : isDone r ≡ false → Untouched a words a' words'
+pub record Factored (y : Layout) (a : List Float) (words : List ℕ) (r : Answer) (a' : List Float) (words' : List ℕ) : Type 0 where
+  pub answer : r ≡ tested (factorTests y a words) Done
+  pub left : Leaving r (Stored y a words a' words') (Untouched a words a' words')

@@ -3,4 +3,4 @@ pub mod Interchange
 pub mod Update
 pub mod Step
 pub mod Factor
-pub mod Engine
+pub mod inner

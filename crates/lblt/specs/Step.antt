@@ -9,7 +9,7 @@ use Rattle.lblt.specs.Choice.{choose}
 use Rattle.lblt.specs.Interchange.{brought1, brought2}
 use Rattle.lblt.specs.Update.{update1, update2}
 use Rattle.lblt.specs.declared.choice.Choice.{Choice}
-use Rattle.lblt.specs.declared.choice.Choice.the-variants.{Null, One, Two}
+use Rattle.lblt.specs.declared.choice.Choice.the-variants.{ZeroColumn, One, Two}
 
 -- `mark` is 0, or the first marked row + 1
 pub record State : Type 0 where
@@ -30,7 +30,7 @@ pivot2 n k p M = update2 n k (brought2 n k p M)
 
 -- the state after a choice
 unfoldable pub take : ℕ → State → Choice → State
-take n s Null =
+take n s ZeroColumn =
     record { matrix = s .matrix; words = paired (s .words) (s .row) (s .row) 1; row = s .row + 1; mark = firstMark (s .mark) (s .row) }
 take n s (One p) =
     record { matrix = pivot1 n (s .row) p (s .matrix); words = paired (s .words) (s .row) p 1; row = s .row + 1; mark = s .mark }
@@ -46,6 +46,6 @@ unfoldable pub step : ℕ → State → State
 step n s = take n s (choose n (s .matrix) (s .row))
 
 -- steps while rows are left, at most `fuel`
-unfoldable pub run : ℕ → ℕ → State → State
-run zero n s = s
-run (suc fuel) n s = cond (ltb (s .row) n) (run fuel n (step n s)) s
+unfoldable pub stepped : ℕ → ℕ → State → State
+stepped zero n s = s
+stepped (suc fuel) n s = cond (ltb (s .row) n) (stepped fuel n (step n s)) s

@@ -1,8 +1,8 @@
 // Which pivot step k takes.
 ghost use mathlib.Core.Path.{_≡_};
 ghost use Prim.Native.Nat.{_+_, _≤_, _<_};
-ghost use Rattle.matrix.specs.Grid.{Sound, load};
-ghost use Rattle.matrix.specs.Layouts.{Roomy, lower};
+ghost use Rattle.matrix.specs.Grid.{load};
+ghost use Rattle.matrix.specs.Layouts.{lower, Laid};
 ghost use Rattle.leaf.specs.Abs.{absOf};
 ghost use Rattle.lblt.specs.Choice.{greater, columnMax, alongRow, downColumn, rowMax, contest, choose};
 use leaf::abs;
@@ -19,8 +19,8 @@ pub struct Largest {
 }
 
 pub enum Choice {
-    // No pivot.
-    Null,
+    // The largest entry of the column is zero: no pivot.
+    ZeroColumn,
     // A pivot of size 1.
     One(usize),
     // A pivot of size 2.
@@ -28,8 +28,7 @@ pub enum Choice {
 }
 
 fn greater(y: Layout, a: &[f64], k: usize, i: usize, top: Largest) -> Largest
-    requires { ⌜ Roomy y ⌝ }
-    requires { ⌜ Sound (lower y) (now a) ⌝ }
+    requires { ⌜ Laid y (now a) ⌝ }
     requires { ⌜ k ≤ i ⌝ }
     requires { ⌜ i < y .order ⌝ }
     ensures { λ r. ⌜ r ≡ greater (load (lower y) (now (a .entry))) k i top ⌝ }
@@ -45,8 +44,7 @@ fn greater(y: Layout, a: &[f64], k: usize, i: usize, top: Largest) -> Largest
 }
 
 fn column_max(y: Layout, a: &[f64], k: usize) -> Largest
-    requires { ⌜ Roomy y ⌝ }
-    requires { ⌜ Sound (lower y) (now a) ⌝ }
+    requires { ⌜ Laid y (now a) ⌝ }
     requires { ⌜ k < y .order ⌝ }
     ensures { λ r. ⌜ r ≡ columnMax (y .order) (load (lower y) (now (a .entry))) k ⌝ }
 {
@@ -68,8 +66,7 @@ fn column_max(y: Layout, a: &[f64], k: usize) -> Largest
 }
 
 fn along_row(y: Layout, a: &[f64], i: usize, j: usize, rowmax: f64) -> f64
-    requires { ⌜ Roomy y ⌝ }
-    requires { ⌜ Sound (lower y) (now a) ⌝ }
+    requires { ⌜ Laid y (now a) ⌝ }
     requires { ⌜ j ≤ i ⌝ }
     requires { ⌜ i < y .order ⌝ }
     ensures { λ r. ⌜ r ≡ alongRow (load (lower y) (now (a .entry))) i j rowmax ⌝ }
@@ -78,8 +75,7 @@ fn along_row(y: Layout, a: &[f64], i: usize, j: usize, rowmax: f64) -> f64
 }
 
 fn down_column(y: Layout, a: &[f64], i: usize, j: usize, rowmax: f64) -> f64
-    requires { ⌜ Roomy y ⌝ }
-    requires { ⌜ Sound (lower y) (now a) ⌝ }
+    requires { ⌜ Laid y (now a) ⌝ }
     requires { ⌜ i ≤ j ⌝ }
     requires { ⌜ j < y .order ⌝ }
     ensures { λ r. ⌜ r ≡ downColumn (load (lower y) (now (a .entry))) i j rowmax ⌝ }
@@ -88,8 +84,7 @@ fn down_column(y: Layout, a: &[f64], i: usize, j: usize, rowmax: f64) -> f64
 }
 
 fn row_max(y: Layout, a: &[f64], k: usize, i: usize) -> f64
-    requires { ⌜ Roomy y ⌝ }
-    requires { ⌜ Sound (lower y) (now a) ⌝ }
+    requires { ⌜ Laid y (now a) ⌝ }
     requires { ⌜ k ≤ i ⌝ }
     requires { ⌜ i < y .order ⌝ }
     ensures { λ r. ⌜ r ≡ rowMax (y .order) (load (lower y) (now (a .entry))) k i ⌝ }
@@ -107,8 +102,7 @@ fn row_max(y: Layout, a: &[f64], k: usize, i: usize) -> f64
 
 // The diagonal is small against its column: it stays if the ratio of the maxima allows it, else row imax is taken.
 fn contest(y: Layout, a: &[f64], k: usize, diag: f64, top: Largest) -> Choice
-    requires { ⌜ Roomy y ⌝ }
-    requires { ⌜ Sound (lower y) (now a) ⌝ }
+    requires { ⌜ Laid y (now a) ⌝ }
     requires { ⌜ k ≤ top .imax ⌝ }
     requires { ⌜ top .imax < y .order ⌝ }
     requires { ⌜ diag ≡ absOf (load (lower y) (now a) k k) ⌝ }
@@ -127,15 +121,14 @@ fn contest(y: Layout, a: &[f64], k: usize, diag: f64, top: Largest) -> Choice
 }
 
 pub fn choose(y: Layout, a: &[f64], k: usize) -> Choice
-    requires { ⌜ Roomy y ⌝ }
-    requires { ⌜ Sound (lower y) (now a) ⌝ }
+    requires { ⌜ Laid y (now a) ⌝ }
     requires { ⌜ k < y .order ⌝ }
     ensures { λ r. ⌜ r ≡ choose (y .order) (load (lower y) (now (a .entry))) k ⌝ }
 {
     let diag = abs(get(y, a, k, k));
     let top = column_max(y, a, k);
     if maximum(diag, top.colmax) == 0.0 {
-        return Choice::Null;
+        return Choice::ZeroColumn;
     }
     if diag < ALPHA * top.colmax {
         return contest(y, a, k, diag, top);

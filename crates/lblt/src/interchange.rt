@@ -1,15 +1,14 @@
 // The two-sided interchange that brings a pivot to its place.
 ghost use Prim.Native.Nat.{_+_, _≤_, _<_};
-ghost use Rattle.matrix.specs.Grid.{Sound, Holds, load};
-ghost use Rattle.matrix.specs.Layouts.{Roomy, lower};
+ghost use Rattle.matrix.specs.Grid.{Holds, load};
+ghost use Rattle.matrix.specs.Layouts.{lower, Laid};
 ghost use Rattle.matrix.specs.Loop.{for};
 ghost use Rattle.lblt.specs.Interchange.{swapBelow, swapBetween, interchange, brought1, brought2};
 use matrix::Layout;
 use matrix::swap;
 
 fn swap_below(y: Layout, a: &mut [f64], t: usize, p: usize)
-    requires { ⌜ Roomy y ⌝ }
-    requires { ⌜ Sound (lower y) (now a) ⌝ }
+    requires { ⌜ Laid y (now a) ⌝ }
     requires { ⌜ t ≤ p ⌝ }
     requires { ⌜ p < y .order ⌝ }
     ensures { λ _. ⌜ Holds (lower y) (now (a .entry)) (now (a .exit)) (for (p + 1) (y .order) (swapBelow t p) (load (lower y) (now (a .entry)))) ⌝ }
@@ -21,8 +20,7 @@ fn swap_below(y: Layout, a: &mut [f64], t: usize, p: usize)
 }
 
 fn swap_between(y: Layout, a: &mut [f64], t: usize, p: usize)
-    requires { ⌜ Roomy y ⌝ }
-    requires { ⌜ Sound (lower y) (now a) ⌝ }
+    requires { ⌜ Laid y (now a) ⌝ }
     requires { ⌜ t < p ⌝ }
     requires { ⌜ p < y .order ⌝ }
     ensures { λ _. ⌜ Holds (lower y) (now (a .entry)) (now (a .exit)) (for (t + 1) p (swapBetween t p) (load (lower y) (now (a .entry)))) ⌝ }
@@ -33,8 +31,7 @@ fn swap_between(y: Layout, a: &mut [f64], t: usize, p: usize)
 }
 
 fn interchange(y: Layout, a: &mut [f64], t: usize, p: usize)
-    requires { ⌜ Roomy y ⌝ }
-    requires { ⌜ Sound (lower y) (now a) ⌝ }
+    requires { ⌜ Laid y (now a) ⌝ }
     requires { ⌜ t < p ⌝ }
     requires { ⌜ p < y .order ⌝ }
     ensures { λ _. ⌜ Holds (lower y) (now (a .entry)) (now (a .exit)) (interchange (y .order) t p (load (lower y) (now (a .entry)))) ⌝ }
@@ -45,8 +42,7 @@ fn interchange(y: Layout, a: &mut [f64], t: usize, p: usize)
 }
 
 pub fn bring1(y: Layout, a: &mut [f64], k: usize, p: usize)
-    requires { ⌜ Roomy y ⌝ }
-    requires { ⌜ Sound (lower y) (now a) ⌝ }
+    requires { ⌜ Laid y (now a) ⌝ }
     requires { ⌜ k ≤ p ⌝ }
     requires { ⌜ p < y .order ⌝ }
     ensures { λ _. ⌜ Holds (lower y) (now (a .entry)) (now (a .exit)) (brought1 (y .order) k p (load (lower y) (now (a .entry)))) ⌝ }
@@ -58,8 +54,7 @@ pub fn bring1(y: Layout, a: &mut [f64], k: usize, p: usize)
 }
 
 pub fn bring2(y: Layout, a: &mut [f64], k: usize, p: usize)
-    requires { ⌜ Roomy y ⌝ }
-    requires { ⌜ Sound (lower y) (now a) ⌝ }
+    requires { ⌜ Laid y (now a) ⌝ }
     requires { ⌜ k < p ⌝ }
     requires { ⌜ p < y .order ⌝ }
     ensures { λ _. ⌜ Holds (lower y) (now (a .entry)) (now (a .exit)) (brought2 (y .order) k p (load (lower y) (now (a .entry)))) ⌝ }

@@ -1,14 +1,13 @@
 // The Bunch–Kaufman factor of a symmetric matrix, in its lower triangle.
 ghost use Prim.Native.Nat.{_+_, _≤_, _<_};
-ghost use Rattle.matrix.specs.Grid.{Sound, Holds, load};
-ghost use Rattle.matrix.specs.Layouts.{Roomy, lower};
+ghost use Rattle.matrix.specs.Grid.{Holds, load};
+ghost use Rattle.matrix.specs.Layouts.{full, lower, Laid};
 ghost use Rattle.pivots.specs.Words.{Sized};
 ghost use Rattle.lblt.specs.Step.{pivot1, pivot2, step};
-ghost use Rattle.lblt.specs.Engine.{Stands, stateAt, Steps};
+ghost use Rattle.lblt.specs.inner.Engine.{Stands, stateAt, Steps};
 ghost use Rattle.lblt.specs.Factor.{Factored};
 use answer::Answer;
 use matrix::Layout;
-use pivots::put_mark;
 
 mod choice;
 mod interchange;
@@ -18,8 +17,7 @@ mod rank2;
 
 // A pivot of size 1: the interchange, then the update.
 fn pivot1(y: Layout, a: &mut [f64], k: usize, p: usize)
-    requires { ⌜ Roomy y ⌝ }
-    requires { ⌜ Sound (lower y) (now a) ⌝ }
+    requires { ⌜ Laid y (now a) ⌝ }
     requires { ⌜ k ≤ p ⌝ }
     requires { ⌜ p < y .order ⌝ }
     ensures { λ _. ⌜ Holds (lower y) (now (a .entry)) (now (a .exit)) (pivot1 (y .order) k p (load (lower y) (now (a .entry)))) ⌝ }
@@ -30,8 +28,7 @@ fn pivot1(y: Layout, a: &mut [f64], k: usize, p: usize)
 
 // A pivot of size 2: the interchange, then the update.
 fn pivot2(y: Layout, a: &mut [f64], k: usize, p: usize)
-    requires { ⌜ Roomy y ⌝ }
-    requires { ⌜ Sound (lower y) (now a) ⌝ }
+    requires { ⌜ Laid y (now a) ⌝ }
     requires { ⌜ k < p ⌝ }
     requires { ⌜ p < y .order ⌝ }
     ensures { λ _. ⌜ Holds (lower y) (now (a .entry)) (now (a .exit)) (pivot2 (y .order) k p (load (lower y) (now (a .entry)))) ⌝ }
@@ -49,8 +46,7 @@ struct Reached {
 impl Reached {
     // One step: the next row, and the first mark.
     fn step(self, y: Layout, a: &mut [f64], words: &mut [u32]) -> Reached
-        requires { ⌜ Roomy y ⌝ }
-        requires { ⌜ Sound (lower y) (now a) ⌝ }
+        requires { ⌜ Laid y (now a) ⌝ }
         requires { ⌜ Sized (y .order) (now words) ⌝ }
         requires { ⌜ self .row < y .order ⌝ }
         ensures { λ r. ⌜ Stands y (now (a .entry)) (now (a .exit)) (now (words .exit)) r (step (y .order) (stateAt (load (lower y) (now (a .entry))) (now (words .entry)) self)) ⌝ }
@@ -58,7 +54,7 @@ impl Reached {
         let k = self.row;
         let mark = self.mark;
         match choice::choose(y, a, k) {
-            choice::Choice::Null => {
+            choice::Choice::ZeroColumn => {
                 notes::one(words, k, k);
                 Reached {
                     row: k + 1,
@@ -81,8 +77,7 @@ impl Reached {
 
 // All steps; the first mark.
 fn steps(y: Layout, a: &mut [f64], words: &mut [u32]) -> u32
-    requires { ⌜ Roomy y ⌝ }
-    requires { ⌜ Sound (lower y) (now a) ⌝ }
+    requires { ⌜ Laid y (now a) ⌝ }
     requires { ⌜ Sized (y .order) (now words) ⌝ }
     ensures { λ r. ⌜ Steps y (now (a .entry)) (now (words .entry)) (now (a .exit)) (now (words .exit)) r ⌝ }
 {
@@ -97,18 +92,17 @@ fn steps(y: Layout, a: &mut [f64], words: &mut [u32]) -> u32
 // Factors the lower triangle of a matrix of order n in n·n numbers, column by column, and writes its pivot record.
 // An order above 1,024, then a wrong length of the matrix, then of the record, is refused, and nothing is written.
 pub fn factor(a: &mut [f64], words: &mut [u32], n: usize) -> Answer
-    ensures { λ r. ⌜ Factored n (now (a .entry)) (now (words .entry)) r (now (a .exit)) (now (words .exit)) ⌝ }
+    ensures { λ r. ⌜ Factored (full n) (now (a .entry)) (now (words .entry)) r (now (a .exit)) (now (words .exit)) ⌝ }
 {
-    if n > 1024 {
-        return Answer::OutOfRange;
+    let y = Layout::full(n);
+    let fault = y.check(0, a.len());
+    if fault.code() != 0 {
+        return fault;
     }
-    if a.len() != n * n {
-        return Answer::MatrixLength;
-    }
-    if words.len() != 2 * n + 1 {
+    if words.len() != pivots::words(n) {
         return Answer::SliceLength;
     }
-    let mark = steps(Layout { order: n, room: n }, a, words);
-    put_mark(words, n, mark);
+    let mark = steps(y, a, words);
+    pivots::put_mark(words, n, mark);
     Answer::Done
 }

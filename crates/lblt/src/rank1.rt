@@ -1,17 +1,16 @@
 // The update by a pivot of size 1.
 ghost use Prim.Native.Nat.{_+_, _≤_, _<_};
-ghost use Rattle.matrix.specs.Grid.{Sound, Holds, load};
-ghost use Rattle.matrix.specs.Layouts.{Roomy, lower};
+ghost use Rattle.matrix.specs.Grid.{Holds, load};
+ghost use Rattle.matrix.specs.Layouts.{lower, Laid};
 ghost use Rattle.matrix.specs.Loop.{for};
-ghost use Rattle.lblt.specs.Engine.{both1At};
+ghost use Rattle.lblt.specs.inner.Engine.{rank1PairAt};
 ghost use Rattle.lblt.specs.Update.{rank1At, rank1, scaleAt, update1};
 use matrix::Layout;
 use matrix::get;
 use matrix::put;
 
 fn rank1_at(y: Layout, a: &mut [f64], k: usize, j: usize, inv: f64, ajk: f64, i: usize)
-    requires { ⌜ Roomy y ⌝ }
-    requires { ⌜ Sound (lower y) (now a) ⌝ }
+    requires { ⌜ Laid y (now a) ⌝ }
     requires { ⌜ k ≤ j ⌝ }
     requires { ⌜ j ≤ i ⌝ }
     requires { ⌜ i < y .order ⌝ }
@@ -21,8 +20,7 @@ fn rank1_at(y: Layout, a: &mut [f64], k: usize, j: usize, inv: f64, ajk: f64, i:
 }
 
 fn rank1(y: Layout, a: &mut [f64], k: usize, inv: f64, j: usize)
-    requires { ⌜ Roomy y ⌝ }
-    requires { ⌜ Sound (lower y) (now a) ⌝ }
+    requires { ⌜ Laid y (now a) ⌝ }
     requires { ⌜ k ≤ j ⌝ }
     requires { ⌜ j < y .order ⌝ }
     ensures { λ _. ⌜ Holds (lower y) (now (a .entry)) (now (a .exit)) (rank1 (y .order) k inv j (load (lower y) (now (a .entry)))) ⌝ }
@@ -35,13 +33,21 @@ fn rank1(y: Layout, a: &mut [f64], k: usize, inv: f64, j: usize)
 }
 
 // Row i of columns j and j + 1.
-fn both_at(y: Layout, a: &mut [f64], k: usize, j: usize, inv: f64, ajk: f64, aj1k: f64, i: usize)
-    requires { ⌜ Roomy y ⌝ }
-    requires { ⌜ Sound (lower y) (now a) ⌝ }
+fn rank1_pair_at(
+    y: Layout,
+    a: &mut [f64],
+    k: usize,
+    j: usize,
+    inv: f64,
+    ajk: f64,
+    aj1k: f64,
+    i: usize,
+)
+    requires { ⌜ Laid y (now a) ⌝ }
     requires { ⌜ k < j ⌝ }
     requires { ⌜ j + 1 ≤ i ⌝ }
     requires { ⌜ i < y .order ⌝ }
-    ensures { λ _. ⌜ Holds (lower y) (now (a .entry)) (now (a .exit)) (both1At k j inv ajk aj1k i (load (lower y) (now (a .entry)))) ⌝ }
+    ensures { λ _. ⌜ Holds (lower y) (now (a .entry)) (now (a .exit)) (rank1PairAt k j inv ajk aj1k i (load (lower y) (now (a .entry)))) ⌝ }
 {
     let scaled = get(y, a, i, k) * (-inv);
     put(y, a, i, j, get(y, a, i, j) + scaled * ajk);
@@ -49,9 +55,8 @@ fn both_at(y: Layout, a: &mut [f64], k: usize, j: usize, inv: f64, ajk: f64, aj1
 }
 
 // Columns j and j + 1.
-fn both(y: Layout, a: &mut [f64], k: usize, inv: f64, j: usize)
-    requires { ⌜ Roomy y ⌝ }
-    requires { ⌜ Sound (lower y) (now a) ⌝ }
+fn rank1_pair(y: Layout, a: &mut [f64], k: usize, inv: f64, j: usize)
+    requires { ⌜ Laid y (now a) ⌝ }
     requires { ⌜ k < j ⌝ }
     requires { ⌜ j + 1 < y .order ⌝ }
     ensures { λ _. ⌜ Holds (lower y) (now (a .entry)) (now (a .exit)) (rank1 (y .order) k inv (j + 1) (rank1 (y .order) k inv j (load (lower y) (now (a .entry))))) ⌝ }
@@ -61,21 +66,20 @@ fn both(y: Layout, a: &mut [f64], k: usize, inv: f64, j: usize)
     let aj1k = get(y, a, j + 1, k);
     rank1_at(y, a, k, j, inv, ajk, j);
     for i in (j + 1)..n {
-        both_at(y, a, k, j, inv, ajk, aj1k, i);
+        rank1_pair_at(y, a, k, j, inv, ajk, aj1k, i);
     }
 }
 
 // By pairs of columns; the last one alone where their number is odd.
 fn rank1_all(y: Layout, a: &mut [f64], k: usize, inv: f64)
-    requires { ⌜ Roomy y ⌝ }
-    requires { ⌜ Sound (lower y) (now a) ⌝ }
+    requires { ⌜ Laid y (now a) ⌝ }
     requires { ⌜ k < y .order ⌝ }
     ensures { λ _. ⌜ Holds (lower y) (now (a .entry)) (now (a .exit)) (for (k + 1) (y .order) (rank1 (y .order) k inv) (load (lower y) (now (a .entry)))) ⌝ }
 {
     let n = y.order;
     let mut j = k + 1;
     while j + 1 < n {
-        both(y, a, k, inv, j);
+        rank1_pair(y, a, k, inv, j);
         j += 2;
     }
     if j < n {
@@ -85,8 +89,7 @@ fn rank1_all(y: Layout, a: &mut [f64], k: usize, inv: f64)
 }
 
 fn scale_at(y: Layout, a: &mut [f64], k: usize, inv: f64, i: usize)
-    requires { ⌜ Roomy y ⌝ }
-    requires { ⌜ Sound (lower y) (now a) ⌝ }
+    requires { ⌜ Laid y (now a) ⌝ }
     requires { ⌜ k ≤ i ⌝ }
     requires { ⌜ i < y .order ⌝ }
     ensures { λ _. ⌜ Holds (lower y) (now (a .entry)) (now (a .exit)) (scaleAt k inv i (load (lower y) (now (a .entry)))) ⌝ }
@@ -95,8 +98,7 @@ fn scale_at(y: Layout, a: &mut [f64], k: usize, inv: f64, i: usize)
 }
 
 fn scale_all(y: Layout, a: &mut [f64], k: usize, inv: f64)
-    requires { ⌜ Roomy y ⌝ }
-    requires { ⌜ Sound (lower y) (now a) ⌝ }
+    requires { ⌜ Laid y (now a) ⌝ }
     requires { ⌜ k < y .order ⌝ }
     ensures { λ _. ⌜ Holds (lower y) (now (a .entry)) (now (a .exit)) (for (k + 1) (y .order) (scaleAt k inv) (load (lower y) (now (a .entry)))) ⌝ }
 {
@@ -107,8 +109,7 @@ fn scale_all(y: Layout, a: &mut [f64], k: usize, inv: f64)
 }
 
 pub fn update1(y: Layout, a: &mut [f64], k: usize)
-    requires { ⌜ Roomy y ⌝ }
-    requires { ⌜ Sound (lower y) (now a) ⌝ }
+    requires { ⌜ Laid y (now a) ⌝ }
     requires { ⌜ k < y .order ⌝ }
     ensures { λ _. ⌜ Holds (lower y) (now (a .entry)) (now (a .exit)) (update1 (y .order) k (load (lower y) (now (a .entry)))) ⌝ }
 {

@@ -1,10 +1,10 @@
 // The update by a pivot of size 2.
 ghost use mathlib.Core.Path.{_≡_};
 ghost use Prim.Native.Nat.{_+_, _≤_, _<_};
-ghost use Rattle.matrix.specs.Grid.{Sound, Holds, load};
-ghost use Rattle.matrix.specs.Layouts.{Roomy, lower};
+ghost use Rattle.matrix.specs.Grid.{Holds, load};
+ghost use Rattle.matrix.specs.Layouts.{lower, Laid};
 ghost use Rattle.matrix.specs.Loop.{for};
-ghost use Rattle.lblt.specs.Engine.{workBy, workAt, workedAt, storeWork, both2At};
+ghost use Rattle.lblt.specs.inner.Engine.{workBy, workAt, workedAt, storeWork, rank2PairAt};
 ghost use Rattle.lblt.specs.Update.{blockAt, multiplier, rank2, update2};
 use leaf::abs;
 use matrix::Layout;
@@ -45,8 +45,7 @@ impl Block {
 }
 
 fn block_at(y: Layout, a: &[f64], k: usize) -> Block
-    requires { ⌜ Roomy y ⌝ }
-    requires { ⌜ Sound (lower y) (now a) ⌝ }
+    requires { ⌜ Laid y (now a) ⌝ }
     requires { ⌜ k + 1 < y .order ⌝ }
     ensures { λ r. ⌜ r ≡ blockAt (load (lower y) (now (a .entry))) k ⌝ }
 {
@@ -61,8 +60,7 @@ fn block_at(y: Layout, a: &[f64], k: usize) -> Block
 }
 
 fn work_at(y: Layout, a: &[f64], k: usize, b: Block, j: usize) -> Work
-    requires { ⌜ Roomy y ⌝ }
-    requires { ⌜ Sound (lower y) (now a) ⌝ }
+    requires { ⌜ Laid y (now a) ⌝ }
     requires { ⌜ k + 1 ≤ j ⌝ }
     requires { ⌜ j < y .order ⌝ }
     ensures { λ r. ⌜ r ≡ workAt (load (lower y) (now (a .entry))) k b j ⌝ }
@@ -71,8 +69,7 @@ fn work_at(y: Layout, a: &[f64], k: usize, b: Block, j: usize) -> Work
 }
 
 fn rank2_at(y: Layout, a: &mut [f64], k: usize, j: usize, w: Work, i: usize)
-    requires { ⌜ Roomy y ⌝ }
-    requires { ⌜ Sound (lower y) (now a) ⌝ }
+    requires { ⌜ Laid y (now a) ⌝ }
     requires { ⌜ k + 1 ≤ j ⌝ }
     requires { ⌜ j ≤ i ⌝ }
     requires { ⌜ i < y .order ⌝ }
@@ -88,8 +85,7 @@ fn rank2_at(y: Layout, a: &mut [f64], k: usize, j: usize, w: Work, i: usize)
 }
 
 fn rank2_column(y: Layout, a: &mut [f64], k: usize, j: usize, w: Work)
-    requires { ⌜ Roomy y ⌝ }
-    requires { ⌜ Sound (lower y) (now a) ⌝ }
+    requires { ⌜ Laid y (now a) ⌝ }
     requires { ⌜ k + 1 ≤ j ⌝ }
     requires { ⌜ j < y .order ⌝ }
     ensures { λ _. ⌜ Holds (lower y) (now (a .entry)) (now (a .exit)) (for j (y .order) (workedAt k j w) (load (lower y) (now (a .entry)))) ⌝ }
@@ -101,8 +97,7 @@ fn rank2_column(y: Layout, a: &mut [f64], k: usize, j: usize, w: Work)
 }
 
 fn store_work(y: Layout, a: &mut [f64], k: usize, j: usize, w: Work)
-    requires { ⌜ Roomy y ⌝ }
-    requires { ⌜ Sound (lower y) (now a) ⌝ }
+    requires { ⌜ Laid y (now a) ⌝ }
     requires { ⌜ k + 1 ≤ j ⌝ }
     requires { ⌜ j < y .order ⌝ }
     ensures { λ _. ⌜ Holds (lower y) (now (a .entry)) (now (a .exit)) (storeWork k j w (load (lower y) (now (a .entry)))) ⌝ }
@@ -113,8 +108,7 @@ fn store_work(y: Layout, a: &mut [f64], k: usize, j: usize, w: Work)
 
 // Column j, then row j of columns k and k + 1.
 fn rank2(y: Layout, a: &mut [f64], k: usize, b: Block, j: usize)
-    requires { ⌜ Roomy y ⌝ }
-    requires { ⌜ Sound (lower y) (now a) ⌝ }
+    requires { ⌜ Laid y (now a) ⌝ }
     requires { ⌜ k + 1 ≤ j ⌝ }
     requires { ⌜ j < y .order ⌝ }
     ensures { λ _. ⌜ Holds (lower y) (now (a .entry)) (now (a .exit)) (rank2 (y .order) k b j (load (lower y) (now (a .entry)))) ⌝ }
@@ -125,13 +119,12 @@ fn rank2(y: Layout, a: &mut [f64], k: usize, b: Block, j: usize)
 }
 
 // Row i of columns j and j + 1.
-fn both_at(y: Layout, a: &mut [f64], k: usize, j: usize, w: Work, v: Work, i: usize)
-    requires { ⌜ Roomy y ⌝ }
-    requires { ⌜ Sound (lower y) (now a) ⌝ }
+fn rank2_pair_at(y: Layout, a: &mut [f64], k: usize, j: usize, w: Work, v: Work, i: usize)
+    requires { ⌜ Laid y (now a) ⌝ }
     requires { ⌜ k + 1 < j ⌝ }
     requires { ⌜ j + 1 ≤ i ⌝ }
     requires { ⌜ i < y .order ⌝ }
-    ensures { λ _. ⌜ Holds (lower y) (now (a .entry)) (now (a .exit)) (both2At k j w v i (load (lower y) (now (a .entry)))) ⌝ }
+    ensures { λ _. ⌜ Holds (lower y) (now (a .entry)) (now (a .exit)) (rank2PairAt k j w v i (load (lower y) (now (a .entry)))) ⌝ }
 {
     let aik = get(y, a, i, k);
     let aik1 = get(y, a, i, k + 1);
@@ -145,23 +138,21 @@ fn both_at(y: Layout, a: &mut [f64], k: usize, j: usize, w: Work, v: Work, i: us
     );
 }
 
-fn both_columns(y: Layout, a: &mut [f64], k: usize, j: usize, w: Work, v: Work)
-    requires { ⌜ Roomy y ⌝ }
-    requires { ⌜ Sound (lower y) (now a) ⌝ }
+fn rank2_pair_columns(y: Layout, a: &mut [f64], k: usize, j: usize, w: Work, v: Work)
+    requires { ⌜ Laid y (now a) ⌝ }
     requires { ⌜ k + 1 < j ⌝ }
     requires { ⌜ j + 1 < y .order ⌝ }
-    ensures { λ _. ⌜ Holds (lower y) (now (a .entry)) (now (a .exit)) (for (j + 1) (y .order) (both2At k j w v) (load (lower y) (now (a .entry)))) ⌝ }
+    ensures { λ _. ⌜ Holds (lower y) (now (a .entry)) (now (a .exit)) (for (j + 1) (y .order) (rank2PairAt k j w v) (load (lower y) (now (a .entry)))) ⌝ }
 {
     let n = y.order;
     for i in (j + 1)..n {
-        both_at(y, a, k, j, w, v, i);
+        rank2_pair_at(y, a, k, j, w, v, i);
     }
 }
 
 // Columns j and j + 1.
-fn both(y: Layout, a: &mut [f64], k: usize, b: Block, j: usize)
-    requires { ⌜ Roomy y ⌝ }
-    requires { ⌜ Sound (lower y) (now a) ⌝ }
+fn rank2_pair(y: Layout, a: &mut [f64], k: usize, b: Block, j: usize)
+    requires { ⌜ Laid y (now a) ⌝ }
     requires { ⌜ k + 1 < j ⌝ }
     requires { ⌜ j + 1 < y .order ⌝ }
     ensures { λ _. ⌜ Holds (lower y) (now (a .entry)) (now (a .exit)) (rank2 (y .order) k b (j + 1) (rank2 (y .order) k b j (load (lower y) (now (a .entry))))) ⌝ }
@@ -169,22 +160,21 @@ fn both(y: Layout, a: &mut [f64], k: usize, b: Block, j: usize)
     let w = work_at(y, a, k, b, j);
     let v = work_at(y, a, k, b, j + 1);
     rank2_at(y, a, k, j, w, j);
-    both_columns(y, a, k, j, w, v);
+    rank2_pair_columns(y, a, k, j, w, v);
     store_work(y, a, k, j, w);
     store_work(y, a, k, j + 1, v);
 }
 
 // By pairs of columns; the last one alone where their number is odd.
 fn rank2_all(y: Layout, a: &mut [f64], k: usize, b: Block)
-    requires { ⌜ Roomy y ⌝ }
-    requires { ⌜ Sound (lower y) (now a) ⌝ }
+    requires { ⌜ Laid y (now a) ⌝ }
     requires { ⌜ k + 1 < y .order ⌝ }
     ensures { λ _. ⌜ Holds (lower y) (now (a .entry)) (now (a .exit)) (for (k + 2) (y .order) (rank2 (y .order) k b) (load (lower y) (now (a .entry)))) ⌝ }
 {
     let n = y.order;
     let mut j = k + 2;
     while j + 1 < n {
-        both(y, a, k, b, j);
+        rank2_pair(y, a, k, b, j);
         j += 2;
     }
     if j < n {
@@ -194,8 +184,7 @@ fn rank2_all(y: Layout, a: &mut [f64], k: usize, b: Block)
 }
 
 pub fn update2(y: Layout, a: &mut [f64], k: usize)
-    requires { ⌜ Roomy y ⌝ }
-    requires { ⌜ Sound (lower y) (now a) ⌝ }
+    requires { ⌜ Laid y (now a) ⌝ }
     requires { ⌜ k + 1 < y .order ⌝ }
     ensures { λ _. ⌜ Holds (lower y) (now (a .entry)) (now (a .exit)) (update2 (y .order) k (load (lower y) (now (a .entry)))) ⌝ }
 {

@@ -2,17 +2,20 @@
 --     entry-here  entry-skip  entry-row  entry-column      what one entry stored leaves
 --     entry-apart  store-past                              two stores in different columns, in either order
 --     exchange-first  exchange-second  exchange-skip       what an exchange leaves
+--     swaps-skip  swaps-first  swaps-second                a loop of exchanges at places that do not meet
 --     column-other  row-other  row-here                    a loop over rows that stores in its own row of column j
+--     rows-each                                            a loop whose turn r changes row r alone, by what stands in it
 use mathlib.Core.Path.{_≡_, refl, sym, _∙_, ap, subst, fun-ext}
 use mathlib.Core.Bool.{Bool, true, false, cond, _&&_}
 use Prim.Native.Nat.{ℕ, _+_, _≤_, _<_}
 use native.Mathlib.Omega.{arith}
-use lib.Dec.{T, eqb, eqb→eq}
+use lib.Dec.{T, eqb, ltb, eqb→eq}
 use lib.Ieee.{Float}
 use lib.Ieee.Fits.{and-r}
-use borrow.Author.Tests.{eq-eqb, ne-eqb, eqb-true}
+use borrow.Author.Tests.{eq-eqb, ne-eqb, eqb-true, ltb-true, ltb-false}
 use Rattle.matrix.specs.Matrix.{Matrix, entry, exchange}
 use Rattle.matrix.specs.Loop.{for}
+use Rattle.matrix.proofs.Tests.{either}
 use Rattle.matrix.proofs.Loops.{for-still, for-at}
 
 -- ---- one entry stored
@@ -74,6 +77,41 @@ module _ (M : Matrix) (i j r c : ℕ) where
   unfolding exchange
   exchange-second = entry-here (entry M i j (M r c)) r c (M i j)
 
+-- ---- a loop of exchanges: turn i exchanges (a i, b i) and (c i, d i)
+
+module _ (a b c d : ℕ → ℕ) where
+  abbrev pub swaps : ℕ → Matrix → Matrix
+  swaps i M = exchange M (a i) (b i) (c i) (d i)
+
+  -- turn i leaves (x, y)
+  abbrev pub Apart : ℕ → ℕ → ℕ → Type 0
+  Apart i x y = (x ≡ a i → y ≡ b i → ⊥) × (x ≡ c i → y ≡ d i → ⊥)
+
+  pub swaps-skip : (lo hi : ℕ) (M : Matrix) (x y : ℕ) → ((i : ℕ) → lo ≤ i → i < hi → Apart i x y) → for lo hi swaps M x y ≡ M x y
+  swaps-skip lo hi M x y apart =
+      for-still (λ (N : Matrix). N x y) lo hi swaps M (λ i N from upto. exchange-skip N (a i) (b i) (c i) (d i) x y (apart i from upto .0) (apart i from upto .1))
+
+  module _ (lo hi j : ℕ) (M : Matrix) (from : lo ≤ j) (upto : j < hi)
+      (apart : (i : ℕ) → lo ≤ i → i < hi → (i ≡ j → ⊥) → Apart i (a j) (b j) × Apart i (c j) (d j)) where
+    before : Matrix
+    before = for lo j swaps M
+
+    pub swaps-first : (a j ≡ c j → b j ≡ d j → ⊥) → for lo hi swaps M (a j) (b j) ≡ M (c j) (d j)
+    unfolding before
+    swaps-first two =
+        ap (λ (N : Matrix). N (a j) (b j)) (for-at lo hi j swaps M from upto)
+        ∙ swaps-skip (j + 1) hi (swaps j before) (a j) (b j) (λ i low high. apart i (omega arith) high (omega arith) .0)
+        ∙ exchange-first before (a j) (b j) (c j) (d j) two
+        ∙ swaps-skip lo j M (c j) (d j) (λ i low high. apart i low (omega arith) (omega arith) .1)
+
+    pub swaps-second : for lo hi swaps M (c j) (d j) ≡ M (a j) (b j)
+    unfolding before
+    swaps-second =
+        ap (λ (N : Matrix). N (c j) (d j)) (for-at lo hi j swaps M from upto)
+        ∙ swaps-skip (j + 1) hi (swaps j before) (c j) (d j) (λ i low high. apart i (omega arith) high (omega arith) .1)
+        ∙ exchange-second before (a j) (b j) (c j) (d j)
+        ∙ swaps-skip lo j M (a j) (b j) (λ i low high. apart i low (omega arith) (omega arith) .0)
+
 -- ---- a loop over rows that stores in its own row of column j
 
 module _ (j : ℕ) (new : ℕ → Matrix → Float) where
@@ -89,5 +127,24 @@ module _ (j : ℕ) (new : ℕ → Matrix → Float) where
   pub row-here : (lo hi : ℕ) (M : Matrix) (r : ℕ) → lo ≤ r → r < hi → for lo hi stores M r j ≡ new r (for lo r stores M)
   row-here lo hi M r from upto =
       ap (λ (N : Matrix). N r j) (for-at lo hi r stores M from upto)
-      ∙ row-other (r + 1) hi (stores r (for lo r stores M)) r j (λ i low high e. omega arith)
+      ∙ row-other (r + 1) hi (stores r (for lo r stores M)) r j (omega arith)
       ∙ entry-here (for lo r stores M) r j (new r (for lo r stores M))
+
+-- ---- a loop whose turn r changes row r alone, by what stands in it
+
+pub rows-each : (n : ℕ) (f : ℕ → Matrix → Matrix) (M : Matrix)
+    → ((r i : ℕ) (L : Matrix) → (i ≡ r → ⊥) → f r L i ≡ L i) → ((r : ℕ) (L N : Matrix) → L r ≡ N r → f r L r ≡ f r N r)
+    → (i : ℕ) → for 0 n f M i ≡ cond (ltb i n) (f i M i) (M i)
+rows-each n f M others own i = either (λ (row : ℕ → Float). for 0 n f M i ≡ row) (ltb i n) (λ t. inside (ltb-true i n t)) (λ t. outside (ltb-false i n t))
+  where
+    skips : (lo hi : ℕ) (L : Matrix) → ((r : ℕ) → lo ≤ r → r < hi → i ≡ r → ⊥) → for lo hi f L i ≡ L i
+    skips lo hi L apart = for-still (λ (N : Matrix). N i) lo hi f L (λ r N from upto. others r i N (apart r from upto))
+
+    inside : i < n → for 0 n f M i ≡ f i M i
+    inside below =
+        ap (λ (N : Matrix). N i) (for-at 0 n i f M (omega arith) below)
+        ∙ skips (i + 1) n (f i (for 0 i f M)) (omega arith)
+        ∙ own i (for 0 i f M) M (skips 0 i M (omega arith))
+
+    outside : n ≤ i → for 0 n f M i ≡ M i
+    outside past = skips 0 n M (omega arith)

@@ -10,11 +10,11 @@ use Rattle.answer.specs.declared.Answer.{Answer}
 use Rattle.answer.specs.declared.Answer.the-variants.{BadLine}
 use Rattle.matrix.specs.Matrix.{Matrix}
 use Rattle.matrix.specs.Grid.{load}
-use Rattle.matrix.specs.Layouts.{lower}
+use Rattle.matrix.specs.Layouts.{full, lower}
 use Rattle.pivots.specs.Words.{markAt, wordsOf, Sized}
 use Rattle.pivots.specs.Rule.{Accepted}
 use Rattle.pivots.proofs.Boundaries.{Upto, start, one, two, boundary-all, mark-row}
-use Rattle.lblt.specs.Factor.{full, factored, recorded}
+use Rattle.lblt.specs.Factor.{finalState, recorded}
 use Rattle.lblt.proofs.Accepted.{accepted}
 use Rattle.lblt_solve.specs.Diagonal.{determinantOf}
 use Rattle.sheet_text.specs.Sheet.{sheetLines, join, sheetOf, IsSheet, Begins, FirstWrong}
@@ -130,7 +130,7 @@ page-fits : (n : ℕ) (M : Matrix) (words : List ℕ) → n ≤ 64 → Sized n w
 unfolding pageFrom
 page-fits n M words small sized =
     let a = accepted n M words sized in
-    page-length n (recorded n M words) (factored n M words .matrix) (determinantOf n (factored n M words .matrix) (recorded n M words)) small
+    page-length n (recorded n M words) (finalState n M words .matrix) (determinantOf n (finalState n M words .matrix) (recorded n M words)) small
     (rows-short n (recorded n M words) small n (boundary-all a .before)) (mark-small n (recorded n M words) small a)
 
 words-sized : (n : ℕ) → n ≤ 64 → Sized n (take (wordsOf n) emptyWords)

@@ -8,15 +8,19 @@ use borrow.Author.Tests.{le-ltb, eq-eqb}
 use lib.Ieee.{Float, binary64, toBits}
 use lib.ListN.{length}
 use Rattle.answer.specs.declared.Valued.{Valued}
+use Rattle.answer.specs.declared.Answer.the-variants.{Done}
 use Rattle.answer.specs.Number.{isDone}
+use Rattle.answer.specs.Refusals.{tested}
 use Rattle.matrix.specs.Matrix.{Matrix}
 use Rattle.matrix.specs.Grid.{load}
-use Rattle.matrix.specs.Layouts.{startOf, lower}
+use Rattle.matrix.specs.Layouts.{full, startOf, sizeOf, lower}
 use Rattle.matrix.proofs.Places.{lower-at}
+use Rattle.matrix.proofs.Sizes.{full-roomy}
 use Rattle.matrix.specs.Rounded.{plusZero}
 use Rattle.pivots.specs.Words.{wordsOf, Sized}
 use Rattle.pivots.specs.Rule.{checked}
-use Rattle.lblt.specs.Factor.{answerOf, full, factored, recorded, Stored}
+use Rattle.lblt.specs.Factor.{factorTests, finalState, recorded, Stored}
+use Rattle.lblt.proofs.Done.{all-right}
 use Rattle.lblt.proofs.Accepted.{accepted}
 use Rattle.lblt_solve.specs.Calls.{lowerOf, readerAnswer, Determined}
 use Rattle.lblt_solve.specs.Diagonal.{determinantOf}
@@ -39,17 +43,16 @@ unfolding pageOf pageLines
 page-same n words a F det e = rw (bits-same n a F e)
 
 module _ (n : ℕ) (a : List Float) (words : List ℕ) (q : Square n a words) where
-  pub answer-done : isDone (answerOf n a words) ≡ true
-  unfolding answerOf
+  pub answer-done : isDone (tested (factorTests (full n) a words) Done) ≡ true
+  unfolding sizeOf
   answer-done =
-      let small = q .small in
-      let below : n ≤ 1024 = omega arith in
-      rw (le-ltb 1024 n below, eq-eqb (length a) (n * n) (q .long), eq-eqb (length words) (wordsOf n) (q .sized))
+      ap isDone
+      (all-right (full n) a words (record { roomy = full-roomy n (omega (arith, q .small)); rising = omega arith; long = q .long }) (q .sized))
 
   words-sized : Sized n words
   words-sized = record { order = omega (arith, q .small); total = q .sized }
 
-  module _ (a′ : List Float) (words′ : List ℕ) (s : Stored n a words a′ words′) (long : length a′ ≡ length a) (sized : length words′ ≡ length words) where
+  module _ (a′ : List Float) (words′ : List ℕ) (s : Stored (full n) a words a′ words′) (long : length a′ ≡ length a) (sized : length words′ ≡ length words) where
     record-accepted : isDone (checked n words′) ≡ true
     record-accepted = ap (λ (w : List ℕ). isDone (checked n w)) (s .pivots) ∙ accepted n (load (lower (full n)) a) words words-sized .done
 
@@ -60,18 +63,18 @@ module _ (n : ℕ) (a : List Float) (words : List ℕ) (q : Square n a words) wh
         let below : n ≤ 1024 = omega arith in
         rw (le-ltb 1024 n below, eq-eqb (length a′) (n * n) (long ∙ q .long), eq-eqb (length words′) (wordsOf n) (sized ∙ q .sized)) record-accepted
 
-    determinant-is : (v : Valued) → Determined n a′ words′ v → v .value ≡ determinantOf n (factored n (load (lower (full n)) a) words .matrix) (recorded n (load (lower (full n)) a) words)
+    determinant-is : (v : Valued) → Determined n a′ words′ v → v .value ≡ determinantOf n (finalState n (load (lower (full n)) a) words .matrix) (recorded n (load (lower (full n)) a) words)
     unfolding lowerOf
     determinant-is v d =
         d .value
         ∙ ap (λ (done : Bool). cond done (determinantOf n (lowerOf n a′) words′) plusZero) (ap isDone (d .answer) ∙ reader-done)
         ∙ ap (λ (M : Matrix). determinantOf n M words′) (s .matrix .cells)
-        ∙ ap (determinantOf n (factored n (load (lower (full n)) a) words .matrix)) (s .pivots)
+        ∙ ap (determinantOf n (finalState n (load (lower (full n)) a) words .matrix)) (s .pivots)
 
     -- the page that is written is that of the matrix that was given
     pub page-is : (v : Valued) → Determined n a′ words′ v → pageOf n words′ (matrixIn n a′) (v .value) ≡ pageFrom n (load (lower (full n)) a) words
     unfolding pageFrom
     page-is v d =
-        page-same n words′ a′ (factored n (load (lower (full n)) a) words .matrix) (v .value) (s .matrix .cells)
-        ∙ ap (λ (w : List ℕ). pageOf n w (factored n (load (lower (full n)) a) words .matrix) (v .value)) (s .pivots)
-        ∙ ap (pageOf n (recorded n (load (lower (full n)) a) words) (factored n (load (lower (full n)) a) words .matrix)) (determinant-is v d)
+        page-same n words′ a′ (finalState n (load (lower (full n)) a) words .matrix) (v .value) (s .matrix .cells)
+        ∙ ap (λ (w : List ℕ). pageOf n w (finalState n (load (lower (full n)) a) words .matrix) (v .value)) (s .pivots)
+        ∙ ap (pageOf n (recorded n (load (lower (full n)) a) words) (finalState n (load (lower (full n)) a) words .matrix)) (determinant-is v d)

@@ -5,9 +5,8 @@ use Prim.Native.Nat.{ℕ, _*_, _≤_}
 use lib.Ieee.{Float}
 use lib.ListN.{length}
 use Rattle.matrix.specs.Grid.{load}
-use Rattle.matrix.specs.Layouts.{lower}
+use Rattle.matrix.specs.Layouts.{full, lower}
 use Rattle.pivots.specs.Words.{wordsOf}
-use Rattle.lblt.specs.Factor.{full}
 use Rattle.sheet_page.specs.Put.{Put}
 use Rattle.sheet.specs.Respond.{pageFrom, emptyRoom, emptyWords}
 

@@ -8,9 +8,9 @@ use Rattle.answer.specs.declared.Answer.{Answer}
 use Rattle.answer.specs.declared.Answer.the-variants.{Done, BadLine}
 use Rattle.matrix.specs.Matrix.{Matrix}
 use Rattle.matrix.specs.Grid.{load}
-use Rattle.matrix.specs.Layouts.{lower}
+use Rattle.matrix.specs.Layouts.{full, lower}
 use Rattle.pivots.specs.Words.{wordsOf}
-use Rattle.lblt.specs.Factor.{full, factored, recorded}
+use Rattle.lblt.specs.Factor.{finalState, recorded}
 use Rattle.lblt_solve.specs.Diagonal.{determinantOf}
 use Rattle.sheet_text.specs.Place.{places}
 use Rattle.sheet_text.specs.Sheet.{sheetOf, IsSheet, FirstWrong, stored}
@@ -21,7 +21,7 @@ use Rattle.sheet.specs.declared.Responded.{Responded}
 -- order, pivots, mark, factor, determinant, and the number of pivot and entry lines, of a matrix and a record to write in
 unfoldable pub pageFrom : ℕ → Matrix → List ℕ → List ℕ
 pageFrom n M words =
-    pageOf n (recorded n M words) (factored n M words .matrix) (determinantOf n (factored n M words .matrix) (recorded n M words))
+    pageOf n (recorded n M words) (finalState n M words .matrix) (determinantOf n (finalState n M words .matrix) (recorded n M words))
 
 -- room for 4,096 numbers, and for the record of 64 rows
 abbrev pub emptyRoom : List Float

@@ -10,9 +10,9 @@ use borrow.Author.Tests.{eqb-true, eqb-false}
 use Rattle.matrix.specs.Matrix.{Matrix, entry, exchange}
 use Rattle.matrix.specs.Loop.{for}
 use Rattle.lblt.specs.Interchange.{swapBelow, swapBetween, interchange, brought1, brought2}
-use Rattle.lblt.proofs.Loops.{for-still, for-at}
-use Rattle.lblt.proofs.Entries.{entry-here, entry-row, entry-column}
-use Rattle.lblt.proofs.Range.{either}
+use Rattle.matrix.proofs.Tests.{either}
+use Rattle.matrix.proofs.Loops.{for-still, for-at}
+use Rattle.matrix.proofs.Stores.{entry-here, entry-row, entry-column}
 use Rattle.twins.specs.Twins.{symmetric}
 use Rattle.twins.proofs.Clauses.{at-lower, at-upper}
 

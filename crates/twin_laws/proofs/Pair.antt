@@ -17,11 +17,11 @@ use Rattle.pivots.specs.Words.{paired, marked}
 use Rattle.matrix.specs.Rounded.{_⊗_, _⊘_, plusZero, one}
 use Rattle.lblt.specs.Choice.{α, columnMax, choiceBy, choose, contest, rowMax}
 use Rattle.lblt.specs.declared.choice.Choice.{Choice}
-use Rattle.lblt.specs.declared.choice.Choice.the-variants.{Null, One}
+use Rattle.lblt.specs.declared.choice.Choice.the-variants.{ZeroColumn, One}
 use Rattle.lblt.specs.Interchange.{brought1}
-use Rattle.lblt.specs.Step.{State, firstMark, pivot1, take, step, run}
+use Rattle.lblt.specs.Step.{State, firstMark, pivot1, take, step, stepped}
 use Rattle.lblt.specs.Update.{update1, eliminate1}
-use Rattle.lblt.specs.Factor.{begun, factored, recorded}
+use Rattle.lblt.specs.Factor.{firstState, finalState, recorded}
 use Rattle.lblt.proofs.Entries.{updated1}
 use Rattle.twin_laws.proofs.Share.{share-not-above}
 use Rattle.twin_laws.proofs.Lblt.{trail, in-place1}
@@ -83,27 +83,27 @@ gone-zero (fin s m e) h =
     ∙ size-zero (fin s m e) ∙ h
 
 -- two equal sizes: nothing, or the diagonal
-equal-sizes : (x : Float) → T (fits binary64 x) → (c : Choice) → cond (eq (maximumOf (absOf x) (absOf x)) plusZero) Null (cond (lt (absOf x) (α ⊗ absOf x)) c (One 0)) ≡ cond (eq x plusZero) Null (One 0)
+equal-sizes : (x : Float) → T (fits binary64 x) → (c : Choice) → cond (eq (maximumOf (absOf x) (absOf x)) plusZero) ZeroColumn (cond (lt (absOf x) (α ⊗ absOf x)) c (One 0)) ≡ cond (eq x plusZero) ZeroColumn (One 0)
 equal-sizes x held c = rw (maximum-same (absOf x), size-zero x) (pick (eq x plusZero) refl)
   where
-    pick : (b : Bool) → eq x plusZero ≡ b → cond b Null (cond (lt (absOf x) (α ⊗ absOf x)) c (One 0)) ≡ cond b Null (One 0)
+    pick : (b : Bool) → eq x plusZero ≡ b → cond b ZeroColumn (cond (lt (absOf x) (α ⊗ absOf x)) c (One 0)) ≡ cond b ZeroColumn (One 0)
     pick true e = refl
     pick false e = rw (not-below-share x held e)
 
-first-choice : (M : Matrix) (x : Float) → T (fits binary64 x) → M 0 0 ≡ x → M 1 0 ≡ x → choose 2 M 0 ≡ cond (eq x plusZero) Null (One 0)
+first-choice : (M : Matrix) (x : Float) → T (fits binary64 x) → M 0 0 ≡ x → M 1 0 ≡ x → choose 2 M 0 ≡ cond (eq x plusZero) ZeroColumn (One 0)
 unfolding choose choiceBy columnMax for turns
 first-choice M x held corner side =
-    ap (λ (y : Float). cond (eq (maximumOf (absOf y) (absOf (M 1 0))) plusZero) Null (cond (lt (absOf y) (α ⊗ absOf (M 1 0))) c (One 0))) corner
-    ∙ ap (λ (y : Float). cond (eq (maximumOf (absOf x) (absOf y)) plusZero) Null (cond (lt (absOf x) (α ⊗ absOf y)) c (One 0))) side
+    ap (λ (y : Float). cond (eq (maximumOf (absOf y) (absOf (M 1 0))) plusZero) ZeroColumn (cond (lt (absOf y) (α ⊗ absOf (M 1 0))) c (One 0))) corner
+    ∙ ap (λ (y : Float). cond (eq (maximumOf (absOf x) (absOf y)) plusZero) ZeroColumn (cond (lt (absOf x) (α ⊗ absOf y)) c (One 0))) side
     ∙ equal-sizes x held c
   where
     c : Choice
     c = contest M 0 (record { imax = 1; colmax = absOf (M 1 0) }) (rowMax 2 M 0 1)
 
-last-choice : (N : Matrix) → choose 2 N 1 ≡ cond (gone (N 1 1)) Null (One 1)
+last-choice : (N : Matrix) → choose 2 N 1 ≡ cond (gone (N 1 1)) ZeroColumn (One 1)
 unfolding choose choiceBy columnMax gone
 last-choice N =
-    ap (λ (b : Bool). cond (eq (maximumOf (absOf (N 1 1)) plusZero) plusZero) Null (cond b (contest N 1 (record { imax = 0; colmax = plusZero }) (rowMax 2 N 1 0)) (One 1))) (not-below-nothing (N 1 1))
+    ap (λ (b : Bool). cond (eq (maximumOf (absOf (N 1 1)) plusZero) plusZero) ZeroColumn (cond b (contest N 1 (record { imax = 0; colmax = plusZero }) (rowMax 2 N 1 0)) (One 1))) (not-below-nothing (N 1 1))
 
 -- ---- the whole answer
 
@@ -118,28 +118,28 @@ module _ (M : Matrix) (x : Float) (held : T (fits binary64 x)) (corner : M 0 0 �
 
   -- the state after a first choice, and after both
   after : Choice → State
-  after first = take 2 (begun M words) first
+  after first = take 2 (firstState M words) first
 
-  both : (first last : Choice) → choose 2 M 0 ≡ first → choose 2 (after first .matrix) 1 ≡ last → after first .row ≡ 1 → factored 2 M words ≡ take 2 (after first) last
-  unfolding factored run step after begun
+  both : (first last : Choice) → choose 2 M 0 ≡ first → choose 2 (after first .matrix) 1 ≡ last → after first .row ≡ 1 → finalState 2 M words ≡ take 2 (after first) last
+  unfolding finalState stepped step after firstState
   both first last e f one-row =
-      ap (λ (ch : Choice). run 1 2 (take 2 (begun M words) ch)) e
+      ap (λ (ch : Choice). stepped 1 2 (take 2 (firstState M words) ch)) e
       ∙ ap (λ (b : Bool). cond b (take 2 (after first) (choose 2 (after first .matrix) (after first .row))) (after first)) (ap (λ (r : ℕ). ltb r 2) one-row)
       ∙ ap (λ (r : ℕ). take 2 (after first) (choose 2 (after first .matrix) r)) one-row
       ∙ ap (take 2 (after first)) f
 
-  recorded-by : (s : State) → factored 2 M words ≡ s → recorded 2 M words ≡ marked 2 (s .words) (s .mark)
+  recorded-by : (s : State) → finalState 2 M words ≡ s → recorded 2 M words ≡ marked 2 (s .words) (s .mark)
   unfolding recorded
   recorded-by s e = ap (λ (t : State). marked 2 (t .words) (t .mark)) e
 
   -- x zero: both columns are null, the mark is row 0, and nothing is changed
-  pub pair-zero : eq x plusZero ≡ true → (recorded 2 M words ≡ 0 ∷ 1 ∷ 1 ∷ 1 ∷ 1 ∷ []) × (factored 2 M words .matrix ≡ M)
-  unfolding after begun take firstMark paired marked
+  pub pair-zero : eq x plusZero ≡ true → (recorded 2 M words ≡ 0 ∷ 1 ∷ 1 ∷ 1 ∷ 1 ∷ []) × (finalState 2 M words .matrix ≡ M)
+  unfolding after firstState take firstMark paired marked
   pair-zero none =
-      let first : choose 2 M 0 ≡ Null = first-choice M x held corner side ∙ ap (λ (b : Bool). cond b Null (One 0)) none in
-      let last : choose 2 M 1 ≡ Null = last-choice M ∙ ap (λ (b : Bool). cond b Null (One 1)) (ap gone end ∙ gone-zero x none) in
-      let is : factored 2 M words ≡ take 2 (after Null) Null = both Null Null first last refl in
-      (recorded-by (take 2 (after Null) Null) is, ap (λ (s : State). s .matrix) is)
+      let first : choose 2 M 0 ≡ ZeroColumn = first-choice M x held corner side ∙ ap (λ (b : Bool). cond b ZeroColumn (One 0)) none in
+      let last : choose 2 M 1 ≡ ZeroColumn = last-choice M ∙ ap (λ (b : Bool). cond b ZeroColumn (One 1)) (ap gone end ∙ gone-zero x none) in
+      let is : finalState 2 M words ≡ take 2 (after ZeroColumn) ZeroColumn = both ZeroColumn ZeroColumn first last refl in
+      (recorded-by (take 2 (after ZeroColumn) ZeroColumn) is, ap (λ (s : State). s .matrix) is)
 
   -- what is left of the second's diagonal
   left-over : pivot1 2 0 0 M 1 1 ≡ trail x x x x
@@ -149,22 +149,22 @@ module _ (M : Matrix) (x : Float) (held : T (fits binary64 x)) (corner : M 0 0 �
       ∙ updated1 2 0 M .trailing 1 1 (lit< tt) (lit≤ tt) (lit< tt)
       ∙ rw (corner, side, end)
 
-  by-left-over : (b : Bool) → choose 2 (pivot1 2 0 0 M) 1 ≡ cond b Null (One 1) → choose 2 M 0 ≡ One 0
-      → (recorded 2 M words ≡ 0 ∷ 1 ∷ 1 ∷ 1 ∷ cond b 2 0 ∷ []) × (factored 2 M words .matrix ≡ pivot1 2 0 0 M)
-  unfolding after begun take firstMark paired marked
+  by-left-over : (b : Bool) → choose 2 (pivot1 2 0 0 M) 1 ≡ cond b ZeroColumn (One 1) → choose 2 M 0 ≡ One 0
+      → (recorded 2 M words ≡ 0 ∷ 1 ∷ 1 ∷ 1 ∷ cond b 2 0 ∷ []) × (finalState 2 M words .matrix ≡ pivot1 2 0 0 M)
+  unfolding after firstState take firstMark paired marked
   by-left-over true last first =
-      let is : factored 2 M words ≡ take 2 (after (One 0)) Null = both (One 0) Null first last refl in
-      (recorded-by (take 2 (after (One 0)) Null) is, ap (λ (s : State). s .matrix) is)
+      let is : finalState 2 M words ≡ take 2 (after (One 0)) ZeroColumn = both (One 0) ZeroColumn first last refl in
+      (recorded-by (take 2 (after (One 0)) ZeroColumn) is, ap (λ (s : State). s .matrix) is)
   by-left-over false last first =
-      let is : factored 2 M words ≡ take 2 (after (One 0)) (One 1) = both (One 0) (One 1) first last refl in
+      let is : finalState 2 M words ≡ take 2 (after (One 0)) (One 1) = both (One 0) (One 1) first last refl in
       (recorded-by (take 2 (after (One 0)) (One 1)) is, ap (λ (s : State). s .matrix) is ∙ last-pivot (pivot1 2 0 0 M))
 
   -- any other x: a pivot of size 1 in its place, and the mark is row 1 if nothing is left
-  pub pair-other : eq x plusZero ≡ false → (recorded 2 M words ≡ 0 ∷ 1 ∷ 1 ∷ 1 ∷ cond (gone (trail x x x x)) 2 0 ∷ []) × (factored 2 M words .matrix ≡ pivot1 2 0 0 M)
+  pub pair-other : eq x plusZero ≡ false → (recorded 2 M words ≡ 0 ∷ 1 ∷ 1 ∷ 1 ∷ cond (gone (trail x x x x)) 2 0 ∷ []) × (finalState 2 M words .matrix ≡ pivot1 2 0 0 M)
   pair-other some =
       by-left-over (gone (trail x x x x))
-      (last-choice (pivot1 2 0 0 M) ∙ ap (λ (y : Float). cond (gone y) Null (One 1)) left-over)
-      (first-choice M x held corner side ∙ ap (λ (b : Bool). cond b Null (One 0)) some)
+      (last-choice (pivot1 2 0 0 M) ∙ ap (λ (y : Float). cond (gone y) ZeroColumn (One 1)) left-over)
+      (first-choice M x held corner side ∙ ap (λ (b : Bool). cond b ZeroColumn (One 0)) some)
 
   -- the factor's entries then: x, x·(1/x), x + (x·(−1/x))·x
   pub pair-entries : (pivot1 2 0 0 M 0 0 ≡ x) × ((pivot1 2 0 0 M 1 0 ≡ x ⊗ (one ⊘ x)) × (pivot1 2 0 0 M 1 1 ≡ trail x x x x))

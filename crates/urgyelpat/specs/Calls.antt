@@ -4,6 +4,7 @@ use Prim.Native.Nat.{ℕ}
 use lib.Ieee.{Float}
 use Rattle.answer.specs.declared.Answer.{Answer}
 use Rattle.answer.specs.Number.{numberOf}
+use Rattle.matrix.specs.Layouts.{full}
 use Rattle.lblt.specs.Factor as lblt
 use Rattle.lblt_solve.specs.Calls as readers
 use Rattle.lblt_solve.specs.Diagonal.{dOf}
@@ -20,7 +21,7 @@ use Rattle.urgyelpat.specs.declared.Determined.{Determined}
 -- ---- LBLT
 
 abbrev pub LbltFactor : ℕ → List Float → List ℕ → ℕ → List Float → List ℕ → Type 0
-LbltFactor n a words r a' words' = Passed numberOf (λ (answer : Answer). lblt.Factored n a words answer a' words') r
+LbltFactor n a words r a' words' = Passed numberOf (λ (answer : Answer). lblt.Factored (full n) a words answer a' words') r
 
 abbrev pub LbltSolve : ℕ → ℕ → List Float → List ℕ → List Float → ℕ → List Float → Type 0
 LbltSolve n columns a words b r b' = Passed numberOf (λ (answer : Answer). readers.Solved n columns a words b answer b') r

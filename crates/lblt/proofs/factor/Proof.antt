@@ -1,31 +1,41 @@
 -- `factor` meets its promise. Assumes nothing.
+use mathlib.Core.Path.{sym, _∙_}
 use borrow.Author.Needs.{needs}
 use denote.Ref.{now}
 use native.Mathlib.Omega.{arith}
-use Rattle.lblt.proofs.Done.{square-small, full-roomy, full-sound, out-of-range, matrix-length, slice-length, finished}
+use Rattle.answer.proofs.Done.{code-refused}
+use Rattle.matrix.specs.Layouts.{full}
+use Rattle.matrix.proofs.Sizes.{laid-fits}
+use Rattle.lblt.proofs.Done.{right-size, wrong-size, wrong-record, finished}
 use Rattle.lblt.proofs.factor.Statement.{statement}
 use Rattle.lblt.proofs.factor.Tie as tie
 
-returns : tie.Need-returns
-returns c = out-of-range (c .if1 .taken)
+full-requires : tie.Need-full-requires
+full-requires c κs = search needs
 
-mul-if2 : tie.Need-mul-if2
-mul-if2 c = omega (arith, square-small (c .before .before .before .args .n) (c .if1 .left))
+check-requires : tie.Need-check-requires
+check-requires c κs = search needs
+
+code-requires : tie.Need-code-requires
+code-requires c κs = search needs
+
+returns : tie.Need-returns
+returns c = wrong-size (full (c .before .before .before .before .before .before .args .n)) _ _ (rw (c .before .before .before .full .ensures) at (c .before .before .check .ensures)) (code-refused (c .before .before .check .result) (c .before .code .ensures) (c .if1 .taken))
+
+words-requires : tie.Need-words-requires
+words-requires c κs =
+    let fits = right-size (c .before .before .before .before .before .before .args .n) (now (c .before .before .before .before .before .before .args .a)) (c .before .before .check .result) (c .before .before .before .full .ensures) (c .before .before .check .ensures) (c .before .code .ensures) (c .if1 .left) in
+    fits .roomy .small
 
 returns-2 : tie.Need-returns-2
-returns-2 c = matrix-length (c .before .if1 .left) (c .if2 .taken)
-
-mul-if3 : tie.Need-mul-if3
-mul-if3 c = omega arith
-
-add-if3 : tie.Need-add-if3
-add-if3 c = omega arith
-
-returns-3 : tie.Need-returns-3
-returns-3 c = slice-length (c .before .before .if1 .left) (c .before .if2 .left) (c .if3 .taken)
+returns-2 c =
+    let fits = right-size (c .before .before .before .before .before .before .before .before .args .n) (now (c .before .before .before .before .before .before .before .before .args .a)) (c .before .before .before .before .check .result) (c .before .before .before .before .before .full .ensures) (c .before .before .before .before .check .ensures) (c .before .before .before .code .ensures) (c .before .before .if1 .left) in
+    wrong-record (full (c .before .before .before .before .before .before .before .before .args .n)) _ _ fits (λ e. c .if2 .taken (e ∙ sym (c .before .words .ensures)))
 
 steps-requires : tie.Need-steps-requires
-steps-requires c κs = (full-roomy (c .before .before .before .before .before .before .before .args .n) (c .before .before .before .before .if1 .left), (full-sound (c .before .before .before .before .before .before .before .args .n) (now (c .before .before .before .before .before .before .before .args .a)) (c .before .before .before .before .if1 .left) (c .before .before .before .if2 .left), record { order = (c .before .before .before .before .if1 .left); total = c .before .before .if3 .left }))
+steps-requires c κs =
+    let fits = right-size (c .before .before .before .before .before .before .before .before .before .before .args .n) (now (c .before .before .before .before .before .before .before .before .before .before .args .a)) (c .before .before .before .before .before .before .check .result) (c .before .before .before .before .before .before .before .full .ensures) (c .before .before .before .before .before .before .check .ensures) (c .before .before .before .before .before .code .ensures) (c .before .before .before .before .if1 .left) in
+    rw (c .before .before .before .before .before .before .before .full .ensures) (laid-fits fits, record { order = fits .roomy .small; total = c .before .before .if2 .left ∙ c .before .before .before .words .ensures })
 
 put-mark-requires : tie.Need-put-mark-requires
 put-mark-requires c κs = omega arith
@@ -36,8 +46,12 @@ same-length c = search needs
 same-length-2 : tie.Need-same-length-2
 same-length-2 c = search needs
 
-returns-4 : tie.Need-returns-4
-returns-4 c = finished (c .before .before .before .before .before .before .before .before .before .before .before .before .before .if1 .left) (c .before .before .before .before .before .before .before .before .before .before .before .before .if2 .left) (c .before .before .before .before .before .before .before .before .before .before .before .if3 .left) (c .before .before .before .before .before .before .before .before .steps .ensures) (c .before .before .put-mark .ensures)
+returns-3 : tie.Need-returns-3
+returns-3 c =
+    let fits = right-size (c .before .before .before .before .before .before .before .before .before .before .before .before .before .before .before .before .before .before .before .args .n) (now (c .before .before .before .before .before .before .before .before .before .before .before .before .before .before .before .before .before .before .before .args .a)) (c .before .before .before .before .before .before .before .before .before .before .before .before .before .before .before .check .result) (c .before .before .before .before .before .before .before .before .before .before .before .before .before .before .before .before .full .ensures) (c .before .before .before .before .before .before .before .before .before .before .before .before .before .before .before .check .ensures) (c .before .before .before .before .before .before .before .before .before .before .before .before .before .before .code .ensures) (c .before .before .before .before .before .before .before .before .before .before .before .before .before .if1 .left) in
+    finished (full (c .before .before .before .before .before .before .before .before .before .before .before .before .before .before .before .before .before .before .before .args .n)) _ _ fits (c .before .before .before .before .before .before .before .before .before .before .before .if2 .left ∙ c .before .before .before .before .before .before .before .before .before .before .before .before .words .ensures) (rw (c .before .before .before .before .before .before .before .before .before .before .before .before .before .before .before .before .full .ensures) at (c .before .before .before .before .before .before .before .before .steps .ensures)) (c .before .before .put-mark .ensures)
 
 pub factor-spec : {M : Type 1} → statement M
-factor-spec = tie.close (tie.spec returns mul-if2 returns-2 mul-if3 add-if3 returns-3 steps-requires put-mark-requires same-length same-length-2 returns-4)
+factor-spec =
+    tie.close
+    (tie.spec full-requires check-requires code-requires returns words-requires returns-2 steps-requires put-mark-requires same-length same-length-2 returns-3)

@@ -1,4 +1,5 @@
 -- `pivot1` meets its contract. Assumes nothing.
+use Rattle.matrix.proofs.Sizes.{laid-after}
 use borrow.Author.Needs.{needs}
 use native.Mathlib.Omega.{arith}
 use Rattle.lblt.proofs.Stands.{pivots1}
@@ -6,10 +7,10 @@ use Rattle.lblt.proofs.pivot1.Statement.{statement}
 use Rattle.lblt.proofs.pivot1.Tie as tie
 
 bring1-requires : tie.Need-bring1-requires
-bring1-requires c κs = (c .before .before .pre .0, (c .before .before .pre .1 .0, (omega arith, omega arith)))
+bring1-requires c κs = (c .before .before .pre .0, (omega arith, omega arith))
 
 update1-requires : tie.Need-update1-requires
-update1-requires c κs = (c .before .before .before .before .before .before .pre .0, (c .before .before .before .bring1 .ensures .sound, omega arith))
+update1-requires c κs = (laid-after (c .before .before .before .before .before .before .pre .0) (c .before .before .before .bring1 .ensures), omega arith)
 
 same-length : tie.Need-same-length
 same-length c = search needs

@@ -1,4 +1,5 @@
 -- `pivot2` meets its contract. Assumes nothing.
+use Rattle.matrix.proofs.Sizes.{laid-after}
 use borrow.Author.Needs.{needs}
 use native.Mathlib.Omega.{arith}
 use Rattle.lblt.proofs.Stands.{pivots2}
@@ -6,10 +7,10 @@ use Rattle.lblt.proofs.pivot2.Statement.{statement}
 use Rattle.lblt.proofs.pivot2.Tie as tie
 
 bring2-requires : tie.Need-bring2-requires
-bring2-requires c κs = (c .before .before .pre .0, (c .before .before .pre .1 .0, (omega arith, omega arith)))
+bring2-requires c κs = (c .before .before .pre .0, (omega arith, omega arith))
 
 update2-requires : tie.Need-update2-requires
-update2-requires c κs = (c .before .before .before .before .before .before .pre .0, (c .before .before .before .bring2 .ensures .sound, omega arith))
+update2-requires c κs = (laid-after (c .before .before .before .before .before .before .pre .0) (c .before .before .before .bring2 .ensures), omega arith)
 
 same-length : tie.Need-same-length
 same-length c = search needs

@@ -1,8 +1,9 @@
 -- `steps` meets its contract: a loop over the steps. Assumes nothing.
+use Rattle.matrix.proofs.Sizes.{laid-after}
 use Prim.Native.Nat.{_-_}
 use mathlib.Core.Path.{_∙_, sym}
 use native.Mathlib.Omega.{arith}
-use Rattle.lblt.proofs.Runs.{Going, going-none, rises, going-more, going-all}
+use Rattle.lblt.proofs.Going.{Going, going-none, rises, going-more, going-all}
 use Rattle.lblt.proofs.steps.Statement.{statement}
 use Rattle.lblt.proofs.steps.Tie as tie
 
@@ -13,10 +14,10 @@ abbrev μ-loop : tie.MeasureT-loop
 μ-loop y a₀ words₀ n s₀ a words s = n - s .row
 
 loop-holds : tie.Need-loop-holds Inv-loop μ-loop
-loop-holds c = going-none (c .before .before .pre .1 .0) (c .before .before .pre .1 .1)
+loop-holds c = going-none (c .before .before .pre .0 .sound) (c .before .before .pre .1)
 
 step-requires : tie.Need-step-requires Inv-loop μ-loop
-step-requires c κs = (c .before .before .before .before .before .before .before .pre .0, (c .before .before .before .before .loop .inv .holds .sound, (c .before .before .before .before .loop .inv .sized, c .before .before .if1 .taken)))
+step-requires c κs = (laid-after (c .before .before .before .before .before .before .before .pre .0) (c .before .before .before .before .loop .inv .holds), (c .before .before .before .before .loop .inv .sized, c .before .before .if1 .taken))
 
 loop-less : tie.Need-loop-less Inv-loop μ-loop
 loop-less c = omega (arith, rises _ _ (c .before .before .before .before .step .ensures))
@@ -25,10 +26,10 @@ loop-again : tie.Need-loop-again Inv-loop μ-loop
 loop-again c = going-more (c .before .before .before .before .before .before .before .before .before .loop .inv) (c .before .before .before .before .before .before .before .if1 .taken) (omega arith) (c .before .before .before .before .step .ensures)
 
 same-length : tie.Need-same-length Inv-loop μ-loop
-same-length c = c .before .before .loop .inv .holds .sound .long ∙ sym (c .before .before .before .before .before .pre .1 .0 .long)
+same-length c = c .before .before .loop .inv .holds .sound .long ∙ sym (c .before .before .before .before .before .pre .0 .sound .long)
 
 same-length-2 : tie.Need-same-length-2 Inv-loop μ-loop
-same-length-2 c = c .before .before .loop .inv .sized .total ∙ sym (c .before .before .before .before .before .pre .1 .1 .total)
+same-length-2 c = c .before .before .loop .inv .sized .total ∙ sym (c .before .before .before .before .before .pre .1 .total)
 
 returns : tie.Need-returns Inv-loop μ-loop
 returns c = going-all (c .before .before .loop .inv) (c .if1 .left)

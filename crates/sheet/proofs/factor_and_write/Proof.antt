@@ -26,7 +26,7 @@ same-length-3 : tie.Need-same-length-3
 same-length-3 c = c .before .before .put-page .ensures .long
 
 returns : tie.Need-returns
-returns c = put-same (page-is _ _ _ (c .before .before .before .before .before .before .before .before .before .before .before .before .before .before .before .before .before .before .before .pre) _ _ (c .before .before .before .before .before .before .before .before .before .before .before .before .before .factor .ensures .done (ap isDone (c .before .before .before .before .before .before .before .before .before .before .before .before .before .factor .ensures .answer) ∙ answer-done _ _ _ (c .before .before .before .before .before .before .before .before .before .before .before .before .before .before .before .before .before .before .before .pre))) (c .before .before .before .before .before .before .before .before .before .before .before .before .before .factor .kept .0) (c .before .before .before .before .before .before .before .before .before .before .before .before .before .factor .kept .1 .0) _ (c .before .before .before .before .before .before .determinant .ensures)) (c .before .before .put-page .ensures)
+returns c = put-same (page-is _ _ _ (c .before .before .before .before .before .before .before .before .before .before .before .before .before .before .before .before .before .before .before .pre) _ _ (c .before .before .before .before .before .before .before .before .before .before .before .before .before .factor .ensures .left .done (ap isDone (c .before .before .before .before .before .before .before .before .before .before .before .before .before .factor .ensures .answer) ∙ answer-done _ _ _ (c .before .before .before .before .before .before .before .before .before .before .before .before .before .before .before .before .before .before .before .pre))) (c .before .before .before .before .before .before .before .before .before .before .before .before .before .factor .kept .0) (c .before .before .before .before .before .before .before .before .before .before .before .before .before .factor .kept .1 .0) _ (c .before .before .before .before .before .before .determinant .ensures)) (c .before .before .put-page .ensures)
 
 pub factor-and-write-spec : {M : Type 1} → statement M
 factor-and-write-spec =

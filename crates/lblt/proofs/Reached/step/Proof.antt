@@ -2,12 +2,12 @@
 use borrow.Author.Needs.{needs}
 use native.Mathlib.Omega.{arith}
 use Rattle.lblt.proofs.Range.{one-range, two-range}
-use Rattle.lblt.proofs.Stands.{stands-null, stands-one, stands-two}
+use Rattle.lblt.proofs.Stands.{stands-zero-column, stands-one, stands-two}
 use Rattle.lblt.proofs.Reached.step.Statement.{statement}
 use Rattle.lblt.proofs.Reached.step.Tie as tie
 
 choose-requires : tie.Need-choose-requires
-choose-requires c κs = (c .before .before .before .pre .0, (c .before .before .before .pre .1 .0, c .before .before .before .pre .1 .1 .1))
+choose-requires c κs = (c .before .before .before .pre .0, c .before .before .before .pre .1 .1)
 
 enum-told : tie.Need-enum-told
 enum-told c = search needs
@@ -25,10 +25,10 @@ enum-known-p : tie.Need-enum-known-p
 enum-known-p c = search needs
 
 pivot1-requires : tie.Need-pivot1-requires
-pivot1-requires c κs = let range = one-range _ (c .before .before .before .before .before .before .before .before .pre .1 .1 .1) (c .before .before .before .before .choose .ensures) (c .before .before .p .given .1) in (c .before .before .before .before .before .before .before .before .pre .0, (c .before .before .before .before .before .before .before .before .pre .1 .0, range))
+pivot1-requires c κs = let range = one-range _ (c .before .before .before .before .before .before .before .before .pre .1 .1) (c .before .before .before .before .choose .ensures) (c .before .before .p .given .1) in (c .before .before .before .before .before .before .before .before .pre .0, range)
 
 one-requires-2 : tie.Need-one-requires-2
-one-requires-2 c κs = let range = one-range _ (c .before .before .before .before .before .before .before .before .before .before .before .before .pre .1 .1 .1) (c .before .before .before .before .before .before .before .before .choose .ensures) (c .before .before .before .before .before .before .p .given .1) in omega arith
+one-requires-2 c κs = let range = one-range _ (c .before .before .before .before .before .before .before .before .before .before .before .before .pre .1 .1) (c .before .before .before .before .before .before .before .before .choose .ensures) (c .before .before .before .before .before .before .p .given .1) in omega arith
 
 add-t23 : tie.Need-add-t23
 add-t23 c = omega arith
@@ -37,10 +37,10 @@ enum-known-p-2 : tie.Need-enum-known-p-2
 enum-known-p-2 c = search needs
 
 pivot2-requires : tie.Need-pivot2-requires
-pivot2-requires c κs = let range = two-range _ (c .before .before .before .before .before .before .before .before .pre .1 .1 .1) (c .before .before .before .before .choose .ensures) (c .before .before .p2 .given .1) in (c .before .before .before .before .before .before .before .before .pre .0, (c .before .before .before .before .before .before .before .before .pre .1 .0, range))
+pivot2-requires c κs = let range = two-range _ (c .before .before .before .before .before .before .before .before .pre .1 .1) (c .before .before .before .before .choose .ensures) (c .before .before .p2 .given .1) in (c .before .before .before .before .before .before .before .before .pre .0, range)
 
 two-requires : tie.Need-two-requires
-two-requires c κs = let range = two-range _ (c .before .before .before .before .before .before .before .before .before .before .before .before .pre .1 .1 .1) (c .before .before .before .before .before .before .before .before .choose .ensures) (c .before .before .before .before .before .before .p2 .given .1) in omega arith
+two-requires c κs = let range = two-range _ (c .before .before .before .before .before .before .before .before .before .before .before .before .pre .1 .1) (c .before .before .before .before .before .before .before .before .choose .ensures) (c .before .before .before .before .before .before .p2 .given .1) in omega arith
 
 add-t29 : tie.Need-add-t29
 add-t29 c = omega arith
@@ -52,7 +52,7 @@ same-length-2 : tie.Need-same-length-2
 same-length-2 c = search needs
 
 returns : tie.Need-returns
-returns c = stands-null _ _ (c .before .before .before .before .before .before .before .choose .ensures) (c .before .before .before .before .before .enum-told .given .1) (c .before .before .before .before .before .before .before .before .before .before .before .pre .1 .0) (c .before .before .before .one .ensures) (c .first-mark .ensures)
+returns c = stands-zero-column _ _ (c .before .before .before .before .before .before .before .choose .ensures) (c .before .before .before .before .before .enum-told .given .1) (c .before .before .before .before .before .before .before .before .before .before .before .pre .0 .sound) (c .before .before .before .one .ensures) (c .first-mark .ensures)
 
 same-length-3 : tie.Need-same-length-3
 same-length-3 c = search needs

@@ -3,28 +3,28 @@ use Rattle.leaf.specs.Abs.{absOf}
 use borrow.Author.Needs.{needs}
 use mathlib.Core.Path.{ap, _∙_}
 use native.Mathlib.Omega.{arith}
-use Rattle.lblt.proofs.Choices.{chooses-null, chooses-contest, chooses-diagonal}
+use Rattle.lblt.proofs.Choices.{chooses-zero-column, chooses-contest, chooses-diagonal}
 use Rattle.lblt.proofs.Range.{contest-range}
 use Rattle.lblt.proofs.choice.choose.Statement.{statement}
 use Rattle.lblt.proofs.choice.choose.Tie as tie
 
 get-requires : tie.Need-get-requires
-get-requires c κs = (c .before .pre .0, (c .before .pre .1 .0, (omega arith, omega arith)))
+get-requires c κs = (c .before .pre .0, (omega arith, omega arith))
 
 abs-requires : tie.Need-abs-requires
 abs-requires c κs = search needs
 
 column-max-requires : tie.Need-column-max-requires
-column-max-requires c κs = (c .before .before .before .pre .0, (c .before .before .before .pre .1 .0, omega arith))
+column-max-requires c κs = (c .before .before .before .pre .0, omega arith)
 
 maximum-requires : tie.Need-maximum-requires
 maximum-requires c κs = search needs
 
 returns : tie.Need-returns
-returns c = chooses-null _ _ _ (c .before .before .before .abs .ensures ∙ ap absOf (c .before .before .before .before .get .ensures)) (c .before .before .column-max .ensures) (c .before .maximum .ensures) (c .if1 .taken)
+returns c = chooses-zero-column _ _ _ (c .before .before .before .abs .ensures ∙ ap absOf (c .before .before .before .before .get .ensures)) (c .before .before .column-max .ensures) (c .before .maximum .ensures) (c .if1 .taken)
 
 contest-requires : tie.Need-contest-requires
-contest-requires c κs = let below = contest-range _ _ _ (c .before .before .before .before .before .abs .ensures ∙ ap absOf (c .before .before .before .before .before .before .get .ensures)) (c .before .before .before .before .column-max .ensures) (c .if2 .taken) in (c .before .before .before .before .before .before .before .before .pre .0, (c .before .before .before .before .before .before .before .before .pre .1 .0, (omega arith, (below .1, (c .before .before .before .before .before .abs .ensures ∙ ap absOf (c .before .before .before .before .before .before .get .ensures))))))
+contest-requires c κs = let below = contest-range _ _ _ (c .before .before .before .before .before .abs .ensures ∙ ap absOf (c .before .before .before .before .before .before .get .ensures)) (c .before .before .before .before .column-max .ensures) (c .if2 .taken) in (c .before .before .before .before .before .before .before .before .pre .0, (omega arith, (below .1, (c .before .before .before .before .before .abs .ensures ∙ ap absOf (c .before .before .before .before .before .before .get .ensures)))))
 
 returns-2 : tie.Need-returns-2
 returns-2 c = chooses-contest _ _ _ (c .before .before .before .before .before .before .abs .ensures ∙ ap absOf (c .before .before .before .before .before .before .before .get .ensures)) (c .before .before .before .before .before .column-max .ensures) (c .before .before .before .before .maximum .ensures) (c .before .before .before .if1 .left) (c .before .if2 .taken) (c .contest .ensures)

@@ -32,7 +32,7 @@ add-get : tie.Need-add-get Inv-loop μ-loop
 add-get c = omega arith
 
 get-requires : tie.Need-get-requires Inv-loop μ-loop
-get-requires c κs = (c .before .before .pre .0, (c .before .before .pre .1 .0, (omega arith, omega arith)))
+get-requires c κs = (c .before .before .pre .0, (omega arith, omega arith))
 
 abs-requires : tie.Need-abs-requires Inv-loop μ-loop
 abs-requires c κs = search needs
@@ -44,7 +44,7 @@ loop-holds : tie.Need-loop-holds Inv-loop μ-loop
 loop-holds c = ran-none (omega arith)
 
 greater-requires : tie.Need-greater-requires Inv-loop μ-loop
-greater-requires c κs = (c .before .before .before .before .before .before .pre .0, (c .before .before .before .before .before .before .pre .1 .0, (omega arith, omega arith)))
+greater-requires c κs = (c .before .before .before .before .before .before .pre .0, (omega arith, omega arith))
 
 add-i-2 : tie.Need-add-i-2 Inv-loop μ-loop
 add-i-2 c = omega arith

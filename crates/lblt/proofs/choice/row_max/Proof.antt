@@ -25,7 +25,7 @@ loop-holds : tie.Need-loop-holds Inv-loop μ-loop Inv-loop2 μ-loop2
 loop-holds c = ran-none (omega arith)
 
 along-row-requires : tie.Need-along-row-requires Inv-loop μ-loop Inv-loop2 μ-loop2
-along-row-requires c κs = (c .before .before .before .pre .0, (c .before .before .before .pre .1 .0, (omega arith, omega arith)))
+along-row-requires c κs = (c .before .before .before .pre .0, (omega arith, omega arith))
 
 add-j : tie.Need-add-j Inv-loop μ-loop Inv-loop2 μ-loop2
 add-j c = omega arith
@@ -43,7 +43,7 @@ loop2-holds : tie.Need-loop2-holds Inv-loop μ-loop Inv-loop2 μ-loop2
 loop2-holds c = ran-none (omega arith)
 
 down-column-requires : tie.Need-down-column-requires Inv-loop μ-loop Inv-loop2 μ-loop2
-down-column-requires c κs = (c .before .before .before .before .before .pre .0, (c .before .before .before .before .before .pre .1 .0, (omega arith, omega arith)))
+down-column-requires c κs = (c .before .before .before .before .before .pre .0, (omega arith, omega arith))
 
 add-j-3 : tie.Need-add-j-3 Inv-loop μ-loop Inv-loop2 μ-loop2
 add-j-3 c = omega arith

@@ -6,10 +6,10 @@ use Rattle.lblt.proofs.interchange.bring1.Statement.{statement}
 use Rattle.lblt.proofs.interchange.bring1.Tie as tie
 
 returns : tie.Need-returns
-returns c = in-place1 _ _ _ (c .if1 .taken) (c .before .before .pre .1 .0)
+returns c = in-place1 _ _ _ (c .if1 .taken) (c .before .before .pre .0 .sound)
 
 interchange-requires : tie.Need-interchange-requires
-interchange-requires c κs = (c .before .before .before .pre .0, (c .before .before .before .pre .1 .0, (omega arith, omega arith)))
+interchange-requires c κs = (c .before .before .before .pre .0, (omega arith, omega arith))
 
 same-length : tie.Need-same-length
 same-length c = search needs

@@ -1,4 +1,5 @@
 -- `bring2` meets its contract. Assumes nothing.
+use Rattle.matrix.proofs.Sizes.{laid-after}
 use borrow.Author.Needs.{needs}
 use native.Mathlib.Omega.{arith}
 use Rattle.lblt.proofs.Interchanges.{in-place2, brings2}
@@ -9,19 +10,19 @@ add-if1 : tie.Need-add-if1
 add-if1 c = omega arith
 
 returns : tie.Need-returns
-returns c = in-place2 _ _ _ (c .if1 .taken) (c .before .before .pre .1 .0)
+returns c = in-place2 _ _ _ (c .if1 .taken) (c .before .before .pre .0 .sound)
 
 add-interchange : tie.Need-add-interchange
 add-interchange c = omega arith
 
 interchange-requires : tie.Need-interchange-requires
-interchange-requires c κs = (c .before .before .before .pre .0, (c .before .before .before .pre .1 .0, (omega arith, omega arith)))
+interchange-requires c κs = (c .before .before .before .pre .0, (omega arith, omega arith))
 
 add-swap : tie.Need-add-swap
 add-swap c = omega arith
 
 swap-requires : tie.Need-swap-requires
-swap-requires c κs = (c .before .before .before .before .before .before .before .pre .0, (c .before .before .before .interchange .ensures .sound, (omega arith, (omega arith, (omega arith, omega arith)))))
+swap-requires c κs = (laid-after (c .before .before .before .before .before .before .before .pre .0) (c .before .before .before .interchange .ensures), (omega arith, (omega arith, (omega arith, omega arith))))
 
 same-length : tie.Need-same-length
 same-length c = search needs

@@ -1,4 +1,5 @@
 -- `interchange` meets its contract. Assumes nothing.
+use Rattle.matrix.proofs.Sizes.{laid-after}
 use borrow.Author.Needs.{needs}
 use native.Mathlib.Omega.{arith}
 use Rattle.lblt.proofs.Interchanges.{interchanges}
@@ -6,13 +7,13 @@ use Rattle.lblt.proofs.interchange.interchange.Statement.{statement}
 use Rattle.lblt.proofs.interchange.interchange.Tie as tie
 
 swap-below-requires : tie.Need-swap-below-requires
-swap-below-requires c κs = (c .before .before .pre .0, (c .before .before .pre .1 .0, (omega arith, omega arith)))
+swap-below-requires c κs = (c .before .before .pre .0, (omega arith, omega arith))
 
 swap-between-requires : tie.Need-swap-between-requires
-swap-between-requires c κs = (c .before .before .before .before .before .before .pre .0, (c .before .before .before .swap-below .ensures .sound, (omega arith, omega arith)))
+swap-between-requires c κs = (laid-after (c .before .before .before .before .before .before .pre .0) (c .before .before .before .swap-below .ensures), (omega arith, omega arith))
 
 swap-requires : tie.Need-swap-requires
-swap-requires c κs = (c .before .before .before .before .before .before .before .before .before .before .pre .0, (c .before .before .before .swap-between .ensures .sound, (omega arith, (omega arith, (omega arith, omega arith)))))
+swap-requires c κs = (laid-after (c .before .before .before .before .before .before .before .before .before .before .pre .0) (c .before .before .before .swap-between .ensures), (omega arith, (omega arith, (omega arith, omega arith))))
 
 same-length : tie.Need-same-length
 same-length c = search needs

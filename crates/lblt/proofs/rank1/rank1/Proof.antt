@@ -1,4 +1,5 @@
 -- `rank1` meets its contract. Assumes nothing.
+use Rattle.matrix.proofs.Sizes.{laid-after}
 use Prim.Native.Nat.{_-_}
 use Rattle.matrix.proofs.Grids.{Turned, turned-none, turned-more, turned-all}
 use Rattle.matrix.specs.Layouts.{lower}
@@ -16,13 +17,13 @@ abbrev μ-loop : tie.MeasureT-loop
 μ-loop y a₀ k inv j n ajk i₀ a i = n - i
 
 get-requires : tie.Need-get-requires Inv-loop μ-loop
-get-requires c κs = (c .before .before .pre .0, (c .before .before .pre .1 .0, (omega arith, omega arith)))
+get-requires c κs = (c .before .before .pre .0, (omega arith, omega arith))
 
 loop-holds : tie.Need-loop-holds Inv-loop μ-loop
-loop-holds c = turned-none (c .before .before .before .pre .1 .0) (omega arith)
+loop-holds c = turned-none (c .before .before .before .pre .0 .sound) (omega arith)
 
 rank1-at-requires : tie.Need-rank1-at-requires Inv-loop μ-loop
-rank1-at-requires c κs = (c .before .before .before .before .before .before .pre .0, (c .before .before .loop .inv .holds .sound, (omega arith, (omega arith, omega arith))))
+rank1-at-requires c κs = (laid-after (c .before .before .before .before .before .before .pre .0) (c .before .before .loop .inv .holds), (omega arith, (omega arith, omega arith)))
 
 add-i : tie.Need-add-i Inv-loop μ-loop
 add-i c = omega arith
@@ -34,7 +35,7 @@ loop-again : tie.Need-loop-again Inv-loop μ-loop
 loop-again c = turned-more (c .before .before .before .before .before .loop .inv) (c .before .before .before .before .loop-test .taken) (c .before .before .rank1-at .ensures)
 
 same-length : tie.Need-same-length Inv-loop μ-loop
-same-length c = c .before .loop .inv .holds .sound .long ∙ sym (c .before .before .before .before .before .pre .1 .0 .long)
+same-length c = c .before .loop .inv .holds .sound .long ∙ sym (c .before .before .before .before .before .pre .0 .sound .long)
 
 returns : tie.Need-returns Inv-loop μ-loop
 returns c = updates-column _ _ _ _ (c .before .before .get .ensures) (turned-all (c .before .loop .inv) (c .loop-test .left))

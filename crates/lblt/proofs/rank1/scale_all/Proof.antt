@@ -1,4 +1,5 @@
 -- `scale_all` meets its contract. Assumes nothing.
+use Rattle.matrix.proofs.Sizes.{laid-after}
 use Prim.Native.Nat.{_+_, _-_}
 use Rattle.matrix.proofs.Grids.{Turned, turned-none, turned-more, turned-all}
 use Rattle.matrix.specs.Layouts.{lower}
@@ -18,10 +19,10 @@ add-i : tie.Need-add-i Inv-loop μ-loop
 add-i c = omega arith
 
 loop-holds : tie.Need-loop-holds Inv-loop μ-loop
-loop-holds c = turned-none (c .before .pre .1 .0) (omega arith)
+loop-holds c = turned-none (c .before .pre .0 .sound) (omega arith)
 
 scale-at-requires : tie.Need-scale-at-requires Inv-loop μ-loop
-scale-at-requires c κs = (c .before .before .before .before .pre .0, (c .before .before .loop .inv .holds .sound, (omega arith, omega arith)))
+scale-at-requires c κs = (laid-after (c .before .before .before .before .pre .0) (c .before .before .loop .inv .holds), (omega arith, omega arith))
 
 add-i-2 : tie.Need-add-i-2 Inv-loop μ-loop
 add-i-2 c = omega arith
@@ -33,7 +34,7 @@ loop-again : tie.Need-loop-again Inv-loop μ-loop
 loop-again c = turned-more (c .before .before .before .before .before .loop .inv) (c .before .before .before .before .loop-test .taken) (c .before .before .scale-at .ensures)
 
 same-length : tie.Need-same-length Inv-loop μ-loop
-same-length c = c .before .loop .inv .holds .sound .long ∙ sym (c .before .before .before .pre .1 .0 .long)
+same-length c = c .before .loop .inv .holds .sound .long ∙ sym (c .before .before .before .pre .0 .sound .long)
 
 returns : tie.Need-returns Inv-loop μ-loop
 returns c = turned-all (c .before .loop .inv) (c .loop-test .left)

@@ -1,4 +1,5 @@
 -- `update1` meets its contract. Assumes nothing.
+use Rattle.matrix.proofs.Sizes.{laid-after}
 use borrow.Author.Needs.{needs}
 use native.Mathlib.Omega.{arith}
 use Rattle.lblt.proofs.Updates.{updates1}
@@ -6,13 +7,13 @@ use Rattle.lblt.proofs.rank1.update1.Statement.{statement}
 use Rattle.lblt.proofs.rank1.update1.Tie as tie
 
 get-requires : tie.Need-get-requires
-get-requires c κs = (c .before .before .pre .0, (c .before .before .pre .1 .0, (omega arith, omega arith)))
+get-requires c κs = (c .before .before .pre .0, (omega arith, omega arith))
 
 rank1-all-requires : tie.Need-rank1-all-requires
-rank1-all-requires c κs = (c .before .before .before .before .pre .0, (c .before .before .before .before .pre .1 .0, omega arith))
+rank1-all-requires c κs = (c .before .before .before .before .pre .0, omega arith)
 
 scale-all-requires : tie.Need-scale-all-requires
-scale-all-requires c κs = (c .before .before .before .before .before .before .before .before .pre .0, (c .before .before .before .rank1-all .ensures .sound, omega arith))
+scale-all-requires c κs = (laid-after (c .before .before .before .before .before .before .before .before .pre .0) (c .before .before .before .rank1-all .ensures), omega arith)
 
 same-length : tie.Need-same-length
 same-length c = search needs

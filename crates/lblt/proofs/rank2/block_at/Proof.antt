@@ -9,7 +9,7 @@ add-get : tie.Need-add-get
 add-get c = omega arith
 
 get-requires : tie.Need-get-requires
-get-requires c κs = (c .before .pre .0, (c .before .pre .1 .0, (omega arith, omega arith)))
+get-requires c κs = (c .before .pre .0, (omega arith, omega arith))
 
 abs-requires : tie.Need-abs-requires
 abs-requires c κs = search needs
@@ -21,10 +21,10 @@ add-get-3 : tie.Need-add-get-3
 add-get-3 c = omega arith
 
 get-requires-2 : tie.Need-get-requires-2
-get-requires-2 c κs = (c .before .before .before .pre .0, (c .before .before .before .pre .1 .0, (omega arith, omega arith)))
+get-requires-2 c κs = (c .before .before .before .pre .0, (omega arith, omega arith))
 
 get-requires-3 : tie.Need-get-requires-3
-get-requires-3 c κs = (c .before .before .before .before .pre .0, (c .before .before .before .before .pre .1 .0, (omega arith, omega arith)))
+get-requires-3 c κs = (c .before .before .before .before .pre .0, (omega arith, omega arith))
 
 returns : tie.Need-returns
 returns c = blocks _ _ (c .before .before .before .get .ensures) (c .before .before .abs .ensures) (c .before .get2 .ensures) (c .get3 .ensures)

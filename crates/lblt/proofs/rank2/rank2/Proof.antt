@@ -1,4 +1,5 @@
 -- `rank2` meets its contract. Assumes nothing.
+use Rattle.matrix.proofs.Sizes.{laid-after}
 use borrow.Author.Needs.{needs}
 use native.Mathlib.Omega.{arith}
 use Rattle.lblt.proofs.Updates.{updates-row}
@@ -6,13 +7,13 @@ use Rattle.lblt.proofs.rank2.rank2.Statement.{statement}
 use Rattle.lblt.proofs.rank2.rank2.Tie as tie
 
 work-at-requires : tie.Need-work-at-requires
-work-at-requires c κs = (c .before .before .pre .0, (c .before .before .pre .1 .0, (omega arith, omega arith)))
+work-at-requires c κs = (c .before .before .pre .0, (omega arith, omega arith))
 
 rank2-column-requires : tie.Need-rank2-column-requires
-rank2-column-requires c κs = (c .before .before .before .before .pre .0, (c .before .before .before .before .pre .1 .0, (omega arith, omega arith)))
+rank2-column-requires c κs = (c .before .before .before .before .pre .0, (omega arith, omega arith))
 
 store-work-requires : tie.Need-store-work-requires
-store-work-requires c κs = (c .before .before .before .before .before .before .before .before .pre .0, (c .before .before .before .rank2-column .ensures .sound, (omega arith, omega arith)))
+store-work-requires c κs = (laid-after (c .before .before .before .before .before .before .before .before .pre .0) (c .before .before .before .rank2-column .ensures), (omega arith, omega arith))
 
 same-length : tie.Need-same-length
 same-length c = search needs

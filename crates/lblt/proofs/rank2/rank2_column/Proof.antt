@@ -1,10 +1,11 @@
 -- `rank2_column` meets its contract. Assumes nothing.
+use Rattle.matrix.proofs.Sizes.{laid-after}
 use Prim.Native.Nat.{_-_}
 use Rattle.matrix.proofs.Grids.{Turned, turned-none, turned-more, turned-all}
 use Rattle.matrix.specs.Layouts.{lower}
 use mathlib.Core.Path.{_∙_, sym}
 use native.Mathlib.Omega.{arith}
-use Rattle.lblt.specs.Engine.{workedAt}
+use Rattle.lblt.specs.inner.Engine.{workedAt}
 use Rattle.lblt.proofs.rank2.rank2_column.Statement.{statement}
 use Rattle.lblt.proofs.rank2.rank2_column.Tie as tie
 
@@ -15,10 +16,10 @@ abbrev μ-loop : tie.MeasureT-loop
 μ-loop y a₀ k j w n i₀ a i = n - i
 
 loop-holds : tie.Need-loop-holds Inv-loop μ-loop
-loop-holds c = turned-none (c .before .pre .1 .0) (omega arith)
+loop-holds c = turned-none (c .before .pre .0 .sound) (omega arith)
 
 rank2-at-requires : tie.Need-rank2-at-requires Inv-loop μ-loop
-rank2-at-requires c κs = (c .before .before .before .before .pre .0, (c .before .before .loop .inv .holds .sound, (omega arith, (omega arith, omega arith))))
+rank2-at-requires c κs = (laid-after (c .before .before .before .before .pre .0) (c .before .before .loop .inv .holds), (omega arith, (omega arith, omega arith)))
 
 add-i : tie.Need-add-i Inv-loop μ-loop
 add-i c = omega arith
@@ -30,7 +31,7 @@ loop-again : tie.Need-loop-again Inv-loop μ-loop
 loop-again c = turned-more (c .before .before .before .before .before .loop .inv) (c .before .before .before .before .loop-test .taken) (c .before .before .rank2-at .ensures)
 
 same-length : tie.Need-same-length Inv-loop μ-loop
-same-length c = c .before .loop .inv .holds .sound .long ∙ sym (c .before .before .before .pre .1 .0 .long)
+same-length c = c .before .loop .inv .holds .sound .long ∙ sym (c .before .before .before .pre .0 .sound .long)
 
 returns : tie.Need-returns Inv-loop μ-loop
 returns c = turned-all (c .before .loop .inv) (c .loop-test .left)

@@ -1,21 +1,22 @@
 -- `store_work` meets its contract. Assumes nothing.
+use Rattle.matrix.proofs.Sizes.{laid-after}
 use Prim.Native.Nat.{_+_}
 use Rattle.matrix.proofs.Grids.{holds-then}
 use Rattle.matrix.specs.Matrix.{Matrix, entry}
 use borrow.Author.Needs.{needs}
 use native.Mathlib.Omega.{arith}
-use Rattle.lblt.specs.Engine.{storeWork}
+use Rattle.lblt.specs.inner.Engine.{storeWork}
 use Rattle.lblt.proofs.rank2.store_work.Statement.{statement}
 use Rattle.lblt.proofs.rank2.store_work.Tie as tie
 
 put-requires : tie.Need-put-requires
-put-requires c κs = (c .before .before .pre .0, (c .before .before .pre .1 .0, (omega arith, omega arith)))
+put-requires c κs = (c .before .before .pre .0, (omega arith, omega arith))
 
 add-put : tie.Need-add-put
 add-put c = omega arith
 
 put-requires-2 : tie.Need-put-requires-2
-put-requires-2 c κs = (c .before .before .before .before .before .before .pre .0, (c .before .before .before .put .ensures .sound, (omega arith, omega arith)))
+put-requires-2 c κs = (laid-after (c .before .before .before .before .before .before .pre .0) (c .before .before .before .put .ensures), (omega arith, omega arith))
 
 same-length : tie.Need-same-length
 same-length c = search needs

@@ -6,10 +6,10 @@ use Rattle.lblt.proofs.rank2.update2.Statement.{statement}
 use Rattle.lblt.proofs.rank2.update2.Tie as tie
 
 block-at-requires : tie.Need-block-at-requires
-block-at-requires c κs = (c .before .before .pre .0, (c .before .before .pre .1 .0, omega arith))
+block-at-requires c κs = (c .before .before .pre .0, omega arith)
 
 rank2-all-requires : tie.Need-rank2-all-requires
-rank2-all-requires c κs = (c .before .before .before .before .pre .0, (c .before .before .before .before .pre .1 .0, omega arith))
+rank2-all-requires c κs = (c .before .before .before .before .pre .0, omega arith)
 
 same-length : tie.Need-same-length
 same-length c = search needs

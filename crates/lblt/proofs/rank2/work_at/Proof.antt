@@ -1,18 +1,18 @@
 -- `work_at` meets its contract. Assumes nothing.
 use borrow.Author.Needs.{needs}
 use native.Mathlib.Omega.{arith}
-use Rattle.lblt.specs.Engine.{workAt}
+use Rattle.lblt.specs.inner.Engine.{workAt}
 use Rattle.lblt.proofs.rank2.work_at.Statement.{statement}
 use Rattle.lblt.proofs.rank2.work_at.Tie as tie
 
 get-requires : tie.Need-get-requires
-get-requires c κs = (c .before .pre .0, (c .before .pre .1 .0, (omega arith, omega arith)))
+get-requires c κs = (c .before .pre .0, (omega arith, omega arith))
 
 add-get : tie.Need-add-get
 add-get c = omega arith
 
 get-requires-2 : tie.Need-get-requires-2
-get-requires-2 c κs = (c .before .before .pre .0, (c .before .before .pre .1 .0, (omega arith, omega arith)))
+get-requires-2 c κs = (c .before .before .pre .0, (omega arith, omega arith))
 
 work-requires : tie.Need-work-requires
 work-requires c κs = search needs

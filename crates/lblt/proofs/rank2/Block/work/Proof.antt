@@ -1,7 +1,7 @@
 -- `work` meets its contract. Assumes nothing.
 use borrow.Author.Needs.{needs}
 use Rattle.lblt.specs.Update.{work1, work2}
-use Rattle.lblt.specs.Engine.{workBy}
+use Rattle.lblt.specs.inner.Engine.{workBy}
 use Rattle.lblt.proofs.rank2.Block.work.Statement.{statement}
 use Rattle.lblt.proofs.rank2.Block.work.Tie as tie
 

@@ -1,4 +1,4 @@
--- What the engine's parts promise. The promise of `factor` does not rest on these.
+-- What the engine's parts promise each other. The promise of `factor` does not rest on these.
 use mathlib.Core.Path.{_≡_}
 use mathlib.Core.List.{List}
 use Prim.Native.Nat.{ℕ, _+_}
@@ -9,16 +9,16 @@ use Rattle.matrix.specs.Layouts.{lower}
 use Rattle.matrix.specs.declared.Layout.{Layout}
 use Rattle.lblt.specs.Update.{rank1At, work1, work2, rank2At}
 use Rattle.lblt.specs.Step.{State}
-use Rattle.lblt.specs.Factor.{factored}
+use Rattle.lblt.specs.Factor.{finalState}
 use Rattle.lblt.specs.declared.Reached.{Reached}
 use Rattle.lblt.specs.declared.rank2.Block.{Block}
 use Rattle.lblt.specs.declared.rank2.Work.{Work}
 
 -- ---- the updates go by pairs of neighbouring columns j and j + 1
 
--- row i of both, size 1
-unfoldable pub both1At : ℕ → ℕ → Float → Float → Float → ℕ → Matrix → Matrix
-both1At k j inv ajk aj1k i M = rank1At k (j + 1) inv aj1k i (rank1At k j inv ajk i M)
+-- row i of the pair, size 1
+unfoldable pub rank1PairAt : ℕ → ℕ → Float → Float → Float → ℕ → Matrix → Matrix
+rank1PairAt k j inv ajk aj1k i M = rank1At k (j + 1) inv aj1k i (rank1At k j inv ajk i M)
 
 -- w1 and w2 of row j
 unfoldable pub workBy : Block → Float → Float → Work
@@ -33,9 +33,9 @@ workedAt k j w = rank2At k j (w .w1) (w .w2)
 unfoldable pub storeWork : ℕ → ℕ → Work → Matrix → Matrix
 storeWork k j w M = entry (entry M j k (w .w1)) j (k + 1) (w .w2)
 
--- row i of both, size 2
-unfoldable pub both2At : ℕ → ℕ → Work → Work → ℕ → Matrix → Matrix
-both2At k j w v i M = workedAt k (j + 1) v i (workedAt k j w i M)
+-- row i of the pair, size 2
+unfoldable pub rank2PairAt : ℕ → ℕ → Work → Work → ℕ → Matrix → Matrix
+rank2PairAt k j w v i M = workedAt k (j + 1) v i (workedAt k j w i M)
 
 -- ---- steps
 
@@ -52,6 +52,6 @@ pub record Stands (y : Layout) (a₀ a : List Float) (words : List ℕ) (r : Rea
 
 -- all steps on a layout: a holds the factor, words the pairs, and the mark is m
 pub record Steps (y : Layout) (a : List Float) (words : List ℕ) (a' : List Float) (words' : List ℕ) (m : ℕ) : Type 0 where
-  pub matrix : Holds (lower y) a a' (factored (y .order) (load (lower y) a) words .matrix)
-  pub pairs : words' ≡ factored (y .order) (load (lower y) a) words .words
-  pub mark : m ≡ factored (y .order) (load (lower y) a) words .mark
+  pub matrix : Holds (lower y) a a' (finalState (y .order) (load (lower y) a) words .matrix)
+  pub pairs : words' ≡ finalState (y .order) (load (lower y) a) words .words
+  pub mark : m ≡ finalState (y .order) (load (lower y) a) words .mark
