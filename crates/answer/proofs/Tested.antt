@@ -5,6 +5,7 @@
 --   tested-each  what is true of each refusal, and of what comes after where all hold, is true of the answer
 --   all-hold     done: all tests hold
 --   tested-fixed refused: the answer does not hang on what comes after
+--   tested-first nor on further tests
 -- Assumes nothing.
 use mathlib.Core.Path.{_≡_, refl, sym, _∙_, ap}
 use mathlib.Core.Bool.{Bool, true, false, cond, true≢false}
@@ -90,6 +91,9 @@ tested-fixed (t ∷ tests) r refused = pick (t .holds) (tested-fixed tests r) re
         → isDone (cond b (tested tests Done) (t .refusal)) ≡ false → cond b (tested tests r) (t .refusal) ≡ cond b (tested tests Done) (t .refusal)
     pick true rest refused = rest refused
     pick false rest refused = refl
+
+pub tested-first : (tests more : List Test) (r : Answer) → isDone (tested tests Done) ≡ false → tested (tests ++ more) r ≡ tested tests Done
+tested-first tests more r refused = tested-join tests more r ∙ tested-fixed tests (tested more r) refused
 
 -- ---- what is left behind
 

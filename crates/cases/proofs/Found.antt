@@ -11,9 +11,12 @@ use Rattle.answer.specs.declared.Answer.the-variants.{Done}
 use Rattle.answer.specs.declared.Valued.{Valued}
 use Rattle.answer.specs.Number.{isDone}
 use Rattle.answer.specs.Refusals.{tested}
+use Rattle.answer.proofs.Done.{done-or-refused}
 use Rattle.leaf.specs.Root.{rootOf}
 use Rattle.matrix.specs.Grid.{load, mask}
-use Rattle.matrix.specs.Layouts.{full, lower, square}
+use Rattle.matrix.specs.Layouts.{full, inRoom, lower, square}
+use Rattle.matrix.specs.Sizes.{sizeTests}
+use Rattle.matrix.proofs.Sizes.{done-fits}
 use Rattle.lblt.specs.Choice.{columnMax}
 use Rattle.lblt.specs.Factor.{factorTests, finalState, recorded, Factored}
 use Rattle.lblt.proofs.Done.{Same}
@@ -21,9 +24,8 @@ use Rattle.lblt_column.specs.Column.{solveColumn}
 use Rattle.lblt_sides.specs.Columns.{eachColumn}
 use Rattle.lblt_solve.specs.Diagonal.{determinantOf}
 use Rattle.lblt_solve.specs.Calls.{lowerOf, readerAnswer, solveAnswer, Solved, Determined}
-use Rattle.cholesky.specs.Promise.{in-room, checked, batch, Extended}
-use Rattle.cholesky.specs.Solve.{solveAnswer as trianglesAnswer, solveSides, Solved as SolvedByTriangles}
-use Rattle.cholesky.proofs.Checks.{Checked, fit, unfit, check?}
+use Rattle.cholesky.specs.Promise.{batch, Extended}
+use Rattle.cholesky.specs.Solve.{sidesTests, solveSides, CholeskySolved}
 use Rattle.udu.specs.Promise.{Sizes, right, wrong, sizesOf, uduOf, answerBy, foundOf, LeftBy, Factored as FactoredUdu}
 use Rattle.cases.specs.Calls.{floats, bitsOf, answered, lentWords, lentFloats, Call, lbltFactor, lbltDeterminant, lbltSolve, lbltLargest, choleskyFactor, choleskySolve, choleskySolveSizes, uduFactor, root, Gives}
 use Rattle.matrix.proofs.Slices.{listed, is-listed, overlaid, holds-overlaid, fills-listed}
@@ -81,25 +83,26 @@ module _ (n : ℕ) (a : List Float) (words : List ℕ) where
 
 module _ (room n : ℕ) (a : List Float) where
   unfoldable pub choleskyAnswer : Answer
-  choleskyAnswer = checked room 0 n (length a) (batch room 0 n a .answer)
+  choleskyAnswer = tested (sizeTests (inRoom n room) 0 (length a)) (batch (inRoom n room) 0 a .answer)
 
   unfoldable pub choleskySlice : List Float
-  choleskySlice = cond (isDone (checked room 0 n (length a) Done)) (overlaid (in-room room n) a (mask (lower (in-room room n)) (batch room 0 n a .cells))) a
+  choleskySlice = cond (isDone (tested (sizeTests (inRoom n room) 0 (length a)) Done)) (overlaid (inRoom n room) a (mask (lower (inRoom n room)) (batch (inRoom n room) 0 a .cells))) a
 
-  pub extends : {l : List Float} {r : Answer} → Extended room 0 n a l r → (r ≡ choleskyAnswer) × (l ≡ choleskySlice)
+  pub extends : {l : List Float} {r : Answer} → Extended (inRoom n room) 0 a l r → (r ≡ choleskyAnswer) × (l ≡ choleskySlice)
   unfolding choleskyAnswer choleskySlice
-  extends {l} f = (f .answer, at (check? room 0 n (length a)))
-    where
-      at : Checked room 0 n (length a) → l ≡ cond (isDone (checked room 0 n (length a) Done)) (overlaid (in-room room n) a (mask (lower (in-room room n)) (batch room 0 n a .cells))) a
-      at (fit fits is) = rw (is Done) (holds-overlaid (fits .inside) (f .leaves fits .holds))
-      at (unfit none x code is) = rw (is Done, code) (f .unchanged none)
+  extends f = (
+    f .answer,
+    done-or-refused (tested (sizeTests (inRoom n room) 0 (length a)) Done)
+        (λ done. rw done (holds-overlaid (done-fits (inRoom n room) 0 (length a) Done done .roomy .ordered) (f .left .done done .holds)))
+        (λ failed. rw failed (f .left .refused failed)),
+  )
 
   unfoldable pub choleskySolveNumbers : List Float → List (List ℕ)
   choleskySolveNumbers b =
-      let r = trianglesAnswer room n 1 (length a) (length b) in
-      answered r ∷ bitsOf (cond (isDone r) (solveSides (lower (in-room room n)) n 1 a b) b) ∷ []
+      let r = tested (sidesTests (inRoom n room) 1 (length a) (length b)) Done in
+      answered r ∷ bitsOf (cond (isDone r) (solveSides (lower (inRoom n room)) n 1 a b) b) ∷ []
 
-  pub solves-triangles : {b c : List Float} {r : Answer} → SolvedByTriangles room n 1 a b c r → (answered r ∷ bitsOf c ∷ []) ≡ choleskySolveNumbers b
+  pub solves-triangles : {b c : List Float} {r : Answer} → CholeskySolved (inRoom n room) 1 a b c r → (answered r ∷ bitsOf c ∷ []) ≡ choleskySolveNumbers b
   unfolding choleskySolveNumbers
   solves-triangles s = rw (s .sides, s .answer)
 
@@ -143,7 +146,7 @@ found (lbltSolve n a b) = solveNumbers n (leftSlice n a) (leftWords n a) (floats
 found (lbltLargest n a k) = (columnMax n (load (lower (full n)) (floats a)) k .imax ∷ []) ∷ []
 found (choleskyFactor room n a) = answered (choleskyAnswer room n (floats a)) ∷ bitsOf (choleskySlice room n (floats a)) ∷ []
 found (choleskySolve room n a b) = choleskySolveNumbers room n (choleskySlice room n (floats a)) (floats b)
-found (choleskySolveSizes room n columns factor sides) = answered (trianglesAnswer room n columns factor sides) ∷ []
+found (choleskySolveSizes room n columns factor sides) = answered (tested (sidesTests (inRoom n room) columns factor sides) Done) ∷ []
 found (uduFactor n p) = uduNumbers n (floats p) (lentFloats (n * n)) (lentFloats n)
 found (root x) = (toBits binary64 (rootOf (ofBits binary64 x)) ∷ []) ∷ []
 
@@ -160,7 +163,7 @@ gives (lbltSolve n a b) = λ r s a' b' words f d.
 gives (lbltLargest n a k) = λ r e. rw e
 gives (choleskyFactor room n a) = λ r l f. let g = extends room n (floats a) f in rw (g .0, g .1)
 gives (choleskySolve room n a b) = λ r s l c f d.
-    let by : SolvedByTriangles room n 1 (choleskySlice room n (floats a)) (floats b) c s = rw (extends room n (floats a) f .1) at d in
+    let by : CholeskySolved (inRoom n room) 1 (choleskySlice room n (floats a)) (floats b) c s = rw (extends room n (floats a) f .1) at d in
     solves-triangles room n (choleskySlice room n (floats a)) by
 gives (choleskySolveSizes room n columns factor sides) = λ r a b c long wide d. rw (d .answer, long, wide)
 gives (uduFactor n p) = λ r u d f. factors-udu n (floats p) (lentFloats (n * n)) (lentFloats n) f

@@ -10,14 +10,14 @@ use Rattle.answer.specs.declared.Valued.{Valued}
 use Rattle.answer.specs.Number.{codeOf, placeOf}
 use Rattle.leaf.specs.Root.{rootOf}
 use Rattle.matrix.specs.Grid.{load}
-use Rattle.matrix.specs.Layouts.{full, lower}
+use Rattle.matrix.specs.Layouts.{full, inRoom, lower}
 use Rattle.pivots.specs.Words.{wordsOf}
 use Rattle.lblt.specs.declared.choice.Largest.{Largest}
 use Rattle.lblt.specs.Choice.{columnMax}
 use Rattle.lblt.specs.Factor.{Factored}
 use Rattle.lblt_solve.specs.Calls.{Solved, Determined}
 use Rattle.cholesky.specs.Promise.{Extended}
-use Rattle.cholesky.specs.Solve.{Solved as SolvedByTriangles}
+use Rattle.cholesky.specs.Solve.{CholeskySolved}
 use Rattle.udu.specs.Promise.{Factored as FactoredUdu}
 
 unfoldable pub floats : List ℕ → List Float
@@ -70,14 +70,14 @@ Gives (lbltSolve n a b) numbers =
 -- the row imax of column k
 Gives (lbltLargest n a k) numbers = (r : Largest) → r ≡ columnMax n (load (lower (full n)) (floats a)) k → ((r .imax ∷ []) ∷ []) ≡ numbers
 -- the answer, the slice
-Gives (choleskyFactor room n a) numbers = (r : Answer) (l : List Float) → Extended room 0 n (floats a) l r → (answered r ∷ bitsOf l ∷ []) ≡ numbers
+Gives (choleskyFactor room n a) numbers = (r : Answer) (l : List Float) → Extended (inRoom n room) 0 (floats a) l r → (answered r ∷ bitsOf l ∷ []) ≡ numbers
 -- by what the factor leaves: the answer, the right-hand side
 Gives (choleskySolve room n a b) numbers =
-    (r s : Answer) (l c : List Float) → Extended room 0 n (floats a) l r → SolvedByTriangles room n 1 l (floats b) c s
+    (r s : Answer) (l c : List Float) → Extended (inRoom n room) 0 (floats a) l r → CholeskySolved (inRoom n room) 1 l (floats b) c s
     → (answered s ∷ bitsOf c ∷ []) ≡ numbers
 -- by the lengths alone: the answer
 Gives (choleskySolveSizes room n columns factor sides) numbers =
-    (r : Answer) (a b c : List Float) → length a ≡ factor → length b ≡ sides → SolvedByTriangles room n columns a b c r
+    (r : Answer) (a b c : List Float) → length a ≡ factor → length b ≡ sides → CholeskySolved (inRoom n room) columns a b c r
     → (answered r ∷ []) ≡ numbers
 -- the answer, u, d
 Gives (uduFactor n p) numbers =

@@ -14,31 +14,32 @@ use Rattle.answer.specs.Number.{isDone}
 use Rattle.matrix.specs.Matrix.{Matrix, entry}
 use Rattle.matrix.specs.Loop.{for}
 use Rattle.matrix.proofs.Loops.{for-none, for-more, for-same, for-join}
-use Rattle.cholesky.specs.Run.{Rule, Outcome, updates, below, earlier, judged, worked, column, started, run}
+use Rattle.matrix.proofs.Stores.{entry-row}
+use Rattle.cholesky.specs.Run.{Rule, Outcome, updates, below, continued, judgedColumn, worked, factorColumn, started, factorColumns}
 use Rattle.cholesky.proofs.Parts.{Where, within, above, beside, where?, updated-agree}
-use Rattle.cholesky.proofs.Outcomes.{Like, stays, columns-like}
-use Rattle.cholesky.proofs.Rows.{Off, updates-in, updates-above, below-in, below-above, entry-off, columns-off, judged-passed}
+use Rattle.cholesky.proofs.Outcomes.{Like, refusal-stays, columns-like}
+use Rattle.cholesky.proofs.Rows.{Off, updates-in, updates-above, below-in, below-above, columns-off, judged-passed}
 
 -- a run that is not refused up to m was not refused before
-pub done-before : (ρ : Rule) (k lo hi : ℕ) (o : Outcome) → isDone (for lo hi (column ρ k) o .answer) ≡ true → isDone (o .answer) ≡ true
+pub done-before : (ρ : Rule) (k lo hi : ℕ) (o : Outcome) → isDone (for lo hi (factorColumn ρ k) o .answer) ≡ true → isDone (o .answer) ≡ true
 done-before ρ k lo hi o done = pick (isDone (o .answer)) refl
   where
     pick : (b : Bool) → isDone (o .answer) ≡ b → isDone (o .answer) ≡ true
     pick true e = e
-    pick false e = sym (ap (λ (p : Outcome). isDone (p .answer)) (stays ρ k lo hi o e)) ∙ done
+    pick false e = sym (ap (λ (p : Outcome). isDone (p .answer)) (refusal-stays ρ k lo hi o e)) ∙ done
 
 -- one column more
-column-done : (ρ : Rule) (k j : ℕ) (o : Outcome) → isDone (o .answer) ≡ true → column ρ k j o ≡ worked ρ k j (o .cells)
-unfolding column
+column-done : (ρ : Rule) (k j : ℕ) (o : Outcome) → isDone (o .answer) ≡ true → factorColumn ρ k j o ≡ worked ρ k j (o .cells)
+unfolding factorColumn
 column-done ρ k j o done = rw done
 
 module _ (ρ : Rule) (m n : ℕ) (A M : Matrix) (le : m ≤ n) where
   -- the one call and the batch, after j columns
   abbrev one : ℕ → Outcome
-  one j = for 0 j (column ρ 0) (started A)
+  one j = for 0 j (factorColumn ρ 0) (started A)
 
   abbrev two : ℕ → Outcome
-  two j = for 0 j (column ρ m) (started M)
+  two j = for 0 j (factorColumn ρ m) (started M)
 
   -- up to column m the batch's rows go with the one call's, and the rows before stay
   record Along (j : ℕ) : Type 0 where
@@ -53,19 +54,19 @@ module _ (ρ : Rule) (m n : ℕ) (A M : Matrix) (le : m ≤ n) where
     one-done : (j : ℕ) → j ≤ m → isDone (one j .answer) ≡ true
     one-done j upto =
         done-before ρ 0 j m (one j)
-        (ap (λ (o : Outcome). isDone (o .answer)) (for-join 0 j m (column ρ 0) (started A) (omega arith) upto) ∙ ap isDone done)
+        (ap (λ (o : Outcome). isDone (o .answer)) (for-join 0 j m (factorColumn ρ 0) (started A) (omega arith) upto) ∙ ap isDone done)
 
     along-none : Along 0
     along-none = record {
-      answer = ap (λ (o : Outcome). o .answer) (for-none 0 (column ρ m) (started M));
-      new = λ i c low from lt. ap (λ (o : Outcome). o .cells i c) (for-none 0 (column ρ m) (started M)) ∙ given i c low from lt ∙ sym (ap (λ (o : Outcome). o .cells i c) (for-none 0 (column ρ 0) (started A)));
-      old = λ i c lt. ap (λ (o : Outcome). o .cells i c) (for-none 0 (column ρ m) (started M));
+      answer = ap (λ (o : Outcome). o .answer) (for-none 0 (factorColumn ρ m) (started M));
+      new = λ i c low from lt. ap (λ (o : Outcome). o .cells i c) (for-none 0 (factorColumn ρ m) (started M)) ∙ given i c low from lt ∙ sym (ap (λ (o : Outcome). o .cells i c) (for-none 0 (factorColumn ρ 0) (started A)));
+      old = λ i c lt. ap (λ (o : Outcome). o .cells i c) (for-none 0 (factorColumn ρ m) (started M));
     }
 
     -- an entry that the columns from j on leave alone
     one-later : (i c j : ℕ) → j ≤ m → ((k : ℕ) → j ≤ k → Off i k c) → one m .cells i c ≡ one j .cells i c
     one-later i c j upto off =
-        sym (ap (λ (o : Outcome). o .cells i c) (for-join 0 j m (column ρ 0) (started A) (omega arith) upto)) ∙ columns-off ρ i c 0 j m (one j) (λ k from lt. off k from)
+        sym (ap (λ (o : Outcome). o .cells i c) (for-join 0 j m (factorColumn ρ 0) (started A) (omega arith) upto)) ∙ columns-off ρ i c 0 j m (one j) (λ k from lt. off k from)
 
     module _ (j : ℕ) (lt : j < m) (so : Along j) where
       abbrev U : Matrix
@@ -77,13 +78,13 @@ module _ (ρ : Rule) (m n : ℕ) (A M : Matrix) (le : m ≤ n) where
       abbrev rooted : Matrix
       rooted = entry (updates j j U) j j (ρ .root (updates j j U j j))
 
-      one-next : one (j + 1) ≡ judged ρ j (updates j j U)
+      one-next : one (j + 1) ≡ judgedColumn ρ j (updates j j U)
       unfolding worked
-      one-next = for-more 0 j (column ρ 0) (started A) (omega arith) ∙ column-done ρ 0 j (one j) (one-done j (omega arith)) ∙ rw (le-ltb j 0 (omega arith))
+      one-next = for-more 0 j (factorColumn ρ 0) (started A) (omega arith) ∙ column-done ρ 0 j (one j) (one-done j (omega arith)) ∙ rw (le-ltb j 0 (omega arith))
 
-      two-next : two (j + 1) ≡ earlier m j (updates m j W)
+      two-next : two (j + 1) ≡ continued m j (updates m j W)
       unfolding worked
-      two-next = for-more 0 j (column ρ m) (started M) (omega arith) ∙ column-done ρ m j (two j) (ap isDone (so .answer)) ∙ rw (lt-ltb j m lt)
+      two-next = for-more 0 j (factorColumn ρ m) (started M) (omega arith) ∙ column-done ρ m j (two j) (ap isDone (so .answer)) ∙ rw (lt-ltb j m lt)
 
       one-cells : one (j + 1) .cells ≡ below (j + 1) j rooted
       one-cells =
@@ -91,7 +92,7 @@ module _ (ρ : Rule) (m n : ℕ) (A M : Matrix) (le : m ≤ n) where
           ∙ judged-passed ρ j (updates j j U) (ap (λ (o : Outcome). isDone (o .answer)) (sym one-next) ∙ one-done (j + 1) (omega arith))
 
       two-cells : two (j + 1) .cells ≡ below m j (updates m j W)
-      unfolding earlier
+      unfolding continued
       two-cells = ap (λ (o : Outcome). o .cells) two-next
 
       -- the stored diagonal is the root
@@ -114,19 +115,19 @@ module _ (ρ : Rule) (m n : ℕ) (A M : Matrix) (le : m ≤ n) where
           (updates-in m j W i from
           ∙ updated-agree W U j j i (so .new i j (omega arith) from under) (λ c h. so .new i c (omega arith) from under) row
           ∙ sym (updates-in j j U i (omega arith))
-          ∙ sym (entry-off (updates j j U) j (ρ .root (updates j j U j j)) i j (inl apart)))
+          ∙ sym (entry-row (updates j j U) j j (ρ .root (updates j j U j j)) i j apart))
           (updates-above m j W j j lt ∙ so .old j j lt ∙ diagonal)
           ∙ sym (below-in (j + 1) j rooted i (omega arith))
           ∙ sym (ap (λ (N : Matrix). N i j) one-cells)
 
       -- a column other than j
-      other : (k : ℕ) (N : Matrix) (i c : ℕ) → (c ≡ j → ⊥) → for 0 (j + 1) (column ρ k) (started N) .cells i c ≡ for 0 j (column ρ k) (started N) .cells i c
+      other : (k : ℕ) (N : Matrix) (i c : ℕ) → (c ≡ j → ⊥) → for 0 (j + 1) (factorColumn ρ k) (started N) .cells i c ≡ for 0 j (factorColumn ρ k) (started N) .cells i c
       other k N i c apart =
-          sym (ap (λ (o : Outcome). o .cells i c) (for-join 0 j (j + 1) (column ρ k) (started N) (omega arith) (omega arith)))
-          ∙ columns-off ρ i c k j (j + 1) (for 0 j (column ρ k) (started N)) (λ h from upto. inr (λ e. apart (let same : h ≡ j = omega arith in e ∙ same)))
+          sym (ap (λ (o : Outcome). o .cells i c) (for-join 0 j (j + 1) (factorColumn ρ k) (started N) (omega arith) (omega arith)))
+          ∙ columns-off ρ i c k j (j + 1) (for 0 j (factorColumn ρ k) (started N)) (λ h from upto. inr (λ e. apart (let same : h ≡ j = omega arith in e ∙ same)))
 
       along-more : Along (j + 1)
-      unfolding earlier
+      unfolding continued
       along-more = record {
         answer = ap (λ (o : Outcome). o .answer) two-next;
         new = λ i c low from under. pick i c low from under (where? 0 j i c);
@@ -142,16 +143,16 @@ module _ (ρ : Rule) (m n : ℕ) (A M : Matrix) (le : m ≤ n) where
     along zero upto = along-none
     along (suc j) upto = subst Along (add-one j) (along-more j (omega arith) (along j (omega arith)))
 
-    pub batch-like : Like n (run ρ m n M) (run ρ 0 n A)
-    unfolding run
+    pub batch-like : Like n (factorColumns ρ m n M) (factorColumns ρ 0 n A)
+    unfolding factorColumns
     batch-like =
-        subst (λ (o : Outcome). Like n o (for 0 n (column ρ 0) (started A))) (for-join 0 m n (column ρ m) (started M) (omega arith) le)
-        (subst (λ (o : Outcome). Like n o (for 0 n (column ρ 0) (started A))) (sym (for-same m n (column ρ m) (column ρ 0) (two m) same))
-        (subst (Like n (for m n (column ρ 0) (two m))) (for-join 0 m n (column ρ 0) (started A) (omega arith) le)
+        subst (λ (o : Outcome). Like n o (for 0 n (factorColumn ρ 0) (started A))) (for-join 0 m n (factorColumn ρ m) (started M) (omega arith) le)
+        (subst (λ (o : Outcome). Like n o (for 0 n (factorColumn ρ 0) (started A))) (sym (for-same m n (factorColumn ρ m) (factorColumn ρ 0) (two m) same))
+        (subst (Like n (for m n (factorColumn ρ 0) (two m))) (for-join 0 m n (factorColumn ρ 0) (started A) (omega arith) le)
         (columns-like ρ 0 m n (omega arith) both)))
       where
-        same : (j : ℕ) (o : Outcome) → m ≤ j → j < n → column ρ m j o ≡ column ρ 0 j o
-        same j o from upto = unfold column worked in rw (le-ltb j m from, le-ltb j 0 (omega arith))
+        same : (j : ℕ) (o : Outcome) → m ≤ j → j < n → factorColumn ρ m j o ≡ factorColumn ρ 0 j o
+        same j o from upto = unfold factorColumn worked in rw (le-ltb j m from, le-ltb j 0 (omega arith))
 
         at : (i c : ℕ) → c ≤ i → i < n → (b : Bool) → ltb i m ≡ b → two m .cells i c ≡ one m .cells i c
         at i c low under true e = along m (omega arith) .old i c (ltb-true i m e) ∙ before i c low (ltb-true i m e)

@@ -1,6 +1,7 @@
 -- The laws of the engine's work on one column. Assumes nothing.
 use mathlib.Core.Path.{_≡_, sym, _∙_, ap, ap₂, subst}
 use mathlib.Core.List.{List}
+use mathlib.Core.Logic.{inl}
 use Prim.Native.Nat.{ℕ, _+_, _*_, _-_, _≤_, _<_}
 use native.Mathlib.Nat.{mul-le-mul-right, suc-mul}
 use native.Mathlib.Numerals.{add-one}
@@ -11,15 +12,15 @@ use Rattle.matrix.specs.declared.Layout.{Layout}
 use Rattle.matrix.specs.Matrix.{Matrix}
 use Rattle.matrix.specs.Loop.{for}
 use Rattle.matrix.specs.Grid.{Sound, load}
-use Rattle.matrix.specs.Layouts.{Roomy, startOf, lower}
+use Rattle.matrix.specs.Layouts.{Roomy, startOf, lower, Laid}
 use Rattle.matrix.proofs.Loops.{for-none, for-same, for-one, for-four, for-join}
 use Rattle.matrix.proofs.Places.{lower-at, lower-within}
 use Rattle.strips.specs.declared.Source.{Source}
-use Rattle.cholesky.specs.Column.{less, updated, taken, divided, part}
+use Rattle.cholesky.specs.Column.{less, updated, divided, part}
 use Rattle.cholesky.specs.Run.{updates, below}
-use Rattle.strips.specs.Strip.{rowAt, Strip, plus, axpyOf, axpy4Of, ratioOf}
+use Rattle.strips.specs.Strip.{rowAt, Strip, Elsewhere, plus, axpyOf, axpy4Of, ratioOf}
 use Rattle.cholesky.specs.Leaves.{Leaves}
-use Rattle.cholesky.specs.Engine.{Reach, Sourced, Taken}
+use Rattle.cholesky.specs.inner.Engine.{Reach, Sourced, lessColumns, TakenOff}
 use Rattle.cholesky.proofs.Parts.{Where, within, above, beside, where?, part-in, part-above, part-beside, Agree, agree-same, part-agree, leaves-agree, leaves-none, leaves-as, leaves-then, strip-leaves}
 
 -- ---- places
@@ -32,58 +33,60 @@ columns-apart y k j roomy before =
     let split : (k + 1) * y .room ≡ k * y .room + y .room = rw add-one (suc-mul k (y .room)) in
     omega arith
 
-pub column-within : (y : Layout) (l : List Float) (j to : ℕ) → Roomy y → Sound (lower y) l → j < y .order → to ≡ startOf y j → y .order + to ≤ length l
-column-within y l j to roomy good lt is = omega (arith, lower-within y l (y .order - 1) j roomy good (omega arith) (omega arith))
+pub column-inside : {y : Layout} {l : List Float} {j to : ℕ} → Laid y l → j < y .order → to ≡ startOf y j → y .order + to ≤ length l
+column-inside {y} {l} {j} laid lt is = omega (arith, lower-within y l (y .order - 1) j laid (omega arith) (omega arith))
 
-pub source-apart : (y : Layout) (r j k from to : ℕ) → Roomy y → j ≤ r → k < j → from ≡ startOf y k → to ≡ startOf y j → y .order + from ≤ r + to
-source-apart y r j k from to roomy low before is at = omega (arith, columns-apart y k j roomy before)
+pub source-elsewhere : {y : Layout} {l : List Float} {r j k to : ℕ} {s : Source} → Laid y l → Reach y r j → k < j → Sourced y l j k s → to ≡ startOf y j → Elsewhere r (y .order) to l s
+source-elsewhere {y} {l} {r} {j} {k} {to} {s} laid reach before is at = record {
+  within = column-inside laid (omega arith) (is .start);
+  beside = inl (omega (arith, columns-apart y k j (laid .roomy) before, is .start, reach .from));
+}
 
 -- ---- one column taken off, all columns, the division
 
-module _ (y : Layout) (r j : ℕ) (l₀ l : List Float) (good : Sound (lower y) l₀) (from : j ≤ r) where
+module _ (y : Layout) (j : ℕ) (l₀ : List Float) where
+  -- row i of column j, as the strip reads it
+  given : (to : ℕ) → to ≡ startOf y j → (i : ℕ) → j ≤ i → i < y .order → rowAt l₀ to i ≡ load (lower y) l₀ i j
+  given to is i a b = ap (λ (s : ℕ). getD l₀ (i + s) nan) is ∙ sym (lower-at y l₀ i j a b)
+
   -- what an earlier column adds is what it takes
-  plus-less : (k : ℕ) (s : Source) → k < j → Sourced y l₀ j k s → (i : ℕ) (x x' : Float) → r ≤ i → i < y .order → x ≡ x' → plus l₀ s i x ≡ less (load (lower y) l₀) i j k x'
+  plus-less : (k : ℕ) (s : Source) → k < j → Sourced y l₀ j k s → (i : ℕ) (x x' : Float) → j ≤ i → i < y .order → x ≡ x' → plus l₀ s i x ≡ less (load (lower y) l₀) i j k x'
   unfolding plus less
   plus-less k s before is i x x' a b e =
       ap₂ (add binary64) e (ap₂ (mul binary64) (is .scale) (ap (λ (s : ℕ). getD l₀ (i + s) nan) (is .start) ∙ sym (lower-at y l₀ i k (omega arith) b)))
 
-  -- row i of column j, as the strip reads it
-  given : (to : ℕ) → to ≡ startOf y j → (i : ℕ) → r ≤ i → i < y .order → rowAt l₀ to i ≡ load (lower y) l₀ i j
-  given to is i a b = ap (λ (s : ℕ). getD l₀ (i + s) nan) is ∙ sym (lower-at y l₀ i j (omega arith) b)
+module _ {y : Layout} {r j : ℕ} {l₀ l : List Float} (laid : Laid y l₀) where
+  -- a strip of column j whose rows are v
+  part-leaves : (from : j ≤ r) (to : ℕ) (v w : ℕ → Float) → to ≡ startOf y j → Strip to r (y .order) v l₀ l → ((i : ℕ) → j ≤ i → i < y .order → v i ≡ w i)
+      → Leaves y l₀ l (part r j w (load (lower y) l₀))
+  part-leaves from to v w is strip same =
+      leaves-as (strip-leaves y r j v l₀ l (laid .sound) from (subst (λ (s : ℕ). Strip s r (y .order) v l₀ l) is strip))
+      (part-agree r j v w agree-same (λ i a b. same i (omega arith) b))
 
-  -- a strip whose rows are those of column j, less some columns
-  taken-leaves : (lo hi to : ℕ) (v : ℕ → Float) → to ≡ startOf y j → Strip to r (y .order) v l₀ l → ((i : ℕ) → r ≤ i → i < y .order → v i ≡ taken (load (lower y) l₀) j lo hi i)
-      → Leaves y l₀ l (part r j (taken (load (lower y) l₀) j lo hi) (load (lower y) l₀))
-  taken-leaves lo hi to v is strip same =
-      leaves-as (strip-leaves y r j v l₀ l good from (subst (λ (s : ℕ). Strip s r (y .order) v l₀ l) is strip))
-      (part-agree r j v (taken (load (lower y) l₀) j lo hi) agree-same same)
+  pub subtract-leaves : {k to : ℕ} {s : Source} → Reach y r j → k < j → to ≡ startOf y j → Sourced y l₀ j k s
+      → Strip to r (y .order) (axpyOf l₀ to s) l₀ l → Leaves y l₀ l (part r j (lessColumns (load (lower y) l₀) j k (k + 1)) (load (lower y) l₀))
+  unfolding axpyOf lessColumns
+  subtract-leaves {k} {to} {s} reach before is at-s strip =
+      part-leaves (reach .from) to (axpyOf l₀ to s) (lessColumns (load (lower y) l₀) j k (k + 1)) is strip (λ i a b.
+      plus-less y j l₀ k s before at-s i _ _ a b (given y j l₀ to is i a b) ∙ sym (for-one k (less (load (lower y) l₀) i j) (load (lower y) l₀ i j)))
 
-  pub subtract-leaves : (k to : ℕ) (s : Source) → k < j → to ≡ startOf y j → Sourced y l₀ j k s
-      → Strip to r (y .order) (axpyOf l₀ to s) l₀ l → Leaves y l₀ l (part r j (taken (load (lower y) l₀) j k (k + 1)) (load (lower y) l₀))
-  unfolding axpyOf taken
-  subtract-leaves k to s before is at-s strip =
-      taken-leaves k (k + 1) to (axpyOf l₀ to s) is strip (λ i a b.
-      plus-less k s before at-s i _ _ a b (given to is i a b) ∙ sym (for-one k (less (load (lower y) l₀) i j) (load (lower y) l₀ i j)))
-
-  pub subtract4-leaves : (k to : ℕ) (s t u v : Source) → k + 3 < j → to ≡ startOf y j
+  pub subtract4-leaves : {k to : ℕ} {s t u v : Source} → Reach y r j → k + 3 < j → to ≡ startOf y j
       → Sourced y l₀ j k s → Sourced y l₀ j (k + 1) t → Sourced y l₀ j (k + 2) u → Sourced y l₀ j (k + 3) v
-      → Strip to r (y .order) (axpy4Of l₀ to s t u v) l₀ l → Leaves y l₀ l (part r j (taken (load (lower y) l₀) j k (k + 4)) (load (lower y) l₀))
-  unfolding axpy4Of taken
-  subtract4-leaves k to s t u v before is at-s at-t at-u at-v strip =
-      taken-leaves k (k + 4) to (axpy4Of l₀ to s t u v) is strip (λ i a b.
-      plus-less (k + 3) v (omega arith) at-v i _ _ a b
-      (plus-less (k + 2) u (omega arith) at-u i _ _ a b
-      (plus-less (k + 1) t (omega arith) at-t i _ _ a b
-      (plus-less k s (omega arith) at-s i _ _ a b (given to is i a b))))
+      → Strip to r (y .order) (axpy4Of l₀ to s t u v) l₀ l → Leaves y l₀ l (part r j (lessColumns (load (lower y) l₀) j k (k + 4)) (load (lower y) l₀))
+  unfolding axpy4Of lessColumns
+  subtract4-leaves {k} {to} {s} {t} {u} {v} reach before is at-s at-t at-u at-v strip =
+      part-leaves (reach .from) to (axpy4Of l₀ to s t u v) (lessColumns (load (lower y) l₀) j k (k + 4)) is strip (λ i a b.
+      plus-less y j l₀ (k + 3) v (omega arith) at-v i _ _ a b
+      (plus-less y j l₀ (k + 2) u (omega arith) at-u i _ _ a b
+      (plus-less y j l₀ (k + 1) t (omega arith) at-t i _ _ a b
+      (plus-less y j l₀ k s (omega arith) at-s i _ _ a b (given y j l₀ to is i a b))))
       ∙ sym (for-four k (less (load (lower y) l₀) i j) (load (lower y) l₀ i j)))
 
-  pub divide-leaves : (at : ℕ) (d : Float) → at ≡ startOf y j → d ≡ load (lower y) l₀ j j
+  pub divide-leaves : {at : ℕ} {d : Float} → j ≤ r → at ≡ startOf y j → d ≡ load (lower y) l₀ j j
       → Strip at r (y .order) (ratioOf l₀ at d) l₀ l → Leaves y l₀ l (below r j (load (lower y) l₀))
   unfolding ratioOf below divided
-  divide-leaves at d at-is d-is strip =
-      leaves-as (strip-leaves y r j (ratioOf l₀ at d) l₀ l good from (subst (λ (s : ℕ). Strip s r (y .order) (ratioOf l₀ at d) l₀ l) at-is strip))
-      (part-agree r j (ratioOf l₀ at d) (divided (load (lower y) l₀) j (load (lower y) l₀ j j)) agree-same (λ i a b.
-      ap₂ (div binary64) (ap (λ (s : ℕ). getD l₀ (i + s) nan) at-is ∙ sym (lower-at y l₀ i j (omega arith) b)) d-is))
+  divide-leaves {at} {d} from at-is d-is strip =
+      part-leaves from at (ratioOf l₀ at d) (divided (load (lower y) l₀) j (load (lower y) l₀ j j)) at-is strip (λ i a b. ap₂ (div binary64) (given y j l₀ at at-is i a b) d-is)
 
 less-same : (M N : Matrix) (i j k : ℕ) (x : Float) → M j k ≡ N j k → M i k ≡ N i k → less M i j k x ≡ less N i j k x
 unfolding less
@@ -106,8 +109,8 @@ updating-none {y} {r} {j} {l} good = record { upto = omega arith; leaves = leave
     cell i c (above h) = sym (part-above r j (updated M j 0) M i c h)
     cell i c (beside h) = sym (part-beside r j (updated M j 0) M i c h)
 
-pub updating-more : {y : Layout} {r j : ℕ} {l₀ : List Float} {k : ℕ} {l l' : List Float} {next : ℕ} → Updating y r j l₀ k l → Reach y r j → Taken y r j k l l' next → Updating y r j l₀ next l'
-unfolding taken updated
+pub updating-more : {y : Layout} {r j : ℕ} {l₀ : List Float} {k : ℕ} {l l' : List Float} {next : ℕ} → Updating y r j l₀ k l → Reach y r j → TakenOff y r j k l l' next → Updating y r j l₀ next l'
+unfolding lessColumns updated
 updating-more {y} {r} {j} {l₀} {k} {l} {l'} {next} u reach step =
     record { upto = step .within; leaves = leaves-then (u .leaves) (step .leaves) (record { at = λ i c le lt. cell i c le lt (where? r j i c) }) }
   where
@@ -124,7 +127,7 @@ updating-more {y} {r} {j} {l₀} {k} {l} {l'} {next} u reach step =
     other : (i c : ℕ) → c ≤ i → i < y .order → (c ≡ j → ⊥) → L i c ≡ M i c
     other i c le lt apart = was .at i c le lt ∙ part-beside r j (updated M j k) M i c apart
 
-    row : (i : ℕ) → r ≤ i → i < y .order → taken L j k next i ≡ updated M j next i
+    row : (i : ℕ) → r ≤ i → i < y .order → lessColumns L j k next i ≡ updated M j next i
     row i from lt =
         let low = reach .from in
         let onward = step .onward in
@@ -133,12 +136,12 @@ updating-more {y} {r} {j} {l₀} {k} {l} {l'} {next} u reach step =
         ∙ ap (for k next (less M i j)) (was .at i j (omega arith) lt ∙ part-in r j (updated M j k) M i from)
         ∙ for-join 0 k next (less M i j) (M i j) (omega arith) (omega arith)
 
-    cell : (i c : ℕ) → c ≤ i → i < y .order → Where r j i c → part r j (taken L j k next) L i c ≡ part r j (updated M j next) M i c
+    cell : (i c : ℕ) → c ≤ i → i < y .order → Where r j i c → part r j (lessColumns L j k next) L i c ≡ part r j (updated M j next) M i c
     cell i c le lt (within from this) =
-        subst (λ (c : ℕ). part r j (taken L j k next) L i c ≡ part r j (updated M j next) M i c) (sym this)
-        (part-in r j (taken L j k next) L i from ∙ row i from lt ∙ sym (part-in r j (updated M j next) M i from))
-    cell i c le lt (above h) = part-above r j (taken L j k next) L i c h ∙ was .at i c le lt ∙ part-above r j (updated M j k) M i c h ∙ sym (part-above r j (updated M j next) M i c h)
-    cell i c le lt (beside h) = part-beside r j (taken L j k next) L i c h ∙ other i c le lt h ∙ sym (part-beside r j (updated M j next) M i c h)
+        subst (λ (c : ℕ). part r j (lessColumns L j k next) L i c ≡ part r j (updated M j next) M i c) (sym this)
+        (part-in r j (lessColumns L j k next) L i from ∙ row i from lt ∙ sym (part-in r j (updated M j next) M i from))
+    cell i c le lt (above h) = part-above r j (lessColumns L j k next) L i c h ∙ was .at i c le lt ∙ part-above r j (updated M j k) M i c h ∙ sym (part-above r j (updated M j next) M i c h)
+    cell i c le lt (beside h) = part-beside r j (lessColumns L j k next) L i c h ∙ other i c le lt h ∙ sym (part-beside r j (updated M j next) M i c h)
 
 pub updating-all : {y : Layout} {r j : ℕ} {l₀ : List Float} {k : ℕ} {l : List Float} → Updating y r j l₀ k l → j ≤ k → Leaves y l₀ l (updates r j (load (lower y) l₀))
 unfolding updates

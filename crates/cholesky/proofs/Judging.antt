@@ -8,7 +8,7 @@ use Rattle.answer.specs.declared.Answer.the-variants.{Done, NotPositive}
 use Rattle.matrix.specs.Rounded.{plusZero}
 use Rattle.leaf.specs.Root.{rootOf}
 use Rattle.cholesky.specs.Crate.{positive}
-use Rattle.cholesky.specs.Engine.{Judgement}
+use Rattle.cholesky.specs.inner.Engine.{Judgement}
 
 pub judge-passed : (d : Float) (j : ℕ) (x : Float) → lt plusZero d ≡ true → x ≡ rootOf d → Judgement d j (record { answer = Done; root = x })
 unfolding positive

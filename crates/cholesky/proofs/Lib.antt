@@ -3,14 +3,13 @@ pub mod Outcomes
 pub mod Judging
 pub mod Columns
 pub mod Running
-pub mod Checks
 pub mod Rows
 pub mod Promises
 pub mod Batch
 pub mod Refusals
+pub mod Arriving
 pub mod Handed
 pub mod Demand3
-pub mod Arriving
 pub mod Exists
 pub mod ReaderLoops
 pub mod ReaderPromises

@@ -15,10 +15,11 @@ use Rattle.matrix.specs.declared.Layout.{Layout}
 use Rattle.matrix.specs.Matrix.{Matrix, entry}
 use Rattle.matrix.specs.Loop.{for}
 use Rattle.matrix.specs.Grid.{Sound, load, mask}
-use Rattle.matrix.specs.Layouts.{startOf, inLower, placeIn, lower}
+use Rattle.matrix.specs.Layouts.{startOf, inLower, placeIn, lower, Laid}
 use Rattle.matrix.proofs.Grids.{load-in, load-is, mask-in, same-cells}
 use Rattle.matrix.proofs.Loops.{for-same}
 use Rattle.matrix.proofs.Places.{in-lower}
+use Rattle.matrix.proofs.Sizes.{laid-after}
 use Rattle.cholesky.specs.Column.{less, updated, part}
 use Rattle.strips.specs.Strip.{Strip}
 use Rattle.cholesky.specs.Leaves.{Leaves}
@@ -103,8 +104,17 @@ module _ (y : Layout) where
 pub leaves-agree : {y : Layout} {l₀ l : List Float} {M : Matrix} → Leaves y l₀ l M → Agree (y .order) (load (lower y) l) M
 leaves-agree {y} {M = M} h = record { at = λ i j le lt. ap (λ (N : Matrix). N i j) (h .holds .cells) ∙ mask-agree y M .at i j le lt }
 
+load-mask : (y : Layout) (l : List Float) → load (lower y) l ≡ mask (lower y) (load (lower y) l)
+load-mask y l = load-is (lower y) l (load (lower y) l) (λ i j t. sym (load-in (lower y) l i j t))
+
+pub agree-load : (y : Layout) (l l' : List Float) → Agree (y .order) (load (lower y) l) (load (lower y) l') → load (lower y) l ≡ load (lower y) l'
+agree-load y l l' same = load-mask y l ∙ agree-mask y same ∙ sym (load-mask y l')
+
 pub leaves-none : {y : Layout} {l : List Float} → Sound (lower y) l → Leaves y l l (load (lower y) l)
-leaves-none {y} {l} good = record { holds = record { sound = good; cells = load-is (lower y) l (load (lower y) l) (λ i j t. sym (load-in (lower y) l i j t)); kept = λ p free. refl } }
+leaves-none {y} {l} good = record { holds = record { sound = good; cells = load-mask y l; kept = λ p free. refl } }
+
+pub leaves-laid : {y : Layout} {l₀ l : List Float} {M : Matrix} → Laid y l₀ → Leaves y l₀ l M → Laid y l
+leaves-laid laid step = laid-after laid (step .holds)
 
 -- the matrix under another name
 pub leaves-as : {y : Layout} {l₀ l : List Float} {M N : Matrix} → Leaves y l₀ l M → Agree (y .order) M N → Leaves y l₀ l N

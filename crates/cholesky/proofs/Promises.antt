@@ -1,73 +1,47 @@
 -- The promise of `extend`: refused, worked, and unique. Assumes nothing.
-use mathlib.Core.Path.{_≡_, refl, sym, _∙_, ap}
-use mathlib.Core.Bool.{true, false, true≢false}
+use mathlib.Core.Path.{_≡_, refl, sym, _∙_, ap, subst}
+use mathlib.Core.Bool.{false}
 use mathlib.Core.List.{List}
-use Prim.Native.Nat.{ℕ, _*_}
+use Prim.Native.Nat.{ℕ}
 use lib.ListN.{length}
 use lib.Ieee.{Float}
 use Rattle.answer.specs.declared.Answer.{Answer}
 use Rattle.answer.specs.declared.Answer.the-variants.{Done}
 use Rattle.answer.specs.Number.{isDone}
-use Rattle.matrix.specs.Grid.{Sound, load}
-use Rattle.matrix.specs.Layouts.{Roomy, sizeOf, lower}
+use Rattle.answer.specs.Refusals.{tested}
+use Rattle.answer.proofs.Tested.{tested-fixed, leaving-done, leaving-refused, leaving-alike}
+use Rattle.matrix.specs.declared.Layout.{Layout}
+use Rattle.matrix.specs.Sizes.{sizeTests, Fits}
 use Rattle.matrix.proofs.Grids.{holds-unique}
-use Rattle.matrix.proofs.Places.{lower-fair}
-use Rattle.cholesky.specs.Run.{run}
-use Rattle.cholesky.specs.Crate.{crateRule}
-use Rattle.cholesky.specs.Leaves.{Ends}
-use Rattle.cholesky.specs.Promise.{in-room, checked, Fitting, batch, Extended}
-use Rattle.cholesky.proofs.Checks.{Checked, fit, unfit, check?}
+use Rattle.matrix.proofs.Sizes.{fits-pass}
+use Rattle.cholesky.specs.Leaves.{Leaves}
+use Rattle.cholesky.specs.inner.Engine.{Ends}
+use Rattle.cholesky.specs.Promise.{batch, Extended}
 
-pub room-sound : (room n : ℕ) (l : List Float) → Roomy (in-room room n) → length l ≡ room * room → Sound (lower (in-room room n)) l
-unfolding lower sizeOf
-room-sound room n l roomy long = record { fair = lower-fair (in-room room n) roomy; long = long }
+module _ {y : Layout} {m : ℕ} where
+  pub extended-unfit : {l : List Float} {x : Answer} → x ≡ tested (sizeTests y m (length l)) Done → isDone x ≡ false → Extended y m l l x
+  extended-unfit {l} is refused =
+      let failed = ap isDone (sym is) ∙ refused in
+      record { answer = is ∙ sym (tested-fixed (sizeTests y m (length l)) (batch y m l .answer) failed); left = leaving-refused failed refl }
 
-module _ (room m n : ℕ) where
-  pub fitting-roomy : {len : ℕ} → Fitting room m n len → Roomy (in-room room n)
-  fitting-roomy f = record { ordered = f .inside; small = f .small }
-
-  -- a call that is done passes the checks, whatever its work answers
-  pub answered-fits : (len : ℕ) (r x : Answer) → x ≡ checked room m n len r → isDone x ≡ true → Fitting room m n len
-  answered-fits len r x is done = pick (check? room m n len)
-    where
-      pick : Checked room m n len → Fitting room m n len
-      pick (fit f e) = f
-      pick (unfit none y refused e) = absurd (true≢false (sym done ∙ ap isDone (is ∙ e r) ∙ refused))
-
-  pub fitting-checked : (len : ℕ) (x : Answer) → x ≡ checked room m n len Done → isDone x ≡ true → Fitting room m n len
-  fitting-checked len = answered-fits len Done
-
-  pub checked-fitting : (len : ℕ) → Fitting room m n len → (r : Answer) → checked room m n len r ≡ r
-  checked-fitting len f = pick (check? room m n len)
-    where
-      pick : Checked room m n len → (r : Answer) → checked room m n len r ≡ r
-      pick (fit f' e) = e
-      pick (unfit none y refused e) = absurd (none f)
-
-  -- a call that the checks refuse is answered so whatever its work would answer
-  pub checked-unfit : (len : ℕ) (x : Answer) → x ≡ checked room m n len Done → isDone x ≡ false → (Fitting room m n len → ⊥) × ((r : Answer) → x ≡ checked room m n len r)
-  checked-unfit len x is refused = pick (check? room m n len)
-    where
-      pick : Checked room m n len → (Fitting room m n len → ⊥) × ((r : Answer) → x ≡ checked room m n len r)
-      pick (fit f e) = absurd (true≢false (ap isDone (sym (is ∙ e Done)) ∙ refused))
-      pick (unfit none y wrong e) = (none, λ r. is ∙ e Done ∙ sym (e r))
-
-  pub extended-unfit : (l : List Float) (x : Answer) → x ≡ checked room m n (length l) Done → isDone x ≡ false → Extended room m n l l x
-  extended-unfit l x is refused =
-      let none = checked-unfit (length l) x is refused in
-      record { answer = none .1 (batch room m n l .answer); leaves = λ f. absurd (none .0 f); unchanged = λ h. refl }
-
-  pub extended-fit : {l₀ l : List Float} {r : Answer} → Fitting room m n (length l₀) → Ends (in-room room n) l₀ l r (run crateRule m n (load (lower (in-room room n)) l₀)) → Extended room m n l₀ l r
+  pub extended-fit : {l₀ l : List Float} {r : Answer} → Fits y m (length l₀) → Ends y l₀ l r (batch y m l₀) → Extended y m l₀ l r
   extended-fit {l₀} f e = record {
-    answer = e .answer ∙ sym (checked-fitting (length l₀) f (batch room m n l₀ .answer));
-    leaves = λ h. e .leaves;
-    unchanged = λ none. absurd (none f);
+    answer = e .answer ∙ sym (fits-pass y m (length l₀) f (batch y m l₀ .answer));
+    left = leaving-done (ap isDone (fits-pass y m (length l₀) f Done)) (e .leaves);
   }
 
+  -- of the layout under its other name
+  pub extended-at : {z : Layout} {l₀ l : List Float} {r : Answer} → y ≡ z → Extended y m l₀ l r → Extended z m l₀ l r
+  extended-at {l₀ = l₀} {l = l} {r = r} is e = subst (λ (y : Layout). Extended y m l₀ l r) is e
+
+  -- where the sizes fit
+  module _ {l₀ l : List Float} {r : Answer} (call : Extended y m l₀ l r) (f : Fits y m (length l₀)) where
+    pub extended-answer : r ≡ batch y m l₀ .answer
+    extended-answer = call .answer ∙ fits-pass y m (length l₀) f (batch y m l₀ .answer)
+
+    pub extended-leaves : Leaves y l₀ l (batch y m l₀ .cells)
+    extended-leaves = call .left .done (ap isDone (fits-pass y m (length l₀) f Done))
+
   -- the promise fixes the answer and the slice
-  pub extended-unique : {l₀ l l' : List Float} {r r' : Answer} → Extended room m n l₀ l r → Extended room m n l₀ l' r' → (r ≡ r') × (l ≡ l')
-  extended-unique {l₀} {l} {l'} e e' = (e .answer ∙ sym (e' .answer), pick (check? room m n (length l₀)))
-    where
-      pick : Checked room m n (length l₀) → l ≡ l'
-      pick (fit f x) = holds-unique (e .leaves f .holds) (e' .leaves f .holds)
-      pick (unfit none x y z) = e .unchanged none ∙ sym (e' .unchanged none)
+  pub extended-unique : {l₀ l l' : List Float} {r r' : Answer} → Extended y m l₀ l r → Extended y m l₀ l' r' → (r ≡ r') × (l ≡ l')
+  extended-unique e e' = (e .answer ∙ sym (e' .answer), leaving-alike refl (e .left) (e' .left) (λ h h'. holds-unique (h .holds) (h' .holds)) (λ h h'. h ∙ sym h'))

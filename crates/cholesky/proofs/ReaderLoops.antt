@@ -3,28 +3,24 @@ use mathlib.Core.Path.{_≡_, refl, sym, _∙_, ap, subst}
 use mathlib.Core.List.{List}
 use mathlib.Core.Logic.{⊎-elim}
 use Prim.Native.Nat.{ℕ, _+_, _*_, _-_, _≤_, _<_}
-use native.Mathlib.Nat.{eq-or-lt-of-le, mul-le-mul}
+use native.Mathlib.Nat.{eq-or-lt-of-le}
 use native.Mathlib.Omega.{arith}
-use lib.Dec.{T, ltb, ltb→lt, lt→ltb}
 use lib.ListN.{length, getD}
 use lib.Ieee.{Float, nan}
-use lib.Ieee.Fits.{and-l, and-r, and-i}
 use borrow.Author.Tests.{le-leb, lt-leb}
 use Rattle.matrix.specs.declared.Layout.{Layout}
 use Rattle.matrix.specs.Matrix.{Matrix}
-use Rattle.matrix.specs.Grid.{Fair, Sound, Holds, load, mask}
-use Rattle.matrix.specs.Layouts.{Roomy, startOf, placeIn, sizeOf, lower, square, Fills}
+use Rattle.matrix.specs.Grid.{Holds, load, mask}
+use Rattle.matrix.specs.Layouts.{Roomy, startOf, placeIn, lower, strict, square, Laid, Fills}
 use Rattle.matrix.proofs.Grids.{load-is}
-use Rattle.matrix.proofs.Places.{digits-row, digits-column, digits-within, lower-at}
+use Rattle.matrix.proofs.Places.{digits-column, digits-within, strict-low, strict-left, in-strict, strict-fair, lower-at}
 use Rattle.matrix.proofs.Squares.{fills-each}
 use Rattle.strips.specs.Strip.{Strip, rowAt, zeroAt}
-use Rattle.cholesky.specs.Readers.{triangle, down, inStrict, strict, zeroes}
+use Rattle.cholesky.specs.Readers.{triangle, zeroes}
+use Rattle.cholesky.specs.inner.Engine.{down}
 use Rattle.strips.proofs.Strips.{strip-as, strip-join}
 
 -- ---- places
-
-pub square-small : (a b : ℕ) → a ≤ 1024 → b ≤ 1024 → a * b ≤ 1048576
-square-small a b h k = mul-le-mul {n₁ = a} {m₁ = b} {n₂ = 1024} {m₂ = 1024} h k
 
 pub square-column : (n j : ℕ) → j < n → n + j * n ≤ n * n
 square-column n j lt = omega (arith, digits-within n n (n - 1) j (omega arith) lt)
@@ -62,45 +58,19 @@ filling-all {n} {N} {j} {l} f past = fills-each n l N (f .long) (λ i c row colu
 
 -- ---- unpack, column by column
 
-strict-low : (y : Layout) (i j : ℕ) → T (strict y .inside i j) → i < j
-unfolding strict inStrict
-strict-low y i j t = ltb→lt i j (and-l (ltb i j) (ltb j (y .order)) t)
-
-strict-left : (y : Layout) (i j : ℕ) → T (strict y .inside i j) → j < y .order
-unfolding strict inStrict
-strict-left y i j t = ltb→lt j (y .order) (and-r (ltb i j) (ltb j (y .order)) t)
-
-in-strict : (y : Layout) (i j : ℕ) → i < j → j < y .order → T (strict y .inside i j)
-unfolding strict inStrict
-in-strict y i j low left = and-i (ltb i j) (ltb j (y .order)) (lt→ltb i j low) (lt→ltb j (y .order) left)
-
-strict-fair : (y : Layout) → Roomy y → Fair (strict y)
-unfolding strict placeIn startOf sizeOf
-strict-fair y roomy = record {
-  reach = y .order;
-  low = λ i j t. let a = strict-low y i j t in let b = strict-left y i j t in omega arith;
-  left = λ i j t. strict-left y i j t;
-  within = λ i j t. let a = strict-low y i j t in let b = strict-left y i j t in digits-within (y .room) (y .room) i j (omega arith) (omega arith);
-  row = λ i j r c t u e. digits-row (y .room) i j r c (under i j t) (under r c u) e;
-  column = λ i j r c t u e. digits-column (y .room) i j r c (under i j t) (under r c u) e;
-}
-  where
-    under : (i j : ℕ) → T (strict y .inside i j) → i < y .room
-    under i j t = let a = strict-low y i j t in let b = strict-left y i j t in omega arith
-
 -- above the diagonal the columns before j are zero
-pub record Clearing (y : Layout) (l₀ : List Float) (j : ℕ) (l : List Float) : Type 0 where
+pub record Unpacking (y : Layout) (l₀ : List Float) (j : ℕ) (l : List Float) : Type 0 where
   pub upto : j ≤ y .order
   pub long : length l ≡ length l₀
   pub each : (i c : ℕ) → i < c → c < j → getD l (i + startOf y c) nan ≡ zeroes i c
   pub kept : (p : ℕ) → ((i c : ℕ) → i < c → c < j → p ≡ i + startOf y c → ⊥) → getD l p nan ≡ getD l₀ p nan
 
-pub clearing-none : {y : Layout} {l : List Float} → Clearing y l 0 l
-clearing-none = record { upto = omega arith; long = refl; each = λ i c row column. absurd (omega arith); kept = λ p free. refl }
+pub unpacking-none : {y : Layout} {l : List Float} → Unpacking y l 0 l
+unpacking-none = record { upto = omega arith; long = refl; each = λ i c row column. absurd (omega arith); kept = λ p free. refl }
 
-pub clearing-more : {y : Layout} {l₀ : List Float} {j : ℕ} {l l' : List Float} (s : ℕ) → Clearing y l₀ j l → Roomy y → j < y .order → s ≡ startOf y j → Strip s 0 j zeroAt l l' → Clearing y l₀ (j + 1) l'
+pub unpacking-more : {y : Layout} {l₀ : List Float} {j : ℕ} {l l' : List Float} (s : ℕ) → Unpacking y l₀ j l → Roomy y → j < y .order → s ≡ startOf y j → Strip s 0 j zeroAt l l' → Unpacking y l₀ (j + 1) l'
 unfolding startOf
-clearing-more {y} {l₀} {j} {l} {l'} s f roomy lt is strip' = record {
+unpacking-more {y} {l₀} {j} {l} {l'} s f roomy lt is strip' = record {
   upto = omega arith;
   long = strip .long ∙ f .long;
   each = each;
@@ -120,10 +90,10 @@ clearing-more {y} {l₀} {j} {l} {l'} s f roomy lt is strip' = record {
         ∙ f .each i c row less)
         (eq-or-lt-of-le {n = c} {m = j} (omega arith))
 
-pub clearing-all : {y : Layout} {l₀ : List Float} {j : ℕ} {l : List Float} → Clearing y l₀ j l → y .order ≤ j → Roomy y → Sound (lower y) l₀ → Holds (strict y) l₀ l (mask (strict y) zeroes)
+pub unpacking-all : {y : Layout} {l₀ : List Float} {j : ℕ} {l : List Float} → Unpacking y l₀ j l → y .order ≤ j → Laid y l₀ → Holds (strict y) l₀ l (mask (strict y) zeroes)
 unfolding strict lower placeIn
-clearing-all {y} {l₀} {j} {l} f past roomy good = record {
-  sound = record { fair = strict-fair y roomy; long = f .long ∙ good .long };
+unpacking-all {y} {l₀} {j} {l} f past laid = record {
+  sound = record { fair = strict-fair y (laid .roomy); long = f .long ∙ laid .sound .long };
   cells = load-is (strict y) l zeroes (λ i c t. let b = strict-left y i c t in f .each i c (strict-low y i c t) (omega arith));
   kept = λ p free. f .kept p (λ i c row column e. free i c (in-strict y i c row (let h = f .upto in omega arith)) e);
 }

@@ -1,8 +1,8 @@
 -- Where a run is refused: at a column whose diagonal the rule turns down. Assumes nothing.
 use mathlib.Core.Path.{_≡_, refl, sym, _∙_, ap, subst}
-use mathlib.Core.Bool.{Bool, true, false, cond}
+use mathlib.Core.Bool.{false, true≢false}
 use mathlib.Core.List.{List}
-use Prim.Native.Nat.{ℕ, zero, suc, _+_, _-_, _≤_, _<_}
+use Prim.Native.Nat.{ℕ, _≤_, _<_}
 use native.Mathlib.Omega.{arith}
 use lib.Dec.{T, ltb}
 use lib.ListN.{length}
@@ -11,16 +11,20 @@ use borrow.Author.Tests.{ltb-false}
 use Rattle.answer.specs.declared.Answer.{Answer}
 use Rattle.answer.specs.declared.Answer.the-variants.{Done, NotPositive}
 use Rattle.answer.specs.Number.{placeOf, isDone}
-use Rattle.matrix.specs.Matrix.{Matrix, entry}
-use Rattle.matrix.specs.Loop.{turns, for}
+use Rattle.matrix.specs.declared.Layout.{Layout}
+use Rattle.matrix.specs.Matrix.{Matrix}
+use Rattle.matrix.specs.Loop.{for}
 use Rattle.matrix.specs.Grid.{load}
 use Rattle.matrix.specs.Layouts.{lower}
-use Rattle.cholesky.specs.Run.{Rule, Outcome, updates, below, earlier, judged, worked, column, started, run}
+use Rattle.matrix.specs.Rounded.{plusZero}
+use Rattle.matrix.specs.Sizes.{Fits}
+use Rattle.matrix.proofs.Tests.{either}
+use Rattle.matrix.proofs.Loops.{for-keeps}
+use Rattle.cholesky.specs.Run.{Rule, Outcome, updates, continued, judgedColumn, worked, factorColumn, started, factorColumns}
 use Rattle.cholesky.specs.Crate.{positive, crateRule}
-use Rattle.cholesky.specs.Crate as crate
-use Rattle.cholesky.specs.Promise.{in-room, Fitting, batch, Extended}
+use Rattle.cholesky.specs.Promise.{Extended}
 use Rattle.cholesky.specs.Batches.{RefusedIn}
-use Rattle.cholesky.proofs.Promises.{checked-fitting}
+use Rattle.cholesky.proofs.Promises.{extended-answer}
 
 -- done, or the rule's refusal of a diagonal at one of the columns lo to hi
 pub data Answered (ρ : Rule) (lo hi : ℕ) (r : Answer) : Type 0 where
@@ -29,44 +33,28 @@ pub data Answered (ρ : Rule) (lo hi : ℕ) (r : Answer) : Type 0 where
 
 -- Columns lo to hi, the first m rows of which are factored: no column before m is judged.
 module _ (ρ : Rule) (m lo hi first : ℕ) (bound : (j : ℕ) → lo ≤ j → m ≤ j → first ≤ j) where
-  judged-answered : (j : ℕ) (U : Matrix) → first ≤ j → j < hi → Answered ρ first hi (judged ρ j U .answer)
-  unfolding judged
-  judged-answered j U from upto = pick (isDone (ρ .verdict (U j j) j)) refl
-    where
-      pick : (b : Bool) → isDone (ρ .verdict (U j j) j) ≡ b
-          → Answered ρ first hi (cond {A = Outcome} b (record { answer = Done; cells = below (j + 1) j (entry U j j (ρ .root (U j j))) }) (record { answer = ρ .verdict (U j j) j; cells = U }) .answer)
-      pick true e = done refl
-      pick false e = refused (U j j) j from upto e refl
+  abbrev Answering : Outcome → Type 0
+  Answering o = Answered ρ first hi (o .answer)
 
-  worked-answered : (j : ℕ) (M : Matrix) → lo ≤ j → j < hi → Answered ρ first hi (worked ρ m j M .answer)
-  unfolding worked earlier
-  worked-answered j M from upto = pick (ltb j m) refl
-    where
-      pick : (b : Bool) → ltb j m ≡ b → Answered ρ first hi (cond {A = Outcome} b (earlier m j (updates m j M)) (judged ρ j (updates j j M)) .answer)
-      pick true e = done refl
-      pick false e = judged-answered j (updates j j M) (bound j from (ltb-false j m e)) upto
+  judged-answered : (j : ℕ) (U : Matrix) → first ≤ j → j < hi → Answering (judgedColumn ρ j U)
+  unfolding judgedColumn
+  judged-answered j U from upto = either Answering (isDone (ρ .verdict (U j j) j)) (λ e. done refl) (λ e. refused (U j j) j from upto e refl)
 
-  pub columns-answered : (o : Outcome) → o .answer ≡ Done → Answered ρ first hi (for lo hi (column ρ m) o .answer)
-  unfolding for turns column
-  columns-answered o start = go (hi - lo) (omega arith)
-    where
-      one : (p : Outcome) (j : ℕ) → lo ≤ j → j < hi → Answered ρ first hi (p .answer) → (b : Bool) → Answered ρ first hi (cond {A = Outcome} b (worked ρ m j (p .cells)) p .answer)
-      one p j from upto so true = worked-answered j (p .cells) from upto
-      one p j from upto so false = so
+  worked-answered : (j : ℕ) (M : Matrix) → lo ≤ j → j < hi → Answering (worked ρ m j M)
+  unfolding worked continued
+  worked-answered j M from upto = either Answering (ltb j m) (λ e. done refl) (λ e. judged-answered j (updates j j M) (bound j from (ltb-false j m e)) upto)
 
-      go : (k : ℕ) → k ≤ hi - lo → Answered ρ first hi (turns lo (column ρ m) o k .answer)
-      go zero h = done start
-      go (suc k) h = one (turns lo (column ρ m) o k) (lo + k) (omega arith) (omega arith) (go k (omega arith)) (isDone (turns lo (column ρ m) o k .answer))
+  pub columns-answered : (o : Outcome) → o .answer ≡ Done → Answered ρ first hi (for lo hi (factorColumn ρ m) o .answer)
+  unfolding factorColumn
+  columns-answered o start =
+      for-keeps Answering lo hi (factorColumn ρ m) o (done start)
+      (λ j p from upto so. either Answering (isDone (p .answer)) (λ e. worked-answered j (p .cells) from upto) (λ e. so))
 
 -- ---- the crate's rule
 
 pub positive-refused : (d : Float) (j : ℕ) → isDone (positive d j) ≡ false → positive d j ≡ NotPositive j
 unfolding positive
-positive-refused d j failed = pick (lt crate.zero d) failed
-  where
-    pick : (b : Bool) → isDone (cond b Done (NotPositive j)) ≡ false → cond b Done (NotPositive j) ≡ NotPositive j
-    pick true failed = absurd (subst T failed tt)
-    pick false failed = refl
+positive-refused d j = either (λ (r : Answer). isDone r ≡ false → r ≡ NotPositive j) (lt plusZero d) (λ e failed. absurd (true≢false failed)) (λ e failed. refl)
 
 pub refused-in : {lo hi : ℕ} {r : Answer} → Answered crateRule lo hi r → RefusedIn lo hi r
 refused-in (done is) failed = absurd (subst T (sym (ap isDone is) ∙ failed) tt)
@@ -77,8 +65,8 @@ refused-in {lo} {hi} {r} (refused d j from upto turned is) failed =
 -- ---- the call
 
 -- a batch from row m on is refused, if at all, at one of its own rows
-pub extended-refused : {room m n : ℕ} {l l' : List Float} {r : Answer} → Fitting room m n (length l) → Extended room m n l l' r → RefusedIn m n r
-unfolding run
-extended-refused {room} {m} {n} {l} fits call =
-    subst (RefusedIn m n) (sym (call .answer ∙ checked-fitting room m n (length l) fits (batch room m n l .answer)))
-    (refused-in (columns-answered crateRule m 0 n m (λ j low from. from) (started (load (lower (in-room room n)) l)) refl))
+pub extended-refused : {y : Layout} {m : ℕ} {l l' : List Float} {r : Answer} → Fits y m (length l) → Extended y m l l' r → RefusedIn m (y .order) r
+unfolding factorColumns
+extended-refused {y} {m} {l} fits call =
+    subst (RefusedIn m (y .order)) (sym (extended-answer call fits))
+    (refused-in (columns-answered crateRule m 0 (y .order) m (λ j low from. from) (started (load (lower y) l)) refl))

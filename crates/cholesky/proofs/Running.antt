@@ -18,12 +18,12 @@ use Rattle.matrix.specs.Layouts.{lower}
 use Rattle.matrix.proofs.Loops.{for-none, for-one, for-join}
 use Rattle.cholesky.specs.declared.engine.Verdict.{Verdict}
 use Rattle.cholesky.specs.declared.engine.Step.{Step}
-use Rattle.cholesky.specs.Run.{Rule, Outcome, updates, below, earlier, judged, worked, column, started, run}
+use Rattle.cholesky.specs.Run.{Rule, Outcome, updates, below, continued, judgedColumn, worked, factorColumn, started, factorColumns}
 use Rattle.cholesky.specs.Crate.{crateRule}
-use Rattle.cholesky.specs.Leaves.{Leaves, Ends}
-use Rattle.cholesky.specs.Engine.{Judgement, Advanced}
+use Rattle.cholesky.specs.Leaves.{Leaves}
+use Rattle.cholesky.specs.inner.Engine.{Judgement, Ends, Advanced}
 use Rattle.cholesky.proofs.Parts.{leaves-agree, leaves-none, leaves-then}
-use Rattle.cholesky.proofs.Outcomes.{Like, stays, judged-like, below-agree, columns-like}
+use Rattle.cholesky.proofs.Outcomes.{Like, refusal-stays, judged-like, below-agree, columns-like}
 
 -- ---- one column
 
@@ -32,8 +32,8 @@ module _ (y : Layout) (l₀ : List Float) (j : ℕ) (d : Float) (v : Verdict) (i
   verdict-is = by .answer ∙ ap (λ (d : Float). crateRule .verdict d j) is
 
   pub finish-done : {l l' : List Float} → isDone (v .answer) ≡ true
-      → Holds (lower y) l₀ l (entry (load (lower y) l₀) j j (v .root)) → Leaves y l l' (below (j + 1) j (load (lower y) l)) → Ends y l₀ l' Done (judged crateRule j (load (lower y) l₀))
-  unfolding judged
+      → Holds (lower y) l₀ l (entry (load (lower y) l₀) j j (v .root)) → Leaves y l l' (below (j + 1) j (load (lower y) l)) → Ends y l₀ l' Done (judgedColumn crateRule j (load (lower y) l₀))
+  unfolding judgedColumn
   finish-done {l} {l'} passes put step =
       let rooted : load (lower y) l ≡ entry (load (lower y) l₀) j j (crateRule .root (load (lower y) l₀ j j)) =
       put .cells ∙ ap (entry (load (lower y) l₀) j j) (by .root passes ∙ ap (crateRule .root) is) in
@@ -49,38 +49,38 @@ module _ (y : Layout) (l₀ : List Float) (j : ℕ) (d : Float) (v : Verdict) (i
         };
       })
 
-  pub finish-refused : Sound (lower y) l₀ → isDone (v .answer) ≡ false → Ends y l₀ l₀ (v .answer) (judged crateRule j (load (lower y) l₀))
-  unfolding judged
+  pub finish-refused : Sound (lower y) l₀ → isDone (v .answer) ≡ false → Ends y l₀ l₀ (v .answer) (judgedColumn crateRule j (load (lower y) l₀))
+  unfolding judgedColumn
   finish-refused good refused =
       rw (ap isDone (sym verdict-is) ∙ refused)
       (record { answer = verdict-is; leaves = leaves-none good })
 
 module _ (ρ : Rule) (m j : ℕ) (M : Matrix) where
-  column-is : for j (j + 1) (column ρ m) (started M) ≡ worked ρ m j M
-  unfolding column
-  column-is = for-one j (column ρ m) (started M)
+  column-is : for j (j + 1) (factorColumn ρ m) (started M) ≡ worked ρ m j M
+  unfolding factorColumn
+  column-is = for-one j (factorColumn ρ m) (started M)
 
-  pub earlier-is : j < m → for j (j + 1) (column ρ m) (started M) ≡ earlier m j (updates m j M)
+  pub continued-is : j < m → for j (j + 1) (factorColumn ρ m) (started M) ≡ continued m j (updates m j M)
   unfolding worked
-  earlier-is lt = column-is ∙ rw (lt-ltb j m lt)
+  continued-is lt = column-is ∙ rw (lt-ltb j m lt)
 
-  pub judged-is : m ≤ j → for j (j + 1) (column ρ m) (started M) ≡ judged ρ j (updates j j M)
+  pub judged-is : m ≤ j → for j (j + 1) (factorColumn ρ m) (started M) ≡ judgedColumn ρ j (updates j j M)
   unfolding worked
   judged-is le = column-is ∙ rw (le-ltb j m le)
 
-pub advance-earlier : {y : Layout} {l₀ l l' : List Float} (ρ : Rule) (m j : ℕ) → j < m
+pub advance-continued : {y : Layout} {l₀ l l' : List Float} (ρ : Rule) (m j : ℕ) → j < m
     → Leaves y l₀ l (updates m j (load (lower y) l₀)) → Leaves y l l' (below m j (load (lower y) l))
-    → Ends y l₀ l' Done (for j (j + 1) (column ρ m) (started (load (lower y) l₀)))
-unfolding earlier
-advance-earlier {y} {l₀} {l} {l'} ρ m j lt updated divided =
-    subst (Ends y l₀ l' Done) (sym (earlier-is ρ m j (load (lower y) l₀) lt))
+    → Ends y l₀ l' Done (for j (j + 1) (factorColumn ρ m) (started (load (lower y) l₀)))
+unfolding continued
+advance-continued {y} {l₀} {l} {l'} ρ m j lt updated divided =
+    subst (Ends y l₀ l' Done) (sym (continued-is ρ m j (load (lower y) l₀) lt))
     (record { answer = refl; leaves = leaves-then updated divided (below-agree m j (omega arith) (leaves-agree updated)) })
 
-pub advance-later : {y : Layout} {l₀ l l' : List Float} {r : Answer} (ρ : Rule) (m j : ℕ) → m ≤ j → j < y .order
-    → Leaves y l₀ l (updates j j (load (lower y) l₀)) → Ends y l l' r (judged ρ j (load (lower y) l))
-    → Ends y l₀ l' r (for j (j + 1) (column ρ m) (started (load (lower y) l₀)))
-advance-later {y} {l₀} {l} {l'} {r} ρ m j le lt updated finished =
-    let same : Like (y .order) (judged ρ j (load (lower y) l)) (judged ρ j (updates j j (load (lower y) l₀))) = judged-like ρ j lt (leaves-agree updated) in
+pub advance-judged : {y : Layout} {l₀ l l' : List Float} {r : Answer} (ρ : Rule) (m j : ℕ) → m ≤ j → j < y .order
+    → Leaves y l₀ l (updates j j (load (lower y) l₀)) → Ends y l l' r (judgedColumn ρ j (load (lower y) l))
+    → Ends y l₀ l' r (for j (j + 1) (factorColumn ρ m) (started (load (lower y) l₀)))
+advance-judged {y} {l₀} {l} {l'} {r} ρ m j le lt updated finished =
+    let same : Like (y .order) (judgedColumn ρ j (load (lower y) l)) (judgedColumn ρ j (updates j j (load (lower y) l₀))) = judged-like ρ j lt (leaves-agree updated) in
     subst (Ends y l₀ l' r) (sym (judged-is ρ m j (load (lower y) l₀) le))
     (record { answer = finished .answer ∙ same .answer; leaves = leaves-then updated (finished .leaves) (same .cells) })
 
@@ -89,41 +89,41 @@ advance-later {y} {l₀} {l} {l'} {r} ρ m j le lt updated finished =
 -- the columns before j are done, none was refused
 pub record Running (y : Layout) (m : ℕ) (l₀ : List Float) (j : ℕ) (l : List Float) : Type 0 where
   pub upto : j ≤ y .order
-  pub ends : Ends y l₀ l Done (for 0 j (column crateRule m) (started (load (lower y) l₀)))
+  pub ends : Ends y l₀ l Done (for 0 j (factorColumn crateRule m) (started (load (lower y) l₀)))
 
 pub running-none : {y : Layout} {m : ℕ} {l : List Float} → Sound (lower y) l → Running y m l 0 l
 running-none {y} {m} {l} good = record {
   upto = omega arith;
-  ends = subst (Ends y l l Done) (sym (for-none 0 (column crateRule m) (started (load (lower y) l)))) (record { answer = refl; leaves = leaves-none good });
+  ends = subst (Ends y l l Done) (sym (for-none 0 (factorColumn crateRule m) (started (load (lower y) l)))) (record { answer = refl; leaves = leaves-none good });
 }
 
 -- some more columns, refused or not
 running-on : {y : Layout} {m : ℕ} {l₀ : List Float} {j : ℕ} {l l' : List Float} {s : Step} → Running y m l₀ j l → Advanced y m j l l' s
-    → Ends y l₀ l' (s .answer) (for 0 (s .next) (column crateRule m) (started (load (lower y) l₀)))
+    → Ends y l₀ l' (s .answer) (for 0 (s .next) (factorColumn crateRule m) (started (load (lower y) l₀)))
 running-on {y} {m} {l₀} {j} {l} {l'} {s} u a =
-    let o : Outcome = for 0 j (column crateRule m) (started (load (lower y) l₀)) in
-    let same : Like (y .order) (for j (s .next) (column crateRule m) (started (load (lower y) l))) (for j (s .next) (column crateRule m) o) =
+    let o : Outcome = for 0 j (factorColumn crateRule m) (started (load (lower y) l₀)) in
+    let same : Like (y .order) (for j (s .next) (factorColumn crateRule m) (started (load (lower y) l))) (for j (s .next) (factorColumn crateRule m) o) =
     columns-like crateRule m j (s .next) (a .within) (record { answer = u .ends .answer; cells = leaves-agree (u .ends .leaves) }) in
-    subst (Ends y l₀ l' (s .answer)) (for-join 0 j (s .next) (column crateRule m) (started (load (lower y) l₀)) (omega arith) (let h = a .onward in omega arith))
+    subst (Ends y l₀ l' (s .answer)) (for-join 0 j (s .next) (factorColumn crateRule m) (started (load (lower y) l₀)) (omega arith) (let h = a .onward in omega arith))
     (record { answer = a .ends .answer ∙ same .answer; leaves = leaves-then (u .ends .leaves) (a .ends .leaves) (same .cells) })
 
 pub running-more : {y : Layout} {m : ℕ} {l₀ : List Float} {j : ℕ} {l l' : List Float} {s : Step} → Running y m l₀ j l → Advanced y m j l l' s → isDone (s .answer) ≡ true
     → Running y m l₀ (s .next) l'
 running-more {y} {m} {l₀} {l' = l'} {s = s} u a done = record {
   upto = a .within;
-  ends = subst (λ (r : Answer). Ends y l₀ l' r (for 0 (s .next) (column crateRule m) (started (load (lower y) l₀)))) (done-is (s .answer) done) (running-on u a);
+  ends = subst (λ (r : Answer). Ends y l₀ l' r (for 0 (s .next) (factorColumn crateRule m) (started (load (lower y) l₀)))) (done-is (s .answer) done) (running-on u a);
 }
 
 pub running-refused : {y : Layout} {m : ℕ} {l₀ : List Float} {j : ℕ} {l l' : List Float} {s : Step} → Running y m l₀ j l → Advanced y m j l l' s → isDone (s .answer) ≡ false
-    → Ends y l₀ l' (s .answer) (run crateRule m (y .order) (load (lower y) l₀))
-unfolding run
+    → Ends y l₀ l' (s .answer) (factorColumns crateRule m (y .order) (load (lower y) l₀))
+unfolding factorColumns
 running-refused {y} {m} {l₀} {l' = l'} {s = s} u a refused =
-    let e : Ends y l₀ l' (s .answer) (for 0 (s .next) (column crateRule m) (started (load (lower y) l₀))) = running-on u a in
-    let o : Outcome = for 0 (s .next) (column crateRule m) (started (load (lower y) l₀)) in
+    let e : Ends y l₀ l' (s .answer) (for 0 (s .next) (factorColumn crateRule m) (started (load (lower y) l₀))) = running-on u a in
+    let o : Outcome = for 0 (s .next) (factorColumn crateRule m) (started (load (lower y) l₀)) in
     subst (Ends y l₀ l' (s .answer))
-    (sym (stays crateRule m (s .next) (y .order) o (ap isDone (sym (e .answer)) ∙ refused)) ∙ for-join 0 (s .next) (y .order) (column crateRule m) (started (load (lower y) l₀)) (omega arith) (a .within))
+    (sym (refusal-stays crateRule m (s .next) (y .order) o (ap isDone (sym (e .answer)) ∙ refused)) ∙ for-join 0 (s .next) (y .order) (factorColumn crateRule m) (started (load (lower y) l₀)) (omega arith) (a .within))
     e
 
-pub running-all : {y : Layout} {m : ℕ} {l₀ : List Float} {j : ℕ} {l : List Float} → Running y m l₀ j l → y .order ≤ j → Ends y l₀ l Done (run crateRule m (y .order) (load (lower y) l₀))
-unfolding run
-running-all {y} {m} {l₀} {j} {l} u past = subst (λ (k : ℕ). Ends y l₀ l Done (for 0 k (column crateRule m) (started (load (lower y) l₀)))) (omega (arith, u .upto)) (u .ends)
+pub running-all : {y : Layout} {m : ℕ} {l₀ : List Float} {j : ℕ} {l : List Float} → Running y m l₀ j l → y .order ≤ j → Ends y l₀ l Done (factorColumns crateRule m (y .order) (load (lower y) l₀))
+unfolding factorColumns
+running-all {y} {m} {l₀} {j} {l} u past = subst (λ (k : ℕ). Ends y l₀ l Done (for 0 k (factorColumn crateRule m) (started (load (lower y) l₀)))) (omega (arith, u .upto)) (u .ends)

@@ -10,26 +10,27 @@ use Rattle.answer.specs.declared.Answer.the-variants.{Done}
 use Rattle.answer.specs.Number.{isDone}
 use Rattle.matrix.specs.Matrix.{Matrix}
 use Rattle.matrix.specs.Grid.{load}
-use Rattle.matrix.specs.Layouts.{lower}
-use Rattle.cholesky.specs.Promise.{in-room, Fitting, Extended}
+use Rattle.matrix.specs.Layouts.{inRoom, lower}
+use Rattle.matrix.specs.Sizes.{Fits}
+use Rattle.cholesky.specs.Promise.{Extended}
 use Rattle.cholesky.specs.Batches.{RefusedIn}
 
 -- The buffer l before the call on rows m to k. Rows that have not come, and all else, may hold anything.
 pub record Arrived (given : Matrix) (room m k : ℕ) (M : Matrix) (l : List Float) : Type 0 where
-  pub fits : Fitting room m k (length l)
+  pub fits : Fits (inRoom k room) m (length l)
   -- the first m rows are M, as the last call left them
-  pub stand : (i j : ℕ) → j ≤ i → i < m → load (lower (in-room room k)) l i j ≡ M i j
+  pub stand : (i j : ℕ) → j ≤ i → i < m → load (lower (inRoom k room)) l i j ≡ M i j
   -- the batch's rows are those of the whole matrix
-  pub come : (i j : ℕ) → j ≤ i → m ≤ i → i < k → load (lower (in-room room k)) l i j ≡ given i j
+  pub come : (i j : ℕ) → j ≤ i → m ≤ i → i < k → load (lower (inRoom k room)) l i j ≡ given i j
 
 -- Calls of `extend` for one cut after another, with m rows factored at first, which hold M. No call follows a refusal.
 -- They stop with c rows handed in, which hold N, and the last answer r.
 pub data Arriving (given : Matrix) : ℕ → Matrix → List ℕ → ℕ → Matrix → Answer → Type 0 where
   none : {m : ℕ} {M : Matrix} → Arriving given m M [] m M Done
   refused : {room m c : ℕ} {M : Matrix} {l l' : List Float} {r : Answer} {cuts : List ℕ}
-      → Arrived given room m c M l → Extended room m c l l' r → isDone r ≡ false → Arriving given m M (c ∷ cuts) c (load (lower (in-room room c)) l') r
+      → Arrived given room m c M l → Extended (inRoom c room) m l l' r → isDone r ≡ false → Arriving given m M (c ∷ cuts) c (load (lower (inRoom c room)) l') r
   more : {room m k c : ℕ} {M N : Matrix} {l l' : List Float} {r r' : Answer} {cuts : List ℕ}
-      → Arrived given room m k M l → Extended room m k l l' r → isDone r ≡ true → Arriving given k (load (lower (in-room room k)) l') cuts c N r' → Arriving given m M (k ∷ cuts) c N r'
+      → Arrived given room m k M l → Extended (inRoom k room) m l l' r → isDone r ≡ true → Arriving given k (load (lower (inRoom k room)) l') cuts c N r' → Arriving given m M (k ∷ cuts) c N r'
 
 -- Batches over cuts that end at e stopped with c rows handed in, which hold N, and the answer r; the one call on n rows leaves `whole` and answers w.
 pub record ArrivedAsOne (n e c : ℕ) (N : Matrix) (r : Answer) (whole : Matrix) (w : Answer) : Type 0 where

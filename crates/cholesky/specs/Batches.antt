@@ -8,8 +8,8 @@ use Rattle.answer.specs.declared.Answer.{Answer}
 use Rattle.answer.specs.declared.Answer.the-variants.{Done}
 use Rattle.answer.specs.Number.{placeOf, isDone}
 use Rattle.matrix.specs.Grid.{load, Kept}
-use Rattle.matrix.specs.Layouts.{lower}
-use Rattle.cholesky.specs.Promise.{in-room, Extended}
+use Rattle.matrix.specs.Layouts.{inRoom, lower}
+use Rattle.cholesky.specs.Promise.{Extended}
 
 -- the cuts rise from m and end at e: m ≤ c₁ ≤ c₂ ≤ … ≤ e, the last one e; with no cut, m is e
 abbrev pub Rising : ℕ → List ℕ → ℕ → Type 0
@@ -20,9 +20,9 @@ Rising m (c ∷ cuts) e = (m ≤ c) × Rising c cuts e
 -- They stop with c rows handed in, the buffer l' and the last answer r, `Done` where there is no cut. A batch may have no rows.
 pub data Batches (room : ℕ) : ℕ → List Float → List ℕ → ℕ → List Float → Answer → Type 0 where
   none : {m : ℕ} {l : List Float} → Batches room m l [] m l Done
-  refused : {m c : ℕ} {l l' : List Float} {r : Answer} {cuts : List ℕ} → Extended room m c l l' r → isDone r ≡ false → Batches room m l (c ∷ cuts) c l' r
+  refused : {m c : ℕ} {l l' : List Float} {r : Answer} {cuts : List ℕ} → Extended (inRoom c room) m l l' r → isDone r ≡ false → Batches room m l (c ∷ cuts) c l' r
   more : {m k c : ℕ} {l l' l″ : List Float} {r r' : Answer} {cuts : List ℕ}
-      → Extended room m k l l' r → isDone r ≡ true → Batches room k l' cuts c l″ r' → Batches room m l (k ∷ cuts) c l″ r'
+      → Extended (inRoom k room) m l l' r → isDone r ≡ true → Batches room k l' cuts c l″ r' → Batches room m l (k ∷ cuts) c l″ r'
 
 -- refused, if at all, at one of the rows lo to hi
 abbrev pub RefusedIn : ℕ → ℕ → Answer → Type 0
@@ -39,7 +39,7 @@ pub record SameAsOne (room n : ℕ) (l₀ : List Float) (e c : ℕ) (l : List Fl
   pub handed : isDone r ≡ true → c ≡ e
   pub later : isDone r ≡ true → RefusedIn e n w
   -- the rows handed in are what the one call leaves, later rows and all else are as given
-  pub rows : load (lower (in-room room c)) l ≡ load (lower (in-room room c)) whole
-  pub kept : Kept (lower (in-room room c)) l₀ l
+  pub rows : load (lower (inRoom c room)) l ≡ load (lower (inRoom c room)) whole
+  pub kept : Kept (lower (inRoom c room)) l₀ l
   -- so that with all n rows handed in the buffers are the same
   pub buffer : c ≡ n → l ≡ whole

@@ -2,9 +2,9 @@ pub mod Column
 pub mod Run
 pub mod Crate
 pub mod Leaves
-pub mod Engine
 pub mod Promise
 pub mod Batches
 pub mod Arriving
 pub mod Readers
 pub mod Solve
+pub mod inner

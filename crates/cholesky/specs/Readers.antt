@@ -1,39 +1,40 @@
 -- What is read from a factor.
 use mathlib.Core.Path.{_≡_}
-use mathlib.Core.Bool.{Bool, true, false, cond, _&&_}
-use mathlib.Core.List.{List}
+use mathlib.Core.Bool.{cond}
+use mathlib.Core.List.{List, [], _∷_, _++_}
 use Prim.Native.Nat.{ℕ, _*_}
-use lib.Dec.{eqb, leb, ltb}
+use lib.Dec.{eqb, leb}
 use lib.ListN.{length}
-use lib.Ieee.{Float, binary64, mul}
+use lib.Ieee.{Float}
 use Rattle.answer.specs.declared.Answer.{Answer}
 use Rattle.answer.specs.declared.Answer.the-variants.{Done, SliceLength}
 use Rattle.answer.specs.declared.Valued.{Valued}
 use Rattle.answer.specs.Number.{isDone}
+use Rattle.answer.specs.Refusals.{Test, _otherwise_, tested, Leaving}
 use Rattle.matrix.specs.declared.Layout.{Layout}
 use Rattle.matrix.specs.Matrix.{Matrix}
 use Rattle.matrix.specs.Loop.{for}
-use Rattle.matrix.specs.Grid.{Grid, Holds, load, mask}
-use Rattle.matrix.specs.Layouts.{placeIn, sizeOf, lower, square, Fills}
-use Rattle.matrix.specs.Rounded.{plusZero, one}
-use Rattle.cholesky.specs.Promise.{in-room, checked}
+use Rattle.matrix.specs.Grid.{Holds, load, mask}
+use Rattle.matrix.specs.Layouts.{lower, strict, square, Fills}
+use Rattle.matrix.specs.Rounded.{_⊗_, plusZero, one}
+use Rattle.matrix.specs.Sizes.{sizeTests}
 
 -- ---- the determinant
 
 unfoldable pub times : Matrix → ℕ → Float → Float
-times M i x = mul binary64 x (M i i)
+times M i x = x ⊗ M i i
 
 -- the product of the diagonal from 1, rows rising
 unfoldable pub productOf : ℕ → Matrix → Float
 unfolding times
 productOf n M = for 0 n (times M) one
 
-unfoldable pub squared : Float → Float
-squared x = mul binary64 x x
+unfoldable pub timesItself : Float → Float
+timesItself x = x ⊗ x
 
-pub record Determined (room n : ℕ) (l : List Float) (r : Valued) : Type 0 where
-  pub answer : r .answer ≡ checked room 0 n (length l) Done
-  pub value : r .value ≡ cond (isDone (r .answer)) (squared (productOf n (load (lower (in-room room n)) l))) plusZero
+pub record CholeskyDetermined (y : Layout) (l : List Float) (r : Valued) : Type 0 where
+  pub answer : r .answer ≡ tested (sizeTests y 0 (length l)) Done
+  pub value : r .value ≡ cond (isDone (r .answer)) (timesItself (productOf (y .order) (load (lower y) l))) plusZero
 
 -- ---- l, in a lent matrix of its own
 
@@ -41,33 +42,19 @@ pub record Determined (room n : ℕ) (l : List Float) (r : Valued) : Type 0 wher
 unfoldable pub triangle : Matrix → Matrix
 triangle M i j = cond (leb j i) (M i j) plusZero
 
--- column j of M
-abbrev pub down : Matrix → ℕ → ℕ → Float
-down M j i = M i j
+-- codes 1 to 4, by the lengths of the factor and of the lent matrix
+abbrev pub copyTests : Layout → ℕ → ℕ → List Test
+copyTests y factor len = sizeTests y 0 factor ++ ((eqb len (y .order * y .order) otherwise SliceLength) ∷ [])
 
--- code 4: a slice of `total` numbers is wanted
-unfoldable pub sliced : ℕ → ℕ → Answer
-sliced total len = cond (eqb len total) Done SliceLength
-
-pub record Copied (room n : ℕ) (a l₀ l : List Float) (r : Answer) : Type 0 where
-  pub answer : r ≡ checked room 0 n (length a) (sliced (n * n) (length l₀))
-  pub fills : isDone r ≡ true → Fills n l (mask (square n) (triangle (load (lower (in-room room n)) a)))
-  pub unchanged : isDone r ≡ false → l ≡ l₀
+pub record Copied (y : Layout) (a l₀ l : List Float) (r : Answer) : Type 0 where
+  pub answer : r ≡ tested (copyTests y (length a) (length l₀)) Done
+  pub left : Leaving r (Fills (y .order) l (mask (square (y .order)) (triangle (load (lower y) a)))) (l ≡ l₀)
 
 -- ---- unpack
-
-unfoldable pub inStrict : ℕ → ℕ → ℕ → Bool
-inStrict n i j = ltb i j && ltb j n
-
--- the strict upper part of the first n rows and columns
-unfoldable pub strict : Layout → Grid
-unfolding inStrict placeIn sizeOf
-strict y = record { inside = inStrict (y .order); place = placeIn y; size = sizeOf y }
 
 abbrev pub zeroes : Matrix
 zeroes i j = plusZero
 
-pub record Unpacked (room n : ℕ) (l₀ l : List Float) (r : Answer) : Type 0 where
-  pub answer : r ≡ checked room 0 n (length l₀) Done
-  pub holds : isDone r ≡ true → Holds (strict (in-room room n)) l₀ l (mask (strict (in-room room n)) zeroes)
-  pub unchanged : isDone r ≡ false → l ≡ l₀
+pub record Unpacked (y : Layout) (l₀ l : List Float) (r : Answer) : Type 0 where
+  pub answer : r ≡ tested (sizeTests y 0 (length l₀)) Done
+  pub left : Leaving r (Holds (strict y) l₀ l (mask (strict y) zeroes)) (l ≡ l₀)

@@ -30,32 +30,32 @@ unfolding part divided
 below r j M = part r j (divided M j (M j j)) M
 
 -- the updated column j of the earlier rows: only the rows from m on are divided
-unfoldable pub earlier : ℕ → ℕ → Matrix → Outcome
+unfoldable pub continued : ℕ → ℕ → Matrix → Outcome
 unfolding below
-earlier m j U = record { answer = Done; cells = below m j U }
+continued m j U = record { answer = Done; cells = below m j U }
 
 -- the updated column j is judged: refused it stays, else it gets its root and the rows below are divided by that
-unfoldable pub judged : Rule → ℕ → Matrix → Outcome
+unfoldable pub judgedColumn : Rule → ℕ → Matrix → Outcome
 unfolding below entry
-judged ρ j U =
+judgedColumn ρ j U =
     cond (isDone (ρ .verdict (U j j) j))
     (record { answer = Done; cells = below (j + 1) j (entry U j j (ρ .root (U j j))) })
     (record { answer = ρ .verdict (U j j) j; cells = U })
 
 -- column j of a batch whose rows start at m
 unfoldable pub worked : Rule → ℕ → ℕ → Matrix → Outcome
-unfolding updates earlier judged
-worked ρ m j M = cond (ltb j m) (earlier m j (updates m j M)) (judged ρ j (updates j j M))
+unfolding updates continued judgedColumn
+worked ρ m j M = cond (ltb j m) (continued m j (updates m j M)) (judgedColumn ρ j (updates j j M))
 
 -- nothing is done after a refusal
-unfoldable pub column : Rule → ℕ → ℕ → Outcome → Outcome
+unfoldable pub factorColumn : Rule → ℕ → ℕ → Outcome → Outcome
 unfolding worked
-column ρ m j o = cond (isDone (o .answer)) (worked ρ m j (o .cells)) o
+factorColumn ρ m j o = cond (isDone (o .answer)) (worked ρ m j (o .cells)) o
 
 abbrev pub started : Matrix → Outcome
 started A = record { answer = Done; cells = A }
 
 -- n columns of a batch whose rows start at m
-unfoldable pub run : Rule → ℕ → ℕ → Matrix → Outcome
-unfolding column
-run ρ m n A = for 0 n (column ρ m) (started A)
+unfoldable pub factorColumns : Rule → ℕ → ℕ → Matrix → Outcome
+unfolding factorColumn
+factorColumns ρ m n A = for 0 n (factorColumn ρ m) (started A)

@@ -1,13 +1,12 @@
 // The columns of a batch, one after the other.
-ghost use mathlib.Core.Path.{_≡_};
 ghost use Prim.Native.Nat.{_+_, _≤_, _<_};
-ghost use Rattle.matrix.specs.Grid.{Sound, load};
-ghost use Rattle.matrix.specs.Layouts.{Roomy, lower};
-ghost use Rattle.cholesky.specs.Column.{part, taken};
-ghost use Rattle.cholesky.specs.Run.{updates, below, judged, run as ran};
+ghost use Rattle.matrix.specs.Grid.{load};
+ghost use Rattle.matrix.specs.Layouts.{lower, Laid};
+ghost use Rattle.cholesky.specs.Column.{part};
+ghost use Rattle.cholesky.specs.Run.{updates, below, judgedColumn, factorColumns};
 ghost use Rattle.cholesky.specs.Crate.{crateRule};
-ghost use Rattle.cholesky.specs.Leaves.{Leaves, Ends};
-ghost use Rattle.cholesky.specs.Engine.{Reach, Sourced, Taken, Judgement, Advanced};
+ghost use Rattle.cholesky.specs.Leaves.{Leaves};
+ghost use Rattle.cholesky.specs.inner.Engine.{Reach, Sourced, lessColumns, TakenOff, Judgement, Ends, Advanced};
 use answer::Answer;
 use matrix::Layout;
 use strips::Source;
@@ -43,8 +42,7 @@ fn judge(d: f64, j: usize) -> Verdict
 
 // Column k, and what it is multiplied by on its way to column j.
 fn source(y: Layout, a: &[f64], j: usize, k: usize) -> Source
-    requires { ⌜ Roomy y ⌝ }
-    requires { ⌜ Sound (lower y) (now a) ⌝ }
+    requires { ⌜ Laid y (now a) ⌝ }
     requires { ⌜ k < j ⌝ }
     requires { ⌜ j < y .order ⌝ }
     ensures { λ s. ⌜ Sourced y (now (a .entry)) j k s ⌝ }
@@ -57,11 +55,10 @@ fn source(y: Layout, a: &[f64], j: usize, k: usize) -> Source
 
 // The rows from r on of column j, less what column k takes.
 fn subtract(y: Layout, a: &mut [f64], r: usize, j: usize, k: usize)
-    requires { ⌜ Roomy y ⌝ }
-    requires { ⌜ Sound (lower y) (now a) ⌝ }
+    requires { ⌜ Laid y (now a) ⌝ }
     requires { ⌜ Reach y r j ⌝ }
     requires { ⌜ k < j ⌝ }
-    ensures { λ _. ⌜ Leaves y (now (a .entry)) (now (a .exit)) (part r j (taken (load (lower y) (now (a .entry))) j k (k + 1)) (load (lower y) (now (a .entry)))) ⌝ }
+    ensures { λ _. ⌜ Leaves y (now (a .entry)) (now (a .exit)) (part r j (lessColumns (load (lower y) (now (a .entry))) j k (k + 1)) (load (lower y) (now (a .entry)))) ⌝ }
 {
     let s = source(y, a, j, k);
     strips::axpy(a, y.start(j), r, y.order, s);
@@ -69,11 +66,10 @@ fn subtract(y: Layout, a: &mut [f64], r: usize, j: usize, k: usize)
 
 // The same for the four columns from k on.
 fn subtract4(y: Layout, a: &mut [f64], r: usize, j: usize, k: usize)
-    requires { ⌜ Roomy y ⌝ }
-    requires { ⌜ Sound (lower y) (now a) ⌝ }
+    requires { ⌜ Laid y (now a) ⌝ }
     requires { ⌜ Reach y r j ⌝ }
     requires { ⌜ k + 3 < j ⌝ }
-    ensures { λ _. ⌜ Leaves y (now (a .entry)) (now (a .exit)) (part r j (taken (load (lower y) (now (a .entry))) j k (k + 4)) (load (lower y) (now (a .entry)))) ⌝ }
+    ensures { λ _. ⌜ Leaves y (now (a .entry)) (now (a .exit)) (part r j (lessColumns (load (lower y) (now (a .entry))) j k (k + 4)) (load (lower y) (now (a .entry)))) ⌝ }
 {
     let s = source(y, a, j, k);
     let t = source(y, a, j, k + 1);
@@ -84,11 +80,10 @@ fn subtract4(y: Layout, a: &mut [f64], r: usize, j: usize, k: usize)
 
 // Takes off one column or four from k on, and answers the next.
 fn take(y: Layout, a: &mut [f64], r: usize, j: usize, k: usize) -> usize
-    requires { ⌜ Roomy y ⌝ }
-    requires { ⌜ Sound (lower y) (now a) ⌝ }
+    requires { ⌜ Laid y (now a) ⌝ }
     requires { ⌜ Reach y r j ⌝ }
     requires { ⌜ k < j ⌝ }
-    ensures { λ next. ⌜ Taken y r j k (now (a .entry)) (now (a .exit)) next ⌝ }
+    ensures { λ next. ⌜ TakenOff y r j k (now (a .entry)) (now (a .exit)) next ⌝ }
 {
     if k + 3 < j {
         subtract4(y, a, r, j, k);
@@ -100,8 +95,7 @@ fn take(y: Layout, a: &mut [f64], r: usize, j: usize, k: usize) -> usize
 
 // The rows from r on of column j, less what the columns before it take.
 fn update(y: Layout, a: &mut [f64], r: usize, j: usize)
-    requires { ⌜ Roomy y ⌝ }
-    requires { ⌜ Sound (lower y) (now a) ⌝ }
+    requires { ⌜ Laid y (now a) ⌝ }
     requires { ⌜ Reach y r j ⌝ }
     ensures { λ _. ⌜ Leaves y (now (a .entry)) (now (a .exit)) (updates r j (load (lower y) (now (a .entry)))) ⌝ }
 {
@@ -113,8 +107,7 @@ fn update(y: Layout, a: &mut [f64], r: usize, j: usize)
 
 // The rows from r on of column j, divided by its diagonal.
 fn divide(y: Layout, a: &mut [f64], r: usize, j: usize)
-    requires { ⌜ Roomy y ⌝ }
-    requires { ⌜ Sound (lower y) (now a) ⌝ }
+    requires { ⌜ Laid y (now a) ⌝ }
     requires { ⌜ j < r ⌝ }
     requires { ⌜ r ≤ y .order ⌝ }
     ensures { λ _. ⌜ Leaves y (now (a .entry)) (now (a .exit)) (below r j (load (lower y) (now (a .entry)))) ⌝ }
@@ -125,10 +118,9 @@ fn divide(y: Layout, a: &mut [f64], r: usize, j: usize)
 
 // The updated column j gets its root, and the rows below are divided by it.
 fn finish(y: Layout, a: &mut [f64], j: usize) -> Answer
-    requires { ⌜ Roomy y ⌝ }
-    requires { ⌜ Sound (lower y) (now a) ⌝ }
+    requires { ⌜ Laid y (now a) ⌝ }
     requires { ⌜ j < y .order ⌝ }
-    ensures { λ r. ⌜ Ends y (now (a .entry)) (now (a .exit)) r (judged crateRule j (load (lower y) (now (a .entry)))) ⌝ }
+    ensures { λ r. ⌜ Ends y (now (a .entry)) (now (a .exit)) r (judgedColumn crateRule j (load (lower y) (now (a .entry)))) ⌝ }
 {
     let verdict = judge(matrix::get(y, a, j, j), j);
     let answer = verdict.answer;
@@ -142,15 +134,14 @@ fn finish(y: Layout, a: &mut [f64], j: usize) -> Answer
 
 // Column j of a batch whose rows start at m, and the next column.
 fn advance(y: Layout, a: &mut [f64], m: usize, j: usize) -> Step
-    requires { ⌜ Roomy y ⌝ }
-    requires { ⌜ Sound (lower y) (now a) ⌝ }
+    requires { ⌜ Laid y (now a) ⌝ }
     requires { ⌜ m ≤ y .order ⌝ }
     requires { ⌜ j < y .order ⌝ }
     ensures { λ s. ⌜ Advanced y m j (now (a .entry)) (now (a .exit)) s ⌝ }
 {
     if j < m {
-        update(y, a, m, j);
-        divide(y, a, m, j);
+        update(y, a, y.order, j);
+        divide(y, a, y.order, j);
         return Step {
             answer: Answer::Done,
             next: j + 1,
@@ -166,10 +157,9 @@ fn advance(y: Layout, a: &mut [f64], m: usize, j: usize) -> Step
 
 // The rows from m on, in all columns.
 pub fn run(y: Layout, a: &mut [f64], m: usize) -> Answer
-    requires { ⌜ Roomy y ⌝ }
-    requires { ⌜ Sound (lower y) (now a) ⌝ }
+    requires { ⌜ Laid y (now a) ⌝ }
     requires { ⌜ m ≤ y .order ⌝ }
-    ensures { λ r. ⌜ Ends y (now (a .entry)) (now (a .exit)) r (ran crateRule m (y .order) (load (lower y) (now (a .entry)))) ⌝ }
+    ensures { λ r. ⌜ Ends y (now (a .entry)) (now (a .exit)) r (factorColumns crateRule m (y .order) (load (lower y) (now (a .entry)))) ⌝ }
 {
     let n = y.order;
     let mut j: usize = 0;

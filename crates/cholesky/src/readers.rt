@@ -2,16 +2,16 @@
 ghost use mathlib.Core.Path.{_≡_};
 ghost use Prim.Native.Nat.{_*_, _<_};
 ghost use lib.ListN.{length};
-ghost use Rattle.matrix.specs.Grid.{Sound, Holds, load, mask};
-ghost use Rattle.matrix.specs.Layouts.{Roomy, lower, square, Fills};
+ghost use Rattle.matrix.specs.Grid.{Holds, load, mask};
+ghost use Rattle.matrix.specs.Layouts.{lower, strict, square, Laid, Fills};
 ghost use Rattle.strips.specs.Strip.{Strip};
-ghost use Rattle.cholesky.specs.Readers.{productOf, triangle, down, strict, zeroes};
+ghost use Rattle.cholesky.specs.Readers.{productOf, triangle, zeroes};
+ghost use Rattle.cholesky.specs.inner.Engine.{down};
 use matrix::Layout;
 
 // The product of the diagonal.
 pub fn diagonal(y: Layout, a: &[f64]) -> f64
-    requires { ⌜ Roomy y ⌝ }
-    requires { ⌜ Sound (lower y) (now a) ⌝ }
+    requires { ⌜ Laid y (now a) ⌝ }
     ensures { λ r. ⌜ r ≡ productOf (y .order) (load (lower y) (now (a .entry))) ⌝ }
 {
     let n = y.order;
@@ -26,8 +26,7 @@ pub fn diagonal(y: Layout, a: &[f64]) -> f64
 
 // The strict upper part becomes +0.
 pub fn clear_above(y: Layout, a: &mut [f64])
-    requires { ⌜ Roomy y ⌝ }
-    requires { ⌜ Sound (lower y) (now a) ⌝ }
+    requires { ⌜ Laid y (now a) ⌝ }
     ensures { λ _. ⌜ Holds (strict y) (now (a .entry)) (now (a .exit)) (mask (strict y) zeroes) ⌝ }
 {
     let n = y.order;
@@ -40,8 +39,7 @@ pub fn clear_above(y: Layout, a: &mut [f64])
 
 // Column j of l: +0 above the diagonal, the rest from a.
 fn copy_column(y: Layout, a: &[f64], l: &mut [f64], j: usize)
-    requires { ⌜ Roomy y ⌝ }
-    requires { ⌜ Sound (lower y) (now a) ⌝ }
+    requires { ⌜ Laid y (now a) ⌝ }
     requires { ⌜ length (now l) ≡ y .order * y .order ⌝ }
     requires { ⌜ j < y .order ⌝ }
     ensures { λ _. ⌜ Strip (j * y .order) 0 (y .order) (down (triangle (load (lower y) (now (a .entry)))) j) (now (l .entry)) (now (l .exit)) ⌝ }
@@ -52,8 +50,7 @@ fn copy_column(y: Layout, a: &[f64], l: &mut [f64], j: usize)
 }
 
 pub fn copy(y: Layout, a: &[f64], l: &mut [f64])
-    requires { ⌜ Roomy y ⌝ }
-    requires { ⌜ Sound (lower y) (now a) ⌝ }
+    requires { ⌜ Laid y (now a) ⌝ }
     requires { ⌜ length (now l) ≡ y .order * y .order ⌝ }
     ensures { λ _. ⌜ Fills (y .order) (now (l .exit)) (mask (square (y .order)) (triangle (load (lower y) (now (a .entry))))) ⌝ }
 {

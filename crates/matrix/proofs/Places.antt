@@ -13,7 +13,7 @@ use lib.Ieee.{Float, nan}
 use lib.Ieee.Fits.{and-l, and-r, and-i}
 use Rattle.matrix.specs.declared.Layout.{Layout}
 use Rattle.matrix.specs.Grid.{Grid, Fair, load}
-use Rattle.matrix.specs.Layouts.{Roomy, startOf, sizeOf, inLower, placeIn, lower, inUpper, inSquare, placeSquare, upper, square, Laid}
+use Rattle.matrix.specs.Layouts.{Roomy, startOf, sizeOf, inLower, placeIn, lower, inStrict, strict, inUpper, inSquare, placeSquare, upper, square, Laid}
 use Rattle.matrix.proofs.Grids.{load-in}
 
 -- ---- i + j·n with i below n
@@ -69,6 +69,24 @@ square-like n g both place size = record {
 pub square-fair : (n : ℕ) → Fair (square n)
 unfolding square inSquare placeSquare
 square-fair n = square-like n (square n) (λ i j t. (ltb→lt i n (and-l (ltb i n) (ltb j n) t), ltb→lt j n (and-r (ltb i n) (ltb j n) t))) (λ i j. refl) refl
+
+-- an entry above the diagonal, by plain comparisons
+pub strict-low : (y : Layout) (i j : ℕ) → T (strict y .inside i j) → i < j
+unfolding strict inStrict
+strict-low y i j t = ltb→lt i j (and-l (ltb i j) (ltb j (y .order)) t)
+
+pub strict-left : (y : Layout) (i j : ℕ) → T (strict y .inside i j) → j < y .order
+unfolding strict inStrict
+strict-left y i j t = ltb→lt j (y .order) (and-r (ltb i j) (ltb j (y .order)) t)
+
+pub in-strict : (y : Layout) (i j : ℕ) → i < j → j < y .order → T (strict y .inside i j)
+unfolding strict inStrict
+in-strict y i j low left = and-i (ltb i j) (ltb j (y .order)) (lt→ltb i j low) (lt→ltb j (y .order) left)
+
+pub strict-fair : (y : Layout) → Roomy y → Fair (strict y)
+unfolding strict placeIn startOf sizeOf
+strict-fair y roomy =
+    square-like (y .room) (strict y) (λ i j t. let low = strict-low y i j t in let left = strict-left y i j t in (omega arith, omega arith)) (λ i j. refl) refl
 
 -- ---- entries by plain comparisons
 

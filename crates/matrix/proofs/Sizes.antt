@@ -1,16 +1,18 @@
 -- Slices that fit their layout: what the tests of size tell, and what steps leave of it. Assumes nothing.
-use mathlib.Core.Path.{_≡_, refl, _∙_}
+use mathlib.Core.Path.{_≡_, refl, sym, _∙_, ap}
 use mathlib.Core.Bool.{true}
-use mathlib.Core.List.{List}
+use mathlib.Core.List.{List, _++_}
 use Prim.Native.Nat.{ℕ, _≤_}
 use native.Mathlib.Omega.{arith}
 use lib.ListN.{length}
 use lib.Ieee.{Float}
 use borrow.Author.Tests.{leb-true, le-leb, eqb-true, eq-eqb}
 use Rattle.answer.specs.declared.Answer.{Answer}
-use Rattle.answer.specs.Number.{isDone}
-use Rattle.answer.specs.Refusals.{tested}
-use Rattle.answer.proofs.Tested.{AllHold, Refusals, tested-all, all-hold}
+use Rattle.answer.specs.declared.Answer.the-variants.{Done}
+use Rattle.answer.specs.Number.{codeOf, isDone}
+use Rattle.answer.proofs.Done.{code-done}
+use Rattle.answer.specs.Refusals.{Test, tested}
+use Rattle.answer.proofs.Tested.{AllHold, Refusals, tested-all, tested-join, all-hold}
 use Rattle.answer.proofs.Within.{Within, within-tested}
 use Rattle.matrix.specs.declared.Layout.{Layout}
 use Rattle.matrix.specs.Matrix.{Matrix}
@@ -47,6 +49,9 @@ module _ (y : Layout) (m len : ℕ) where
   pub fits-pass : Fits y m len → (r : Answer) → tested (sizeTests y m len) r ≡ r
   fits-pass f r = tested-all (sizeTests y m len) r (fits-hold f)
 
+  pub fits-then : Fits y m len → (more : List Test) (r : Answer) → tested (sizeTests y m len ++ more) r ≡ tested more r
+  fits-then f more r = tested-join (sizeTests y m len) more r ∙ fits-pass f (tested more r)
+
   -- what is done fits
   pub done-fits : (r : Answer) → isDone (tested (sizeTests y m len) r) ≡ true → Fits y m len
   done-fits r done = hold-fits (all-hold (sizeTests y m len) r sizes-refuse done .0)
@@ -56,6 +61,10 @@ module _ (y : Layout) (m len : ℕ) where
   sizes-within r last =
       within-tested 1024 (sizeTests y m len) r (omega arith, (omega arith, (omega arith, (omega arith, (omega arith, (omega arith, tt))))))
       (λ h. let small : y .order ≤ 1024 = leb-true (y .order) 1024 (h .1 .0) in omega (arith, last, small))
+
+  -- what a check let through fits
+  pub code-fits : {x : Answer} {code : ℕ} → x ≡ tested (sizeTests y m len) Done → code ≡ codeOf x → code ≡ 0 → Fits y m len
+  code-fits {x} is answered zero = done-fits Done (ap isDone (sym is) ∙ code-done x answered zero)
 
 -- ---- slices of a layout
 

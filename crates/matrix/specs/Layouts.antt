@@ -1,4 +1,4 @@
--- The grids of the project: the lower triangle of a layout, the upper triangle and the whole of a square matrix.
+-- The grids of the project: the lower triangle of a layout and what stands above it, the upper triangle and the whole of a square matrix.
 use mathlib.Core.Path.{_≡_}
 use mathlib.Core.Bool.{Bool, _&&_}
 use mathlib.Core.List.{List}
@@ -46,6 +46,14 @@ lower y = record { inside = inLower (y .order); place = placeIn y; size = sizeOf
 pub record Laid (y : Layout) (l : List Float) : Type 0 where
   pub roomy : Roomy y
   pub sound : Sound (lower y) l
+
+unfoldable pub inStrict : ℕ → ℕ → ℕ → Bool
+inStrict n i j = ltb i j && ltb j n
+
+-- above the diagonal, in the first rows and columns of a room
+unfoldable pub strict : Layout → Grid
+unfolding inStrict placeIn sizeOf
+strict y = record { inside = inStrict (y .order); place = placeIn y; size = sizeOf y }
 
 unfoldable pub inUpper : ℕ → ℕ → ℕ → Bool
 inUpper n i j = leb i j && ltb j n

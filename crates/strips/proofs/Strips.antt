@@ -3,7 +3,7 @@
 use mathlib.Core.Path.{_≡_, refl, sym, _∙_, ap, ap₂, subst}
 use mathlib.Core.Bool.{Bool, true, false}
 use mathlib.Core.List.{List}
-use mathlib.Core.Logic.{⊎-elim}
+use mathlib.Core.Logic.{_⊎_, inl, inr, ⊎-elim}
 use Prim.Native.Nat.{ℕ, _+_, _≤_, _<_}
 use native.Mathlib.Nat.{eq-or-lt-of-le}
 use native.Mathlib.Omega.{arith}
@@ -13,14 +13,14 @@ use lib.Seq.{getD-set-same, getD-set-other}
 use lib.Ieee.{Float, nan, binary64, add, mul, div}
 use borrow.Author.Tests.{ltb-true, ltb-false}
 use Rattle.strips.specs.declared.Source.{Source}
-use Rattle.strips.specs.Strip.{rowAt, Strip, plus, axpyOf, axpy4Of, ratioOf}
+use Rattle.strips.specs.Strip.{rowAt, Strip, Elsewhere, plus, axpyOf, axpy4Of, ratioOf}
 
-pub record Passed (s lo hi : ℕ) (v : ℕ → Float) (l₀ : List Float) (i : ℕ) (l : List Float) : Type 0 where
+pub record Partway (s lo hi : ℕ) (v : ℕ → Float) (l₀ : List Float) (i : ℕ) (l : List Float) : Type 0 where
   pub from : lo ≤ i
   pub upto : i ≤ hi
   pub strip : Strip s lo i v l₀ l
 
-pub strip-none : {s lo hi : ℕ} {v : ℕ → Float} {l : List Float} → lo ≤ hi → Passed s lo hi v l lo l
+pub strip-none : {s lo hi : ℕ} {v : ℕ → Float} {l : List Float} → lo ≤ hi → Partway s lo hi v l lo l
 strip-none h = record {
   from = omega arith;
   upto = h;
@@ -29,7 +29,7 @@ strip-none h = record {
 
 -- row i gets what stands there already by v, and is stored
 pub strip-more : {s lo hi : ℕ} {v : ℕ → Float} {l₀ : List Float} {i : ℕ} {l : List Float} (x : Float)
-    → Passed s lo hi v l₀ i l → i < hi → hi + s ≤ length l₀ → x ≡ v i → Passed s lo hi v l₀ (i + 1) (set l (i + s) x)
+    → Partway s lo hi v l₀ i l → i < hi → hi + s ≤ length l₀ → x ≡ v i → Partway s lo hi v l₀ (i + 1) (set l (i + s) x)
 strip-more {s} {lo} {hi} {v} {l₀} {i} {l} x d below room is = record {
   from = omega arith;
   upto = omega arith;
@@ -47,16 +47,20 @@ strip-more {s} {lo} {hi} {v} {l₀} {i} {l} x d below room is = record {
         (λ (less : r < i). getD-set-other l (i + s) (r + s) x nan (λ e. omega arith) ∙ d .strip .inside r from less)
         (eq-or-lt-of-le {n = r} {m = i} (omega arith))
 
-pub strip-all : {s lo hi : ℕ} {v : ℕ → Float} {l₀ : List Float} {i : ℕ} {l : List Float} → Passed s lo hi v l₀ i l → hi ≤ i → Strip s lo hi v l₀ l
+pub strip-all : {s lo hi : ℕ} {v : ℕ → Float} {l₀ : List Float} {i : ℕ} {l : List Float} → Partway s lo hi v l₀ i l → hi ≤ i → Strip s lo hi v l₀ l
 strip-all {s} {lo} {hi} {v} {l₀} {i} {l} d past = subst (λ (k : ℕ). Strip s lo k v l₀ l) (omega arith) (d .strip)
 
 -- a row that is not done yet
-pub strip-ahead : {s lo hi : ℕ} {v : ℕ → Float} {l₀ : List Float} {i : ℕ} {l : List Float} → Passed s lo hi v l₀ i l → rowAt l s i ≡ rowAt l₀ s i
+pub strip-ahead : {s lo hi : ℕ} {v : ℕ → Float} {l₀ : List Float} {i : ℕ} {l : List Float} → Partway s lo hi v l₀ i l → rowAt l s i ≡ rowAt l₀ s i
 strip-ahead {s} {i = i} d = d .strip .outside (i + s) (λ r a b e. omega arith)
 
--- a row of a strip before this one
-pub strip-apart : {s lo hi : ℕ} {v : ℕ → Float} {l₀ : List Float} {i : ℕ} {l : List Float} (t r : ℕ) → Passed s lo hi v l₀ i l → r < hi → hi + t ≤ lo + s → rowAt l t r ≡ rowAt l₀ t r
-strip-apart {s} {lo} {hi} {i = i} t r d below apart = d .strip .outside (r + t) (λ k a b e. omega arith)
+-- a row of a column apart from this one
+strip-apart : {to lo hi : ℕ} {v : ℕ → Float} {l₀ : List Float} {i : ℕ} {l : List Float} (s : Source) → Partway to lo hi v l₀ i l → i < hi → Elsewhere lo hi to l₀ s → rowAt l (s .start) i ≡ rowAt l₀ (s .start) i
+strip-apart {to} {lo} {hi} {i = i} s d below side = d .strip .outside (i + s .start) (λ k a b e. off k a b e (side .beside))
+  where
+    off : (k : ℕ) → lo ≤ k → k < i → i + s .start ≡ k + to → ((hi + s .start ≤ lo + to) ⊎ (hi + to ≤ lo + s .start)) → ⊥
+    off k a b e (inl before) = omega arith
+    off k a b e (inr after) = omega (arith, d .from)
 
 -- ---- strips that meet
 
@@ -76,20 +80,20 @@ strip-join {s} {lo} {mid} {hi} {v} {l₀} {l} {l'} from upto p q = record {
 
 -- ---- the strips of the engine
 
--- a row of an earlier column
+-- a row of another column
 plus-same : {to lo hi : ℕ} {v : ℕ → Float} {l₀ : List Float} {i : ℕ} {l : List Float} (s : Source) (x x' : Float)
-    → Passed to lo hi v l₀ i l → i < hi → hi + s .start ≤ lo + to → x ≡ x' → add binary64 x (mul binary64 (s .scale) (rowAt l (s .start) i)) ≡ plus l₀ s i x'
+    → Partway to lo hi v l₀ i l → i < hi → Elsewhere lo hi to l₀ s → x ≡ x' → add binary64 x (mul binary64 (s .scale) (rowAt l (s .start) i)) ≡ plus l₀ s i x'
 unfolding plus
-plus-same {i = i} s x x' d below apart e = ap₂ (λ (x y : Float). add binary64 x (mul binary64 (s .scale) y)) e (strip-apart (s .start) i d below apart)
+plus-same s x x' d below apart e = ap₂ (λ (x y : Float). add binary64 x (mul binary64 (s .scale) y)) e (strip-apart s d below apart)
 
 pub axpy-row : {to lo hi : ℕ} {l₀ : List Float} {i : ℕ} {l : List Float} (s : Source)
-    → Passed to lo hi (axpyOf l₀ to s) l₀ i l → i < hi → hi + s .start ≤ lo + to
+    → Partway to lo hi (axpyOf l₀ to s) l₀ i l → i < hi → Elsewhere lo hi to l₀ s
     → add binary64 (rowAt l to i) (mul binary64 (s .scale) (rowAt l (s .start) i)) ≡ axpyOf l₀ to s i
 unfolding axpyOf
 axpy-row s d below apart = plus-same s _ _ d below apart (strip-ahead d)
 
 pub axpy4-row : {to lo hi : ℕ} {l₀ : List Float} {i : ℕ} {l : List Float} (s t u v : Source)
-    → Passed to lo hi (axpy4Of l₀ to s t u v) l₀ i l → i < hi → hi + s .start ≤ lo + to → hi + t .start ≤ lo + to → hi + u .start ≤ lo + to → hi + v .start ≤ lo + to
+    → Partway to lo hi (axpy4Of l₀ to s t u v) l₀ i l → i < hi → Elsewhere lo hi to l₀ s → Elsewhere lo hi to l₀ t → Elsewhere lo hi to l₀ u → Elsewhere lo hi to l₀ v
     → add binary64 (add binary64 (add binary64 (add binary64 (rowAt l to i)
     (mul binary64 (s .scale) (rowAt l (s .start) i))) (mul binary64 (t .scale) (rowAt l (t .start) i))) (mul binary64 (u .scale) (rowAt l (u .start) i))) (mul binary64 (v .scale) (rowAt l (v .start) i))
     ≡ axpy4Of l₀ to s t u v i
@@ -98,6 +102,6 @@ axpy4-row s t u v d below at-s at-t at-u at-v =
     plus-same v _ _ d below at-v (plus-same u _ _ d below at-u (plus-same t _ _ d below at-t (plus-same s _ _ d below at-s (strip-ahead d))))
 
 pub ratio-row : {s lo hi : ℕ} (d : Float) {l₀ : List Float} {i : ℕ} {l : List Float}
-    → Passed s lo hi (ratioOf l₀ s d) l₀ i l → div binary64 (rowAt l s i) d ≡ ratioOf l₀ s d i
+    → Partway s lo hi (ratioOf l₀ s d) l₀ i l → div binary64 (rowAt l s i) d ≡ ratioOf l₀ s d i
 unfolding ratioOf
 ratio-row d p = ap (λ (x : Float). div binary64 x d) (strip-ahead p)

@@ -1,6 +1,7 @@
 -- A strip of a slice: the rows lo to hi of a column that starts at s.
 use mathlib.Core.Path.{_≡_}
 use mathlib.Core.List.{List}
+use mathlib.Core.Logic.{_⊎_}
 use Prim.Native.Nat.{ℕ, _+_, _≤_, _<_}
 use lib.ListN.{length, getD}
 use lib.Ieee.{Float, nan}
@@ -16,6 +17,11 @@ pub record Strip (s lo hi : ℕ) (v : ℕ → Float) (l₀ l : List Float) : Typ
   pub long : length l ≡ length l₀
   pub inside : (i : ℕ) → lo ≤ i → i < hi → rowAt l s i ≡ v i
   pub outside : (p : ℕ) → ((i : ℕ) → lo ≤ i → i < hi → p ≡ i + s → ⊥) → getD l p nan ≡ getD l₀ p nan
+
+-- rows lo to hi of another column stand in the slice, all before or all after those of the column at `to`
+pub record Elsewhere (lo hi to : ℕ) (l : List Float) (s : Source) : Type 0 where
+  pub within : hi + s .start ≤ length l
+  pub beside : (hi + s .start ≤ lo + to) ⊎ (hi + to ≤ lo + s .start)
 
 -- x, plus row i of a column times its multiplier
 unfoldable pub plus : List Float → Source → ℕ → Float → Float

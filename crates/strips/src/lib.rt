@@ -1,7 +1,7 @@
 // Loops over rows of one column, on plain places: row i of a column that starts at s stands at i + s.
 ghost use Prim.Native.Nat.{_+_, _≤_};
 ghost use lib.ListN.{length};
-ghost use Rattle.strips.specs.Strip.{Strip, axpyOf, axpy4Of, ratioOf, zeroAt, rowAt};
+ghost use Rattle.strips.specs.Strip.{Strip, Elsewhere, axpyOf, axpy4Of, ratioOf, zeroAt, rowAt};
 
 // A column that starts at `start`, and what it is multiplied by.
 pub struct Source {
@@ -9,11 +9,11 @@ pub struct Source {
     pub scale: f64,
 }
 
-// Rows lo to hi of the column at `to`: plus a multiple of an earlier column.
+// Rows lo to hi of the column at `to`: plus a multiple of another column.
 pub fn axpy(a: &mut [f64], to: usize, lo: usize, hi: usize, s: Source)
     requires { ⌜ lo ≤ hi ⌝ }
     requires { ⌜ hi + to ≤ length (now a) ⌝ }
-    requires { ⌜ hi + s .start ≤ lo + to ⌝ }
+    requires { ⌜ Elsewhere lo hi to (now a) s ⌝ }
     ensures { λ _. ⌜ Strip to lo hi (axpyOf (now (a .entry)) to s) (now (a .entry)) (now (a .exit)) ⌝ }
 {
     let from = s.start;
@@ -24,7 +24,7 @@ pub fn axpy(a: &mut [f64], to: usize, lo: usize, hi: usize, s: Source)
     }
 }
 
-// The same with four earlier columns, one after the other.
+// The same with four other columns, one after the other.
 pub fn axpy4(
     a: &mut [f64],
     to: usize,
@@ -37,10 +37,10 @@ pub fn axpy4(
 )
     requires { ⌜ lo ≤ hi ⌝ }
     requires { ⌜ hi + to ≤ length (now a) ⌝ }
-    requires { ⌜ hi + s .start ≤ lo + to ⌝ }
-    requires { ⌜ hi + t .start ≤ lo + to ⌝ }
-    requires { ⌜ hi + u .start ≤ lo + to ⌝ }
-    requires { ⌜ hi + v .start ≤ lo + to ⌝ }
+    requires { ⌜ Elsewhere lo hi to (now a) s ⌝ }
+    requires { ⌜ Elsewhere lo hi to (now a) t ⌝ }
+    requires { ⌜ Elsewhere lo hi to (now a) u ⌝ }
+    requires { ⌜ Elsewhere lo hi to (now a) v ⌝ }
     ensures { λ _. ⌜ Strip to lo hi (axpy4Of (now (a .entry)) to s t u v) (now (a .entry)) (now (a .exit)) ⌝ }
 {
     let at_s = s.start;

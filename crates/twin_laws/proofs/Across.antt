@@ -13,19 +13,20 @@ use Rattle.leaf.specs.Root.{rootOf}
 use Rattle.matrix.specs.Matrix.{Matrix}
 use Rattle.matrix.specs.Loop.{for}
 use Rattle.matrix.specs.Grid.{load}
-use Rattle.matrix.specs.Layouts.{lower}
+use Rattle.matrix.specs.Layouts.{inRoom, lower}
+use Rattle.matrix.specs.Sizes.{Fits}
 use Rattle.matrix.specs.Rounded.{plusZero}
 use Rattle.cholesky.specs.Column.{updated}
-use Rattle.cholesky.specs.Run.{Outcome, column, run}
+use Rattle.cholesky.specs.Run.{Outcome, factorColumn, factorColumns}
 use Rattle.cholesky.specs.Crate.{positive, crateRule}
-use Rattle.cholesky.specs.Leaves.{Ends}
-use Rattle.cholesky.specs.Promise.{in-room, Fitting, Extended}
+use Rattle.cholesky.specs.Promise.{Extended}
 use Rattle.cholesky.specs.Batches.{Rising, Batches}
-use Rattle.cholesky.proofs.Parts.{leaves-agree}
-use Rattle.cholesky.proofs.Outcomes.{stays}
+use Rattle.cholesky.proofs.Outcomes.{refusal-stays}
 use Rattle.cholesky.proofs.Refusals.{Answered, columns-answered, positive-refused}
 use Rattle.cholesky.proofs.Refusals as refusals
-use Rattle.cholesky.proofs.Handed.{batches-more, batches-run}
+use Rattle.cholesky.specs.Arriving.{Arriving}
+use Rattle.cholesky.proofs.Arriving.{LikeOne, like-one, like-one-more}
+use Rattle.cholesky.proofs.Handed.{Handed, handed-none, handed-arrived, batches-arriving}
 use Rattle.twins.specs.Twins.{Twins}
 use Rattle.twins.proofs.Clauses.{Lower, lower-of-twins}
 use Rattle.twin_laws.proofs.Cholesky.{reduced, reduced-same, remainder, ruled, After, Accepted, Updated, onward, accepted-before, stands, right-of, diagonal-of, refused-diagonal, twin-left, twin-diagonal, twin-beside, twin-rest, twin-next, twin-refused, twin-between}
@@ -78,7 +79,7 @@ ruled-is x j = pick (lt plusZero x)
     pick true = refl
     pick false = refl
 
-answers : (lo hi : ℕ) (o : Outcome) → o .answer ≡ Done → Answers lo hi (for lo hi (column crateRule 0) o .answer)
+answers : (lo hi : ℕ) (o : Outcome) → o .answer ≡ Done → Answers lo hi (for lo hi (factorColumn crateRule 0) o .answer)
 answers lo hi o start = pick (columns-answered crateRule 0 lo hi lo (λ j low early. low) o start)
   where
     pick : {r : Answer} → Answered crateRule lo hi r → Answers lo hi r
@@ -89,30 +90,33 @@ answers lo hi o start = pick (columns-answered crateRule 0 lo hi lo (λ j low ea
 
 -- l₀ holds the rows as they were handed in. Batches over cuts up to row m were accepted and left l; then a call on rows m to n left l' and answered r.
 module _ (room m n p q : ℕ) (cuts : List ℕ) (l₀ l l' : List Float) (r : Answer)
-    (fits : Fitting room 0 n (length l₀))
+    (fits : Fits (inRoom n room) 0 (length l₀))
     (rising : Rising 0 cuts m)
     (before : Batches room 0 l₀ cuts m l Done)
-    (call : Extended room m n l l' r)
+    (call : Extended (inRoom n room) m l l' r)
     (earlier : p < m)
     (later : m ≤ q)
     (within : q < n)
-    (twins : Twins n (load (lower (in-room room n)) l₀) p q) where
+    (twins : Twins n (load (lower (inRoom n room)) l₀) p q) where
   abbrev A : Matrix
-  A = load (lower (in-room room n)) l₀
+  A = load (lower (inRoom n room)) l₀
 
   abbrev L : Matrix
-  L = load (lower (in-room room n)) l'
+  L = load (lower (inRoom n room)) l'
 
   given : Lower n A p q
   given = lower-of-twins n A p q (omega arith) within twins
 
-  ends-before : Ends (in-room room m) l₀ l Done (run crateRule 0 m A)
-  ends-before = batches-run room n l₀ fits rising (omega arith) before
+  stop : Arriving A 0 (load (lower (inRoom 0 room)) l₀) cuts m (load (lower (inRoom m room)) l) Done × Handed room l₀ m l
+  stop = batches-arriving room n l₀ fits handed-none rising (omega arith) before
 
-  ends : Ends (in-room room n) l₀ l' r (run crateRule 0 n A)
-  ends = batches-more room n l₀ fits ends-before (omega arith) (omega arith) call
+  ends-before : LikeOne A m (load (lower (inRoom m room)) l) Done
+  ends-before = like-one A m rising (stop .0)
 
-  before-done : run crateRule 0 m A .answer ≡ Done
+  ends : LikeOne A n L r
+  ends = like-one-more A ends-before (omega arith) (handed-arrived room n l₀ fits (stop .1) (omega arith) (omega arith)) call
+
+  before-done : factorColumns crateRule 0 m A .answer ≡ Done
   before-done = sym (ends-before .answer)
 
   accepted-p : Accepted crateRule A (p + 1)
@@ -120,7 +124,7 @@ module _ (room m n p q : ℕ) (cuts : List ℕ) (l₀ l l' : List Float) (r : An
 
   -- the entries of finished columns are the run's
   cell : (k i c : ℕ) → c < k → k ≤ n → c ≤ i → i < n → L i c ≡ After crateRule A k i c
-  cell k i c left upto low under = leaves-agree (ends .leaves) .at i c low under ∙ stands crateRule A k n i c left upto
+  cell k i c left upto low under = ends .cells .at i c low under ∙ stands crateRule A k n i c left upto
 
   chained : (k i j : ℕ) → k ≤ j → j ≤ i → i < n → reduced A L i j k ≡ updated (After crateRule A k) j k i
   unfolding updated
@@ -134,7 +138,7 @@ module _ (room m n p q : ℕ) (cuts : List ℕ) (l₀ l l' : List Float) (r : An
 
   pub across : Across A L p q m n r
   across = record {
-    answer = subst (Answers m n) (ap (λ (o : Outcome). o .answer) (onward crateRule A m n (omega arith)) ∙ sym (ends .answer)) (answers m n (run crateRule 0 m A) before-done);
+    answer = subst (Answers m n) (ap (λ (o : Outcome). o .answer) (onward crateRule A m n (omega arith)) ∙ sym (ends .answer)) (answers m n (factorColumns crateRule 0 m A) before-done);
     left = λ c h.
         cell (p + 1) q c (omega arith) (omega arith) (omega arith) within
         ∙ twin-left crateRule A p q apart (given .left) (given .diagonal) accepted-p c h
@@ -169,19 +173,19 @@ module _ (room m n p q : ℕ) (cuts : List ℕ) (l₀ l l' : List Float) (r : An
     crumb-is : Updated crateRule A q q ≡ crumb A L p
     crumb-is = twin-next crateRule A p q (omega arith) (given .left) (given .diagonal) accepted-p next ∙ ap (λ (x : Float). remainder crateRule x x) v-is
 
-    answer-q : run crateRule 0 (q + 1) A .answer ≡ cond (lt plusZero (crumb A L p)) Done (NotPositive q)
+    answer-q : factorColumns crateRule 0 (q + 1) A .answer ≡ cond (lt plusZero (crumb A L p)) Done (NotPositive q)
     answer-q =
         twin-refused crateRule A p q (omega arith) (given .left) (given .diagonal) accepted-p next
         ∙ ap (λ (x : Float). ruled crateRule (remainder crateRule x x) q) v-is
         ∙ ruled-is (crumb A L p) q
 
-    refused-q : lt plusZero (crumb A L p) ≡ false → run crateRule 0 (q + 1) A .answer ≡ NotPositive q
+    refused-q : lt plusZero (crumb A L p) ≡ false → factorColumns crateRule 0 (q + 1) A .answer ≡ NotPositive q
     refused-q none = answer-q ∙ rw none
 
-    done-q : lt plusZero (crumb A L p) ≡ true → run crateRule 0 (q + 1) A .answer ≡ Done
+    done-q : lt plusZero (crumb A L p) ≡ true → factorColumns crateRule 0 (q + 1) A .answer ≡ Done
     done-q some = answer-q ∙ rw some
 
-    onwards : for (q + 1) n (column crateRule 0) (run crateRule 0 (q + 1) A) ≡ run crateRule 0 n A
+    onwards : for (q + 1) n (factorColumn crateRule 0) (factorColumns crateRule 0 (q + 1) A) ≡ factorColumns crateRule 0 n A
     onwards = onward crateRule A (q + 1) n (omega arith)
 
     diagonal-q : L q q ≡ After crateRule A (q + 1) q q
@@ -192,9 +196,9 @@ module _ (room m n p q : ℕ) (cuts : List ℕ) (l₀ l l' : List Float) (r : An
     neighbours = record {
       refused = λ none.
           ends .answer
-          ∙ ap (λ (o : Outcome). o .answer) (sym onwards ∙ stays crateRule 0 (q + 1) n (run crateRule 0 (q + 1) A) (ap isDone (refused-q none)))
+          ∙ ap (λ (o : Outcome). o .answer) (sym onwards ∙ refusal-stays crateRule 0 (q + 1) n (factorColumns crateRule 0 (q + 1) A) (ap isDone (refused-q none)))
           ∙ refused-q none;
       leaves = λ none. diagonal-q ∙ refused-diagonal crateRule A q accepted-q (ap (λ (x : Float). isDone (positive x q)) crumb-is ∙ rw none) ∙ crumb-is;
-      accepted = λ some. subst (Answers (q + 1) n) (ap (λ (o : Outcome). o .answer) onwards ∙ sym (ends .answer)) (answers (q + 1) n (run crateRule 0 (q + 1) A) (done-q some));
+      accepted = λ some. subst (Answers (q + 1) n) (ap (λ (o : Outcome). o .answer) onwards ∙ sym (ends .answer)) (answers (q + 1) n (factorColumns crateRule 0 (q + 1) A) (done-q some));
       root = λ some. diagonal-q ∙ diagonal-of crateRule A q (ap isDone (done-q some)) ∙ ap rootOf crumb-is;
     }

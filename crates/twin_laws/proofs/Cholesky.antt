@@ -1,7 +1,7 @@
 -- Cholesky and twin rows p < q, for any rule of the diagonal. Assumes nothing.
 use mathlib.Core.Path.{_≡_, refl, sym, _∙_, ap, subst}
 use mathlib.Core.Bool.{Bool, true, false, cond}
-use mathlib.Core.Logic.{inl, inr, ⊎-elim}
+use mathlib.Core.Logic.{inr, ⊎-elim}
 use Prim.Native.Nat.{ℕ, zero, suc, _+_, _≤_, _<_}
 use native.Mathlib.Nat.{eq-or-lt-of-le}
 use native.Mathlib.Numerals.{add-one}
@@ -15,10 +15,11 @@ use Rattle.matrix.specs.Matrix.{Matrix, entry}
 use Rattle.matrix.specs.Loop.{for}
 use Rattle.matrix.proofs.Loops.{for-more, for-same, for-join}
 use Rattle.cholesky.specs.Column.{less, updated}
-use Rattle.cholesky.specs.Run.{Rule, Outcome, updates, below, judged, worked, column, started, run}
+use Rattle.cholesky.specs.Run.{Rule, Outcome, updates, below, judgedColumn, worked, factorColumn, started, factorColumns}
 use Rattle.cholesky.proofs.Batch.{done-before}
-use Rattle.cholesky.proofs.Rows.{updates-in, below-in, below-above, entry-same, entry-off, columns-off, judged-passed}
+use Rattle.cholesky.proofs.Rows.{updates-in, below-in, below-above, columns-off, judged-passed}
 use Rattle.matrix.proofs.Products.{neg-exchanges}
+use Rattle.matrix.proofs.Stores.{entry-here, entry-row}
 
 -- ---- updates of two rows
 
@@ -46,8 +47,8 @@ remainder ρ v x = add binary64 x (mul binary64 (neg (div binary64 x (ρ .root v
 abbrev pub ruled : Rule → Float → ℕ → Answer
 ruled ρ x j = cond (isDone (ρ .verdict x j)) Done (ρ .verdict x j)
 
-pub judged-answer : (ρ : Rule) (j : ℕ) (U : Matrix) → judged ρ j U .answer ≡ ruled ρ (U j j) j
-unfolding judged
+pub judged-answer : (ρ : Rule) (j : ℕ) (U : Matrix) → judgedColumn ρ j U .answer ≡ ruled ρ (U j j) j
+unfolding judgedColumn
 judged-answer ρ j U = pick (isDone (ρ .verdict (U j j) j))
   where
     pick : (b : Bool) → cond {A = Outcome} b (record { answer = Done; cells = below (j + 1) j (entry U j j (ρ .root (U j j))) }) (record { answer = ρ .verdict (U j j) j; cells = U }) .answer ≡ cond b Done (ρ .verdict (U j j) j)
@@ -57,36 +58,36 @@ judged-answer ρ j U = pick (isDone (ρ .verdict (U j j) j))
 module _ (ρ : Rule) (A : Matrix) where
   -- the matrix after j columns
   abbrev pub After : ℕ → Matrix
-  After j = run ρ 0 j A .cells
+  After j = factorColumns ρ 0 j A .cells
 
   abbrev pub Accepted : ℕ → Type 0
-  Accepted j = isDone (run ρ 0 j A .answer) ≡ true
+  Accepted j = isDone (factorColumns ρ 0 j A .answer) ≡ true
 
-  step : (j : ℕ) → run ρ 0 (j + 1) A ≡ column ρ 0 j (run ρ 0 j A)
-  unfolding run
-  step j = for-more 0 j (column ρ 0) (started A) (omega arith)
+  step : (j : ℕ) → factorColumns ρ 0 (j + 1) A ≡ factorColumn ρ 0 j (factorColumns ρ 0 j A)
+  unfolding factorColumns
+  step j = for-more 0 j (factorColumn ρ 0) (started A) (omega arith)
 
   -- the first j columns, and then those up to k
-  pub onward : (j k : ℕ) → j ≤ k → for j k (column ρ 0) (run ρ 0 j A) ≡ run ρ 0 k A
-  unfolding run
-  onward j k upto = for-join 0 j k (column ρ 0) (started A) (omega arith) upto
+  pub onward : (j k : ℕ) → j ≤ k → for j k (factorColumn ρ 0) (factorColumns ρ 0 j A) ≡ factorColumns ρ 0 k A
+  unfolding factorColumns
+  onward j k upto = for-join 0 j k (factorColumn ρ 0) (started A) (omega arith) upto
 
   -- the columns before an accepted one are accepted
   pub accepted-before : (j k : ℕ) → j ≤ k → Accepted k → Accepted j
-  accepted-before j k upto done = done-before ρ 0 j k (run ρ 0 j A) (ap (λ (o : Outcome). isDone (o .answer)) (onward j k upto) ∙ done)
+  accepted-before j k upto done = done-before ρ 0 j k (factorColumns ρ 0 j A) (ap (λ (o : Outcome). isDone (o .answer)) (onward j k upto) ∙ done)
 
   -- the updated column j
   abbrev pub Updated : ℕ → ℕ → Float
   Updated j i = updated (After j) j j i
 
   -- after accepted columns, column j is judged
-  pub judges : (j : ℕ) → Accepted j → run ρ 0 (j + 1) A ≡ judged ρ j (updates j j (After j))
-  unfolding column worked
+  pub judges : (j : ℕ) → Accepted j → factorColumns ρ 0 (j + 1) A ≡ judgedColumn ρ j (updates j j (After j))
+  unfolding factorColumn worked
   judges j done = step j ∙ simp (done, le-ltb j 0 (omega arith))
 
   -- a refused column: its diagonal stays updated
   pub refused-diagonal : (j : ℕ) → Accepted j → isDone (ρ .verdict (Updated j j) j) ≡ false → After (j + 1) j j ≡ Updated j j
-  unfolding judged
+  unfolding judgedColumn
   refused-diagonal j done refused =
       let here = updates-in j j (After j) j (omega arith) in
       ap (λ (o : Outcome). o .cells j j) (judges j done) ∙ rw (ap (λ (x : Float). isDone (ρ .verdict x j)) here ∙ refused) here
@@ -101,7 +102,7 @@ module _ (ρ : Rule) (A : Matrix) where
   diagonal-of j done =
       ap (λ (M : Matrix). M j j) (passed j done)
       ∙ below-above (j + 1) j (entry (updates j j (After j)) j j (ρ .root (updates j j (After j) j j))) j j (omega arith)
-      ∙ entry-same (updates j j (After j)) j (ρ .root (updates j j (After j) j j))
+      ∙ entry-here (updates j j (After j)) j j (ρ .root (updates j j (After j) j j))
       ∙ ap (ρ .root) (updates-in j j (After j) j (omega arith))
 
   pub below-of : (j i : ℕ) → Accepted (j + 1) → j < i → After (j + 1) i j ≡ div binary64 (Updated j i) (ρ .root (Updated j j))
@@ -110,18 +111,18 @@ module _ (ρ : Rule) (A : Matrix) where
       let E = entry U j j (ρ .root (U j j)) in
       ap (λ (M : Matrix). M i j) (passed j done)
       ∙ below-in (j + 1) j E i (omega arith)
-      ∙ ap (λ (x : Float). div binary64 x (E j j)) (entry-off U j (ρ .root (U j j)) i j (inl (λ e. omega arith)) ∙ updates-in j j (After j) i (omega arith))
-      ∙ ap (div binary64 (Updated j i)) (entry-same U j (ρ .root (U j j)) ∙ ap (ρ .root) (updates-in j j (After j) j (omega arith)))
+      ∙ ap (λ (x : Float). div binary64 x (E j j)) (entry-row U j j (ρ .root (U j j)) i j (λ e. omega arith) ∙ updates-in j j (After j) i (omega arith))
+      ∙ ap (div binary64 (Updated j i)) (entry-here U j j (ρ .root (U j j)) ∙ ap (ρ .root) (updates-in j j (After j) j (omega arith)))
 
   -- the columns from j on leave what stands left of them, and the columns before c leave column c
   pub stands : (j k i c : ℕ) → c < j → j ≤ k → After k i c ≡ After j i c
-  stands j k i c h upto = ap (λ (o : Outcome). o .cells i c) (sym (onward j k upto)) ∙ columns-off ρ i c 0 j k (run ρ 0 j A) (λ t from to. inr (λ e. omega arith))
+  stands j k i c h upto = ap (λ (o : Outcome). o .cells i c) (sym (onward j k upto)) ∙ columns-off ρ i c 0 j k (factorColumns ρ 0 j A) (λ t from to. inr (λ e. omega arith))
 
   left-of : (j i c : ℕ) → c < j → After (j + 1) i c ≡ After j i c
   left-of j i c h = stands j (j + 1) i c h (omega arith)
 
   pub right-of : (j i c : ℕ) → j ≤ c → After j i c ≡ A i c
-  unfolding run
+  unfolding factorColumns
   right-of j i c h = columns-off ρ i c 0 0 j (started A) (λ k from to. inr (λ e. omega arith))
 
   -- ---- twins
@@ -204,7 +205,7 @@ module _ (ρ : Rule) (A : Matrix) where
       pub twin-next : q ≡ p + 1 → Updated q q ≡ remainder ρ v v
       twin-next next = subst (λ (k : ℕ). updated (After k) q k q ≡ remainder ρ v v) (sym next) twin-rest
 
-      pub twin-refused : q ≡ p + 1 → run ρ 0 (q + 1) A .answer ≡ ruled ρ (remainder ρ v v) q
+      pub twin-refused : q ≡ p + 1 → factorColumns ρ 0 (q + 1) A .answer ≡ ruled ρ (remainder ρ v v) q
       twin-refused next =
           let before : Accepted q = subst Accepted (sym next) done in
           ap (λ (o : Outcome). o .answer) (judges q before)

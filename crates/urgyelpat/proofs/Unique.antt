@@ -58,27 +58,27 @@ module _ {n : ℕ} {a : List Float} {words : List ℕ} where
 
 module _ {room n : ℕ} {a : List Float} where
   pub cholesky-extend-unique : {m r s : ℕ} {a₁ a₂ : List Float} → CholeskyExtend room m n a r a₁ → CholeskyExtend room m n a s a₂ → (r ≡ s) × (a₁ ≡ a₂)
-  cholesky-extend-unique {m} p q =
-      let same = extended-unique room m n (p .given) (q .given) in
+  cholesky-extend-unique p q =
+      let same = extended-unique (p .given) (q .given) in
       (passed-same p q (same .0), same .1)
 
   pub cholesky-solve-unique : {columns : ℕ} {b b₁ b₂ : List Float} {r s : ℕ} → CholeskySolve room n columns a b r b₁ → CholeskySolve room n columns a b s b₂ → (r ≡ s) × (b₁ ≡ b₂)
-  cholesky-solve-unique {columns} p q =
-      let same = solved-unique room n columns (p .given) (q .given) in
+  cholesky-solve-unique p q =
+      let same = solved-unique (p .given) (q .given) in
       (passed-same p q (same .0), same .1)
 
   pub cholesky-l-unique : {l l₁ l₂ : List Float} {r s : ℕ} → CholeskyL room n a l r l₁ → CholeskyL room n a l s l₂ → (r ≡ s) × (l₁ ≡ l₂)
   cholesky-l-unique p q =
-      let same = copied-unique room n (p .given) (q .given) in
+      let same = copied-unique (p .given) (q .given) in
       (passed-same p q (same .0), same .1)
 
   pub cholesky-unpack-unique : {r s : ℕ} {a₁ a₂ : List Float} → CholeskyUnpack room n a r a₁ → CholeskyUnpack room n a s a₂ → (r ≡ s) × (a₁ ≡ a₂)
   cholesky-unpack-unique p q =
-      let same = unpacked-unique room n (p .given) (q .given) in
+      let same = unpacked-unique (p .given) (q .given) in
       (passed-same p q (same .0), same .1)
 
   pub cholesky-determinant-unique : {r s : Determined} → CholeskyDeterminant room n a r → CholeskyDeterminant room n a s → r ≡ s
-  cholesky-determinant-unique p q = passed-same p q (valued-same (determined-unique room n (p .given) (q .given)))
+  cholesky-determinant-unique p q = passed-same p q (valued-same (determined-unique (p .given) (q .given)))
 
 -- ---- UDU and twins
 

@@ -4,14 +4,14 @@ use Prim.Native.Nat.{ℕ}
 use lib.Ieee.{Float}
 use Rattle.answer.specs.declared.Answer.{Answer}
 use Rattle.answer.specs.Number.{numberOf}
-use Rattle.matrix.specs.Layouts.{full}
+use Rattle.matrix.specs.Layouts.{full, inRoom}
 use Rattle.lblt.specs.Factor as lblt
 use Rattle.lblt_solve.specs.Calls as readers
 use Rattle.lblt_solve.specs.Diagonal.{dOf}
 use Rattle.lblt_solve.specs.Permuted.{lPermutedOf}
 use Rattle.cholesky.specs.Promise.{Extended}
-use Rattle.cholesky.specs.Readers as cholesky
-use Rattle.cholesky.specs.Solve as triangles
+use Rattle.cholesky.specs.Readers.{Copied, Unpacked, CholeskyDetermined}
+use Rattle.cholesky.specs.Solve.{CholeskySolved}
 use Rattle.udu.specs.Promise as udu
 use Rattle.twins.specs.First.{FirstTwinSince}
 use Rattle.twins.specs.Number.{twinNumber}
@@ -38,19 +38,19 @@ LbltLPermuted n a words l r l' = Passed numberOf (λ (answer : Answer). readers.
 -- ---- Cholesky
 
 abbrev pub CholeskyExtend : ℕ → ℕ → ℕ → List Float → ℕ → List Float → Type 0
-CholeskyExtend room earlier n a r a' = Passed numberOf (Extended room earlier n a a') r
+CholeskyExtend room earlier n a r a' = Passed numberOf (Extended (inRoom n room) earlier a a') r
 
 abbrev pub CholeskySolve : ℕ → ℕ → ℕ → List Float → List Float → ℕ → List Float → Type 0
-CholeskySolve room n columns a b r b' = Passed numberOf (triangles.Solved room n columns a b b') r
+CholeskySolve room n columns a b r b' = Passed numberOf (CholeskySolved (inRoom n room) columns a b b') r
 
 abbrev pub CholeskyL : ℕ → ℕ → List Float → List Float → ℕ → List Float → Type 0
-CholeskyL room n a l r l' = Passed numberOf (cholesky.Copied room n a l l') r
+CholeskyL room n a l r l' = Passed numberOf (Copied (inRoom n room) a l l') r
 
 abbrev pub CholeskyUnpack : ℕ → ℕ → List Float → ℕ → List Float → Type 0
-CholeskyUnpack room n a r a' = Passed numberOf (cholesky.Unpacked room n a a') r
+CholeskyUnpack room n a r a' = Passed numberOf (Unpacked (inRoom n room) a a') r
 
 abbrev pub CholeskyDeterminant : ℕ → ℕ → List Float → Determined → Type 0
-CholeskyDeterminant room n a r = Passed determinedOf (cholesky.Determined room n a) r
+CholeskyDeterminant room n a r = Passed determinedOf (CholeskyDetermined (inRoom n room) a) r
 
 -- ---- UDU and twins
 

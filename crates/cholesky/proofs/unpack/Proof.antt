@@ -1,12 +1,15 @@
 -- `unpack` meets its contract. Assumes nothing.
 use lib.ListN.{length}
 use denote.Ref.{now}
-use Rattle.answer.proofs.Done.{code-done, code-refused}
-use Rattle.cholesky.proofs.Promises.{room-sound, fitting-roomy, fitting-checked}
-use Rattle.cholesky.proofs.ReaderPromises.{unpacked-unfit, unpacked-fit}
+use Rattle.answer.proofs.Done.{code-refused}
+use Rattle.matrix.proofs.Sizes.{code-fits, laid-fits}
+use Rattle.cholesky.proofs.ReaderPromises.{unpacked-unfit, unpacked-fit, unpacked-at}
 use borrow.Author.Needs.{needs}
 use Rattle.cholesky.proofs.unpack.Statement.{statement}
 use Rattle.cholesky.proofs.unpack.Tie as tie
+
+in-room-requires : tie.Need-in-room-requires
+in-room-requires c κs = search needs
 
 check-requires : tie.Need-check-requires
 check-requires c κs = search needs
@@ -15,33 +18,27 @@ code-requires : tie.Need-code-requires
 code-requires c κs = search needs
 
 returns : tie.Need-returns
-returns c =
-    let start = c .before .before .before .before in
-    let check = c .before .before .check in
-    unpacked-unfit (start .args .room) (start .args .n) (now (start .args .a)) (check .result) (check .ensures)
-    (code-refused (check .result) (c .before .code .ensures) (c .if1 .taken))
+returns c = unpacked-at (c .before .before .before .in-room .ensures) (unpacked-unfit (c .before .before .check .ensures) (code-refused (c .before .before .check .result) (c .before .code .ensures) (c .if1 .taken)))
 
 clear-above-requires : tie.Need-clear-above-requires
-clear-above-requires c κs =
-    let start = c .before .before .before .before .before in
-    let check = c .before .before .before .check in
-    let f = fitting-checked (start .args .room) 0 (start .args .n) (length (now (start .args .a))) (check .result) (check .ensures) (code-done (check .result) (c .before .before .code .ensures) (c .before .if1 .left)) in (
-      fitting-roomy (start .args .room) 0 (start .args .n) f,
-      room-sound (start .args .room) (start .args .n) (now (start .args .a)) (fitting-roomy (start .args .room) 0 (start .args .n) f) (f .long),
-    )
+clear-above-requires c κs = laid-fits (code-fits (c .before .before .before .before .in-room .result) 0 (length (now (c .before .before .before .before .before .before .args .a))) (c .before .before .before .check .ensures) (c .before .before .code .ensures) (c .before .if1 .left))
 
 same-length : tie.Need-same-length
 same-length c = search needs
 
 returns-2 : tie.Need-returns-2
 returns-2 c =
-    let start = c .before .before .before .before .before .before .before .before in
-    let check = c .before .before .before .before .before .before .check in
-    unpacked-fit (start .args .room) (start .args .n) (now (start .args .a)) _
-    (fitting-checked (start .args .room) 0 (start .args .n) (length (now (start .args .a))) (check .result) (check .ensures) (code-done (check .result) (c .before .before .before .before .before .code .ensures) (c .before .before .before .before .if1 .left)))
-    (c .before .before .clear-above .ensures)
+    let f = code-fits (c .before .before .before .before .before .before .before .in-room .result) 0 (length (now (c .before .before .before .before .before .before .before .before .before .args .a))) (c .before .before .before .before .before .before .check .ensures) (c .before .before .before .before .before .code .ensures) (c .before .before .before .before .if1 .left) in
+    unpacked-at (c .before .before .before .before .before .before .before .in-room .ensures) (unpacked-fit f (c .before .before .clear-above .ensures))
 
 pub unpack-spec : {M : Type 1} → statement M
 unpack-spec =
     tie.close
-    (tie.spec check-requires code-requires returns clear-above-requires same-length returns-2)
+    (tie.spec
+    in-room-requires
+    check-requires
+    code-requires
+    returns
+    clear-above-requires
+    same-length
+    returns-2)

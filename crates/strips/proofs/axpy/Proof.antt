@@ -2,13 +2,13 @@
 use Prim.Native.Nat.{_-_}
 use native.Mathlib.Omega.{arith}
 use Rattle.strips.specs.Strip.{axpyOf}
-use Rattle.strips.proofs.Strips.{Passed, strip-none, strip-more, strip-all, axpy-row}
+use Rattle.strips.proofs.Strips.{Partway, strip-none, strip-more, strip-all, axpy-row}
 use borrow.Author.Needs.{needs}
 use Rattle.strips.proofs.axpy.Statement.{statement}
 use Rattle.strips.proofs.axpy.Tie as tie
 
 abbrev Inv-loop : tie.InvT-loop
-Inv-loop a₀ to lo hi s from i₀ a i = Passed to lo hi (axpyOf a₀ to s) a₀ i a
+Inv-loop a₀ to lo hi s from i₀ a i = Partway to lo hi (axpyOf a₀ to s) a₀ i a
 
 abbrev μ-loop : tie.MeasureT-loop
 μ-loop a₀ to lo hi s from i₀ a i = hi - i

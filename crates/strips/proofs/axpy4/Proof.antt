@@ -2,13 +2,13 @@
 use Prim.Native.Nat.{_-_}
 use native.Mathlib.Omega.{arith}
 use Rattle.strips.specs.Strip.{axpy4Of}
-use Rattle.strips.proofs.Strips.{Passed, strip-none, strip-more, strip-all, axpy4-row}
+use Rattle.strips.proofs.Strips.{Partway, strip-none, strip-more, strip-all, axpy4-row}
 use borrow.Author.Needs.{needs}
 use Rattle.strips.proofs.axpy4.Statement.{statement}
 use Rattle.strips.proofs.axpy4.Tie as tie
 
 abbrev Inv-loop : tie.InvT-loop
-Inv-loop a₀ to lo hi s t u v at-s at-t at-u at-v i₀ a i = Passed to lo hi (axpy4Of a₀ to s t u v) a₀ i a
+Inv-loop a₀ to lo hi s t u v at-s at-t at-u at-v i₀ a i = Partway to lo hi (axpy4Of a₀ to s t u v) a₀ i a
 
 abbrev μ-loop : tie.MeasureT-loop
 μ-loop a₀ to lo hi s t u v at-s at-t at-u at-v i₀ a i = hi - i

@@ -3,13 +3,13 @@ use mathlib.Core.Path.{refl}
 use Prim.Native.Nat.{_-_}
 use native.Mathlib.Omega.{arith}
 use Rattle.strips.specs.Strip.{zeroAt}
-use Rattle.strips.proofs.Strips.{Passed, strip-none, strip-more, strip-all}
+use Rattle.strips.proofs.Strips.{Partway, strip-none, strip-more, strip-all}
 use borrow.Author.Needs.{needs}
 use Rattle.strips.proofs.clear.Statement.{statement}
 use Rattle.strips.proofs.clear.Tie as tie
 
 abbrev Inv-loop : tie.InvT-loop
-Inv-loop a₀ at lo hi i₀ a i = Passed at lo hi zeroAt a₀ i a
+Inv-loop a₀ at lo hi i₀ a i = Partway at lo hi zeroAt a₀ i a
 
 abbrev μ-loop : tie.MeasureT-loop
 μ-loop a₀ at lo hi i₀ a i = hi - i

@@ -3,13 +3,13 @@ use mathlib.Core.Path.{refl}
 use Prim.Native.Nat.{_-_}
 use native.Mathlib.Omega.{arith}
 use Rattle.strips.specs.Strip.{rowAt}
-use Rattle.strips.proofs.Strips.{Passed, strip-none, strip-more, strip-all}
+use Rattle.strips.proofs.Strips.{Partway, strip-none, strip-more, strip-all}
 use borrow.Author.Needs.{needs}
 use Rattle.strips.proofs.copy.Statement.{statement}
 use Rattle.strips.proofs.copy.Tie as tie
 
 abbrev Inv-loop : tie.InvT-loop
-Inv-loop b a₀ from to lo hi i₀ a i = Passed to lo hi (rowAt b from) a₀ i a
+Inv-loop b a₀ from to lo hi i₀ a i = Partway to lo hi (rowAt b from) a₀ i a
 
 abbrev μ-loop : tie.MeasureT-loop
 μ-loop b a₀ from to lo hi i₀ a i = hi - i

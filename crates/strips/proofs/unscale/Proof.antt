@@ -3,12 +3,12 @@ use Prim.Native.Nat.{_-_}
 use native.Mathlib.Omega.{arith}
 use borrow.Author.Needs.{needs}
 use Rattle.strips.specs.Strip.{ratioOf}
-use Rattle.strips.proofs.Strips.{Passed, strip-none, strip-more, strip-all, ratio-row}
+use Rattle.strips.proofs.Strips.{Partway, strip-none, strip-more, strip-all, ratio-row}
 use Rattle.strips.proofs.unscale.Statement.{statement}
 use Rattle.strips.proofs.unscale.Tie as tie
 
 abbrev Inv-loop : tie.InvT-loop
-Inv-loop a₀ at lo hi d i₀ a i = Passed at lo hi (ratioOf a₀ at d) a₀ i a
+Inv-loop a₀ at lo hi d i₀ a i = Partway at lo hi (ratioOf a₀ at d) a₀ i a
 
 abbrev μ-loop : tie.MeasureT-loop
 μ-loop a₀ at lo hi d i₀ a i = hi - i

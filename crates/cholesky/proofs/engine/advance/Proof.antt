@@ -1,16 +1,17 @@
 -- `engine::advance` meets its contract. Assumes nothing.
 use native.Mathlib.Omega.{arith}
 use Rattle.cholesky.specs.Crate.{crateRule}
-use Rattle.cholesky.proofs.Running.{advance-earlier, advance-later}
+use Rattle.cholesky.proofs.Parts.{leaves-laid}
+use Rattle.cholesky.proofs.Running.{advance-continued, advance-judged}
 use borrow.Author.Needs.{needs}
 use Rattle.cholesky.proofs.engine.advance.Statement.{statement}
 use Rattle.cholesky.proofs.engine.advance.Tie as tie
 
 update-requires : tie.Need-update-requires
-update-requires c κs = (c .before .before .before .pre .0, (c .before .before .before .pre .1 .0, record { from = omega arith; upto = omega arith; column = omega arith }))
+update-requires c κs = (c .before .before .before .pre .0, record { from = omega arith; upto = omega arith; column = omega arith })
 
 divide-requires : tie.Need-divide-requires
-divide-requires c κs = (c .before .before .before .before .before .before .before .pre .0, (c .before .before .before .update .ensures .holds .sound, (omega arith, omega arith)))
+divide-requires c κs = (leaves-laid (c .before .before .before .before .before .before .before .pre .0) (c .before .before .before .update .ensures), (omega arith, omega arith))
 
 add-t13 : tie.Need-add-t13
 add-t13 c = search needs
@@ -21,13 +22,13 @@ same-length c = search needs
 returns : tie.Need-returns
 returns c =
     record
-    { onward = omega arith; within = omega arith; ends = advance-earlier crateRule (c .before .before .before .before .before .before .before .before .before .before .args .m) (c .before .before .before .before .before .before .before .before .before .before .args .j) (c .before .before .before .before .before .before .before .before .if1 .taken) (c .before .before .before .before .before .before .update .ensures) (c .before .before .divide .ensures) }
+    { onward = omega arith; within = omega arith; ends = advance-continued crateRule (c .before .before .before .before .before .before .before .before .before .before .args .m) (c .before .before .before .before .before .before .before .before .before .before .args .j) (c .before .before .before .before .before .before .before .before .if1 .taken) (c .before .before .before .before .before .before .update .ensures) (c .before .before .divide .ensures) }
 
 update-requires-2 : tie.Need-update-requires-2
-update-requires-2 c κs = (c .before .before .before .pre .0, (c .before .before .before .pre .1 .0, record { from = omega arith; upto = omega arith; column = omega arith }))
+update-requires-2 c κs = (c .before .before .before .pre .0, record { from = omega arith; upto = omega arith; column = omega arith })
 
 finish-requires : tie.Need-finish-requires
-finish-requires c κs = (c .before .before .before .before .before .before .before .pre .0, (c .before .before .before .update2 .ensures .holds .sound, omega arith))
+finish-requires c κs = (leaves-laid (c .before .before .before .before .before .before .before .pre .0) (c .before .before .before .update2 .ensures), omega arith)
 
 add-t19 : tie.Need-add-t19
 add-t19 c = search needs
@@ -38,7 +39,7 @@ same-length-2 c = search needs
 returns-2 : tie.Need-returns-2
 returns-2 c =
     record
-    { onward = omega arith; within = omega arith; ends = advance-later crateRule (c .before .before .before .before .before .before .before .before .before .before .args .m) (c .before .before .before .before .before .before .before .before .before .before .args .j) (c .before .before .before .before .before .before .before .before .if1 .left) (omega arith) (c .before .before .before .before .before .before .update2 .ensures) (c .before .before .finish .ensures) }
+    { onward = omega arith; within = omega arith; ends = advance-judged crateRule (c .before .before .before .before .before .before .before .before .before .before .args .m) (c .before .before .before .before .before .before .before .before .before .before .args .j) (c .before .before .before .before .before .before .before .before .if1 .left) (omega arith) (c .before .before .before .before .before .before .update2 .ensures) (c .before .before .finish .ensures) }
 
 pub advance-spec : {M : Type 1} → statement M
 advance-spec =

@@ -1,13 +1,12 @@
 -- `engine::divide` meets its contract. Assumes nothing.
 use native.Mathlib.Omega.{arith}
-use denote.Ref.{now}
-use Rattle.cholesky.proofs.Columns.{column-within, divide-leaves}
+use Rattle.cholesky.proofs.Columns.{column-inside, divide-leaves}
 use borrow.Author.Needs.{needs}
 use Rattle.cholesky.proofs.engine.divide.Statement.{statement}
 use Rattle.cholesky.proofs.engine.divide.Tie as tie
 
 get-requires : tie.Need-get-requires
-get-requires c κs = (c .before .before .pre .0, (c .before .before .pre .1 .0, (omega arith, omega arith)))
+get-requires c κs = (c .before .before .pre .0, (omega arith, omega arith))
 
 start-requires : tie.Need-start-requires
 start-requires c κs = search needs
@@ -15,7 +14,7 @@ start-requires c κs = search needs
 unscale-requires : tie.Need-unscale-requires
 unscale-requires c κs =
     let start = c .before .before .before .before .before in
-    (omega arith, column-within (start .args .y) (now (start .args .a)) (start .args .j) (c .start .result) (start .pre .0) (start .pre .1 .0) (omega arith) (c .start .ensures))
+    (omega arith, column-inside (start .pre .0) (omega arith) (c .start .ensures))
 
 same-length : tie.Need-same-length
 same-length c = search needs
@@ -23,8 +22,7 @@ same-length c = search needs
 returns : tie.Need-returns
 returns c =
     let start = c .before .before .before .before .before .before .before .before in
-    divide-leaves (start .args .y) (start .args .r) (start .args .j) (now (start .args .a)) _ (start .pre .1 .0) (omega arith) _ _
-    (c .before .before .before .start .ensures) (c .before .before .before .before .before .get .ensures) (c .before .before .unscale .ensures)
+    divide-leaves (start .pre .0) (omega arith) (c .before .before .before .start .ensures) (c .before .before .before .before .before .get .ensures) (c .before .before .unscale .ensures)
 
 pub divide-spec : {M : Type 1} → statement M
 divide-spec = tie.close (tie.spec get-requires start-requires unscale-requires same-length returns)

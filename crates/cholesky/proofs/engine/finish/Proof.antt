@@ -2,6 +2,7 @@
 use denote.Ref.{now}
 use native.Mathlib.Omega.{arith}
 use Rattle.answer.proofs.Done.{code-done, code-refused}
+use Rattle.matrix.proofs.Sizes.{laid-after}
 use Rattle.cholesky.proofs.Running.{finish-done, finish-refused}
 use borrow.Author.Needs.{needs}
 use Rattle.cholesky.proofs.engine.finish.Statement.{statement}
@@ -23,16 +24,8 @@ add-divide : tie.Need-add-divide
 add-divide c = search needs
 
 divide-requires : tie.Need-divide-requires
-divide-requires c κs = (
-  c .before .before .before .before .before .before .before .before .before .before .before .pre .0,
-  (
-    c .before .before .before .put .ensures .sound,
-    (
-      omega arith,
-      omega arith,
-    ),
-  ),
-)
+divide-requires c κs =
+    (laid-after (c .before .before .before .before .before .before .before .before .before .before .before .pre .0) (c .before .before .before .put .ensures), (omega arith, omega arith))
 
 same-length : tie.Need-same-length
 same-length c = search needs
@@ -55,7 +48,7 @@ returns-2 : tie.Need-returns-2
 returns-2 c =
     let start = c .before .before .before .before .before .before in
     finish-refused (start .args .y) (now (start .args .a)) (start .args .j) (c .before .before .before .get .result) (c .before .before .judge .result)
-    (c .before .before .before .get .ensures) (c .before .before .judge .ensures) (start .pre .1 .0) (code-refused (c .before .before .judge .result .answer) (c .before .code .ensures) (c .if1 .left))
+    (c .before .before .before .get .ensures) (c .before .before .judge .ensures) (start .pre .0 .sound) (code-refused (c .before .before .judge .result .answer) (c .before .code .ensures) (c .if1 .left))
 
 pub finish-spec : {M : Type 1} → statement M
 finish-spec =

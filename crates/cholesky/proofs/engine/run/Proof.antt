@@ -2,6 +2,7 @@
 use Prim.Native.Nat.{_-_}
 use native.Mathlib.Omega.{arith}
 use Rattle.answer.proofs.Done.{code-done, code-refused}
+use Rattle.cholesky.proofs.Parts.{leaves-laid}
 use Rattle.cholesky.proofs.Running.{Running, running-none, running-more, running-refused, running-all}
 use borrow.Author.Needs.{needs}
 use Rattle.cholesky.proofs.engine.run.Statement.{statement}
@@ -14,10 +15,10 @@ abbrev μ-loop : tie.MeasureT-loop
 μ-loop y a₀ m n j₀ a j = y .order - j
 
 loop-holds : tie.Need-loop-holds Inv-loop μ-loop
-loop-holds c = running-none (c .before .pre .1 .0)
+loop-holds c = running-none (c .before .pre .0 .sound)
 
 advance-requires : tie.Need-advance-requires Inv-loop μ-loop
-advance-requires c κs = (c .before .before .before .before .pre .0, (c .before .before .loop .inv .ends .leaves .holds .sound, (omega arith, omega arith)))
+advance-requires c κs = (leaves-laid (c .before .before .before .before .pre .0) (c .before .before .loop .inv .ends .leaves), (omega arith, omega arith))
 
 code-requires : tie.Need-code-requires Inv-loop μ-loop
 code-requires c κs = search needs

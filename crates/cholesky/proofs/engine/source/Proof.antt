@@ -10,7 +10,7 @@ start-requires : tie.Need-start-requires
 start-requires c κs = search needs
 
 get-requires : tie.Need-get-requires
-get-requires c κs = (c .before .before .pre .0, (c .before .before .pre .1 .0, (omega arith, omega arith)))
+get-requires c κs = (c .before .before .pre .0, (omega arith, omega arith))
 
 returns : tie.Need-returns
 returns c = record { start = c .before .start .ensures; scale = ap neg (c .get .ensures) }

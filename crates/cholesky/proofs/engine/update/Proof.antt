@@ -1,6 +1,7 @@
 -- `engine::update` meets its contract. Assumes nothing.
 use Prim.Native.Nat.{_-_}
 use native.Mathlib.Omega.{arith}
+use Rattle.cholesky.proofs.Parts.{leaves-laid}
 use Rattle.cholesky.proofs.Columns.{Updating, updating-none, updating-more, updating-all}
 use borrow.Author.Needs.{needs}
 use Rattle.cholesky.proofs.engine.update.Statement.{statement}
@@ -13,26 +14,17 @@ abbrev μ-loop : tie.MeasureT-loop
 μ-loop y a₀ r j k₀ a k = j - k
 
 loop-holds : tie.Need-loop-holds Inv-loop μ-loop
-loop-holds c = updating-none (c .before .pre .1 .0)
+loop-holds c = updating-none (c .before .pre .0 .sound)
 
 take-requires : tie.Need-take-requires Inv-loop μ-loop
-take-requires c κs = (
-  c .before .before .before .before .pre .0,
-  (
-    c .before .before .loop .inv .leaves .holds .sound,
-    (
-      c .before .before .before .before .pre .1 .1,
-      c .before .loop-test .taken,
-    ),
-  ),
-)
+take-requires c κs = (leaves-laid (c .before .before .before .before .pre .0) (c .before .before .loop .inv .leaves), (c .before .before .before .before .pre .1, c .before .loop-test .taken))
 
 loop-less : tie.Need-loop-less Inv-loop μ-loop
 loop-less c = omega (arith, c .before .before .take .ensures .onward, c .before .before .take .ensures .within)
 
 loop-again : tie.Need-loop-again Inv-loop μ-loop
 loop-again c =
-    updating-more (c .before .before .before .before .before .loop .inv) (c .before .before .before .before .before .before .before .pre .1 .1)
+    updating-more (c .before .before .before .before .before .loop .inv) (c .before .before .before .before .before .before .before .pre .1)
     (c .before .before .take .ensures)
 
 same-length : tie.Need-same-length Inv-loop μ-loop

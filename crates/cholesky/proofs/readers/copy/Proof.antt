@@ -16,11 +16,11 @@ abbrev μ-loop : tie.MeasureT-loop
 μ-loop y a l₀ n j₀ l j = y .order - j
 
 loop-holds : tie.Need-loop-holds Inv-loop μ-loop
-loop-holds c = filling-none (c .before .before .pre .1 .1)
+loop-holds c = filling-none (c .before .before .pre .1)
 
 copy-column-requires : tie.Need-copy-column-requires Inv-loop μ-loop
 copy-column-requires c κs =
-    (c .before .before .before .before .before .pre .0, (c .before .before .before .before .before .pre .1 .0, (c .before .before .loop .inv .long, omega arith)))
+    (c .before .before .before .before .before .pre .0, (c .before .before .loop .inv .long, omega arith))
 
 add-j : tie.Need-add-j Inv-loop μ-loop
 add-j c = search needs

@@ -4,18 +4,20 @@ use mathlib.Core.Bool.{true}
 use mathlib.Core.List.{List}
 use Prim.Native.Nat.{ℕ, _≤_, _<_}
 use lib.Ieee.{Float, neg}
+use Rattle.answer.specs.declared.Answer.{Answer}
 use Rattle.answer.specs.Number.{isDone}
 use Rattle.matrix.specs.declared.Layout.{Layout}
+use Rattle.matrix.specs.Matrix.{Matrix}
 use Rattle.matrix.specs.Loop.{for}
 use Rattle.matrix.specs.Grid.{load}
 use Rattle.matrix.specs.Layouts.{startOf, lower}
 use Rattle.strips.specs.declared.Source.{Source}
 use Rattle.cholesky.specs.declared.engine.Verdict.{Verdict}
 use Rattle.cholesky.specs.declared.engine.Step.{Step}
-use Rattle.cholesky.specs.Column.{taken, part}
-use Rattle.cholesky.specs.Run.{column, started}
+use Rattle.cholesky.specs.Column.{less, part}
+use Rattle.cholesky.specs.Run.{Outcome, factorColumn, started}
 use Rattle.cholesky.specs.Crate.{crateRule}
-use Rattle.cholesky.specs.Leaves.{Leaves, Ends}
+use Rattle.cholesky.specs.Leaves.{Leaves}
 
 -- rows from r on of column j, from the diagonal down
 pub record Reach (y : Layout) (r j : ℕ) : Type 0 where
@@ -28,19 +30,33 @@ pub record Sourced (y : Layout) (l : List Float) (j k : ℕ) (s : Source) : Type
   pub start : s .start ≡ startOf y k
   pub scale : s .scale ≡ neg (load (lower y) l j k)
 
+-- row i of column j, less what the columns lo to hi take
+unfoldable pub lessColumns : Matrix → ℕ → ℕ → ℕ → ℕ → Float
+unfolding less
+lessColumns M j lo hi i = for lo hi (less M i j) (M i j)
+
 -- the columns from k on, up to the next one, are taken off, one of them at least
-pub record Taken (y : Layout) (r j k : ℕ) (l₀ l : List Float) (next : ℕ) : Type 0 where
+pub record TakenOff (y : Layout) (r j k : ℕ) (l₀ l : List Float) (next : ℕ) : Type 0 where
   pub onward : k < next
   pub within : next ≤ j
-  pub leaves : Leaves y l₀ l (part r j (taken (load (lower y) l₀) j k next) (load (lower y) l₀))
+  pub leaves : Leaves y l₀ l (part r j (lessColumns (load (lower y) l₀) j k next) (load (lower y) l₀))
 
 -- the diagonal d of column j is judged by the rule
 pub record Judgement (d : Float) (j : ℕ) (v : Verdict) : Type 0 where
   pub answer : v .answer ≡ crateRule .verdict d j
   pub root : isDone (v .answer) ≡ true → v .root ≡ crateRule .root d
 
+-- the answer is the outcome's, and so is what is left
+pub record Ends (y : Layout) (l₀ l : List Float) (r : Answer) (o : Outcome) : Type 0 where
+  pub answer : r ≡ o .answer
+  pub leaves : Leaves y l₀ l (o .cells)
+
 -- the columns from j on, up to the next one, are worked on, one of them at least
 pub record Advanced (y : Layout) (m j : ℕ) (l₀ l : List Float) (s : Step) : Type 0 where
   pub onward : j < s .next
   pub within : s .next ≤ y .order
-  pub ends : Ends y l₀ l (s .answer) (for j (s .next) (column crateRule m) (started (load (lower y) l₀)))
+  pub ends : Ends y l₀ l (s .answer) (for j (s .next) (factorColumn crateRule m) (started (load (lower y) l₀)))
+
+-- column j of M
+abbrev pub down : Matrix → ℕ → ℕ → Float
+down M j i = M i j
