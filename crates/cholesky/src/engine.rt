@@ -140,8 +140,8 @@ fn advance(y: Layout, a: &mut [f64], m: usize, j: usize) -> Step
     ensures { λ s. ⌜ Advanced y m j (now (a .entry)) (now (a .exit)) s ⌝ }
 {
     if j < m {
-        update(y, a, y.order, j);
-        divide(y, a, y.order, j);
+        update(y, a, m, j);
+        divide(y, a, m, j);
         return Step {
             answer: Answer::Done,
             next: j + 1,
