@@ -6,19 +6,22 @@ use Prim.Native.Nat.{ℕ, _<_}
 use lib.Ieee.{Float}
 use Rattle.answer.specs.declared.Answer.{Answer}
 use Rattle.answer.specs.Number.{isDone}
-use Rattle.lblt_solve.specs.Calls.{lowerOf, Solved}
-use Rattle.lblt_column.specs.Column.{solveColumn}
-use Rattle.lblt_sides.specs.Columns.{column}
-use Rattle.lblt_solve.proofs.Admitted.{solver-admitted}
-use Rattle.lblt_sides.proofs.EachColumn.{each-column}
-use Rattle.lblt_column.proofs.Keeps.{solve-keeps}
+use Rattle.matrix.specs.declared.Layout.{Layout}
+use Rattle.matrix.specs.Grid.{load}
+use Rattle.matrix.specs.Layouts.{lower}
+use Rattle.matrix.specs.Columns.{column}
+use Rattle.matrix.proofs.Columns.{each-column}
+use Rattle.lblt_solve_one.specs.Column.{solveColumn}
+use Rattle.lblt_solve_one.proofs.Keeps.{solve-keeps}
+use Rattle.lblt_solve.specs.Solve.{LbltSolved}
+use Rattle.lblt_solve.proofs.Marked.{solver-admitted}
 
-pub column-solved
-    : {n columns : ℕ} {a : List Float} {words : List ℕ} {b : List Float} {r : Answer} {b' : List Float}
-    → Solved n columns a words b r b' → isDone r ≡ true
+pub lblt-column-solved
+    : {y : Layout} {columns : ℕ} {a : List Float} {words : List ℕ} {b : List Float} {r : Answer} {b' : List Float}
+    → LbltSolved y columns a words b r b' → isDone r ≡ true
     → (j : ℕ) → j < columns
-    → column n j b' ≡ solveColumn n (lowerOf n a) words (column n j b)
-column-solved {n} {columns} {a} {words} {b} {r} s done j below =
-    let m = solver-admitted n columns a words b done (s .answer) in
-    ap (column n j) (s .sides ∙ rw done)
-    ∙ each-column n (solveColumn n (lowerOf n a) words) (solve-keeps n (lowerOf n a) words) columns b (m .long) j below
+    → column (y .order) j b' ≡ solveColumn (y .order) (load (lower y) a) words (column (y .order) j b)
+lblt-column-solved {y} {columns} {a} {words} {b} s done j below =
+    let known = solver-admitted y columns a words b (s .answer) done in
+    ap (column (y .order) j) (s .sides ∙ rw done)
+    ∙ each-column (y .order) (solveColumn (y .order) (load (lower y) a) words) (solve-keeps (y .order) (load (lower y) a) words) columns b (known .long) j below

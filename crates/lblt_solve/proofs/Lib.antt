@@ -1,6 +1,3 @@
-pub mod Steps
-pub mod Admitted
-pub mod Squares
-pub mod Gathers
+pub mod Marked
 pub mod Once
 pub mod ColumnAlone

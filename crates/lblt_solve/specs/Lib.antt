@@ -1,4 +1,1 @@
-pub mod Diagonal
-pub mod Permuted
-pub mod Calls
-pub mod Engine
+pub mod Solve

@@ -1,60 +1,38 @@
-// The readers of an LBLT factor: `solve_mut`, `determinant`, `d` and `l_permuted`.
-mod admit;
-mod diagonal;
-mod permuted;
+// `solve_mut` by an LBLT factor.
 mod sides;
-mod square;
 
-ghost use Rattle.lblt_solve.specs.Calls.{Solved, Determined, Filled, lowerOf};
-ghost use Rattle.lblt_solve.specs.Diagonal.{dOf};
-ghost use Rattle.lblt_solve.specs.Permuted.{lPermutedOf};
+ghost use mathlib.Core.Path.{_≡_};
+ghost use Rattle.answer.specs.declared.Answer.the-variants.{Done};
+ghost use Rattle.answer.specs.Refusals.{tested};
+ghost use Rattle.matrix.specs.Layouts.{full};
+ghost use Rattle.lblt_solve.specs.Solve.{solveTests, LbltSolved};
 use answer::Answer;
-use answer::Valued;
 use matrix::Layout;
+
+// What a reader of a factor refuses, then a zero mark.
+fn check(y: Layout, columns: usize, a: &[f64], words: &[u32], b: &[f64]) -> Answer
+    ensures { λ r. ⌜ r ≡ tested (solveTests y columns (now (a .entry)) (now (words .entry)) (now (b .entry))) Done ⌝ }
+{
+    let answer = lblt_read::check_columns(y, columns, a, words, b);
+    if answer.code() != 0 {
+        return answer;
+    }
+    let mark = pivots::mark(words, y.order);
+    if mark == 0 {
+        return answer;
+    }
+    Answer::ZeroMark((mark - 1) as u32)
+}
 
 // Solves A x = b for each of the columns of b, n numbers a column.
 pub fn solve_mut(a: &[f64], words: &[u32], b: &mut [f64], n: usize, columns: usize) -> Answer
-    ensures { λ r. ⌜ Solved n columns (now (a .entry)) (now (words .entry)) (now (b .entry)) r (now (b .exit)) ⌝ }
+    ensures { λ r. ⌜ LbltSolved (full n) columns (now (a .entry)) (now (words .entry)) (now (b .entry)) r (now (b .exit)) ⌝ }
 {
-    let answer = admit::solver(a, words, b, n, columns);
+    let y = Layout::full(n);
+    let answer = check(y, columns, a, words, b);
     if answer.code() != 0 {
         return answer;
     }
-    sides::solve(Layout { order: n, room: n }, a, words, b, columns);
-    answer
-}
-
-pub fn determinant(a: &[f64], words: &[u32], n: usize) -> Valued
-    ensures { λ r. ⌜ Determined n (now (a .entry)) (now (words .entry)) r ⌝ }
-{
-    let answer = admit::reader(a, words, a, n, n);
-    if answer.code() != 0 {
-        return Valued { answer, value: 0.0 };
-    }
-    let value = diagonal::product(Layout { order: n, room: n }, a, words);
-    Valued { answer, value }
-}
-
-// Fills d with the block diagonal matrix.
-pub fn d(a: &[f64], words: &[u32], d: &mut [f64], n: usize) -> Answer
-    ensures { λ r. ⌜ Filled n (now (a .entry)) (now (words .entry)) (dOf n (lowerOf n (now (a .entry))) (now (words .entry))) (now (d .entry)) r (now (d .exit)) ⌝ }
-{
-    let answer = admit::reader(a, words, d, n, n);
-    if answer.code() != 0 {
-        return answer;
-    }
-    diagonal::fill(Layout { order: n, room: n }, a, words, d);
-    answer
-}
-
-// Fills l with Pᵀ L.
-pub fn l_permuted(a: &[f64], words: &[u32], l: &mut [f64], n: usize) -> Answer
-    ensures { λ r. ⌜ Filled n (now (a .entry)) (now (words .entry)) (lPermutedOf n (lowerOf n (now (a .entry))) (now (words .entry))) (now (l .entry)) r (now (l .exit)) ⌝ }
-{
-    let answer = admit::reader(a, words, l, n, n);
-    if answer.code() != 0 {
-        return answer;
-    }
-    permuted::fill(Layout { order: n, room: n }, a, words, l);
+    sides::solve(y, a, words, b, columns);
     answer
 }

@@ -1,13 +1,16 @@
 -- `solve_mut` solves where its checks admit it, and leaves all as it was where they do not.
 use Rattle.answer.proofs.Done.{code-done, code-refused}
-use Rattle.lblt_solve.proofs.Admitted.{solver-admitted, factored}
-use Rattle.lblt_solve.specs.Calls.{lowerOf}
+use Rattle.matrix.specs.Layouts.{full}
+use Rattle.lblt_solve.proofs.Marked.{solver-admitted}
 use borrow.Author.Needs.{needs}
 use Rattle.lblt_solve.proofs.solve_mut.Statement.{statement}
 use Rattle.lblt_solve.proofs.solve_mut.Tie as tie
 
-solver-requires : tie.Need-solver-requires
-solver-requires c κs = search needs
+full-requires : tie.Need-full-requires
+full-requires c κs = search needs
+
+check-requires : tie.Need-check-requires
+check-requires c κs = search needs
 
 code-requires : tie.Need-code-requires
 code-requires c κs = search needs
@@ -16,35 +19,25 @@ same-length : tie.Need-same-length
 same-length c = search needs
 
 returns : tie.Need-returns
-returns c =
-    let solver = c .before .before .solver in
-    record { answer = solver .ensures; sides = rw (code-refused (solver .result) (c .before .code .ensures) (c .if1 .taken)) }
+returns c = record { answer = rw (c .before .before .before .before .full .ensures) at (c .before .before .check .ensures); sides = rw (code-refused (c .before .before .check .result) (c .before .code .ensures) (c .if1 .taken)) }
 
 solve-requires : tie.Need-solve-requires
 solve-requires c κs =
-    let code = c .before .before .code in
-    let if1 = c .before .if1 in
-    let solver = c .before .before .before .solver in
-    let admitted = solver-admitted _ _ _ _ _ (code-done (solver .result) (code .ensures) (if1 .left)) (solver .ensures) in
-    (factored admitted, record { few = admitted .few; long = admitted .long })
+    let known = solver-admitted (full (c .before .before .before .before .before .before .before .before .before .args .n)) (c .before .before .before .before .before .before .before .before .before .args .columns) (c .before .before .before .before .before .before .before .before .before .args .a .now) (c .before .before .before .before .before .before .before .before .before .args .words .now) (c .before .before .before .before .before .before .before .before .before .args .b .now) (rw (c .before .before .before .before .before .full .ensures) at (c .before .before .before .check .ensures)) (code-done (c .before .before .before .check .result) (c .before .before .code .ensures) (c .before .if1 .left)) in
+    rw (c .before .before .before .before .before .full .ensures) (known .readable, record { few = known .few; long = known .long })
 
 same-length-2 : tie.Need-same-length-2
 same-length-2 c = search needs
 
 returns-2 : tie.Need-returns-2
-unfolding lowerOf
-returns-2 c =
-    let solver = c .before .before .before .before .before .before .solver in
-    let solve = c .before .before .solve in
-    let code = c .before .before .before .before .before .code in
-    let if1 = c .before .before .before .before .if1 in
-    record { answer = solver .ensures; sides = rw (code-done (solver .result) (code .ensures) (if1 .left)) (solve .ensures) }
+returns-2 c = record { answer = rw (c .before .before .before .before .before .before .before .before .full .ensures) at (c .before .before .before .before .before .before .check .ensures); sides = rw (code-done (c .before .before .before .before .before .before .check .result) (c .before .before .before .before .before .code .ensures) (c .before .before .before .before .if1 .left)) (rw (c .before .before .before .before .before .before .before .before .full .ensures) at (c .before .before .solve .ensures)) }
 
 pub solve-mut-spec : {M : Type 1} → statement M
 solve-mut-spec =
     tie.close
     (tie.spec
-    solver-requires
+    full-requires
+    check-requires
     code-requires
     same-length
     returns

@@ -1,0 +1,136 @@
+-- What the tests of a reader answer, and what they tell where it goes on.
+--     record-short … columns-many      a law for each way out
+--     read-done, columns-done          what is known where all tests hold
+use mathlib.Core.Bool.{true, false}
+use mathlib.Core.List.{List, [], _∷_, _++_}
+use mathlib.Core.Path.{_≡_, refl, sym, ap, _∙_}
+use Prim.Native.Nat.{ℕ, _*_, _≤_, _<_}
+use native.Mathlib.Omega.{arith}
+use borrow.Author.Tests.{le-leb, lt-leb, leb-true, eq-eqb, ne-eqb, eqb-true}
+use lib.Dec.{eqb, leb}
+use lib.Ieee.{Float}
+use lib.ListN.{length}
+use Rattle.answer.specs.declared.Answer.{Answer}
+use Rattle.answer.specs.declared.Answer.the-variants.{Done, OutOfRange, SliceLength}
+use Rattle.answer.specs.Number.{isDone}
+use Rattle.answer.specs.Refusals.{Test, _otherwise_, tested}
+use Rattle.answer.proofs.Tested.{Refusals, tested-join, tested-fixed, all-hold}
+use Rattle.matrix.specs.declared.Layout.{Layout}
+use Rattle.matrix.specs.Sizes.{sizeTests, Fits}
+use Rattle.matrix.proofs.Sizes.{sizes-refuse, fits-pass, done-fits, laid-fits}
+use Rattle.pivots.specs.Words.{wordsOf}
+use Rattle.pivots.specs.Rule.{checked, Accepted}
+use Rattle.lblt_solve_one.specs.inner.Engine.{Readable}
+use Rattle.lblt_read.specs.Calls.{wordTests, readerTests, columnTests}
+
+-- a test that holds, and one that fails
+test-holds : (t : Test) (tests : List Test) (r : Answer) → t .holds ≡ true → tested (t ∷ tests) r ≡ tested tests r
+unfolding tested
+test-holds t tests r e = rw e
+
+test-fails : (t : Test) (tests : List Test) (r : Answer) → t .holds ≡ false → tested (t ∷ tests) r ≡ t .refusal
+unfolding tested
+test-fails t tests r e = rw e
+
+-- ---- the record
+
+module _ (n : ℕ) (words : List ℕ) where
+  pub record-short : (length words ≡ wordsOf n → ⊥) → SliceLength ≡ tested (wordTests n words) Done
+  record-short h = sym (test-fails _ _ _ (ne-eqb (length words) (wordsOf n) h))
+
+  pub record-long : length words ≡ wordsOf n → checked n words ≡ tested (wordTests n words) Done
+  unfolding checked
+  record-long h = sym (test-holds _ _ _ (eq-eqb (length words) (wordsOf n) h))
+
+-- ---- the tests of size, then others
+
+module _ (y : Layout) (a : List Float) {fault : Answer} (sized : fault ≡ tested (sizeTests y 0 (length a)) Done) where
+  pub sizes-fit : isDone fault ≡ true → Fits y 0 (length a)
+  sizes-fit done = done-fits y 0 (length a) Done (ap isDone (sym sized) ∙ done)
+
+  pub order-small : isDone fault ≡ true → y .order ≤ 1024
+  order-small done = let fits = sizes-fit done in omega (arith, fits .roomy .ordered, fits .roomy .small)
+
+  sizes-fail : (more : List Test) → isDone fault ≡ false → fault ≡ tested (sizeTests y 0 (length a) ++ more) Done
+  sizes-fail more refused =
+      sized ∙ sym (tested-join (sizeTests y 0 (length a)) more Done ∙ tested-fixed (sizeTests y 0 (length a)) (tested more Done) (ap isDone (sym sized) ∙ refused))
+
+  sizes-pass : (more : List Test) → isDone fault ≡ true → {r : Answer} → r ≡ tested more Done → r ≡ tested (sizeTests y 0 (length a) ++ more) Done
+  sizes-pass more done e = e ∙ sym (tested-join (sizeTests y 0 (length a)) more Done ∙ fits-pass y 0 (length a) (sizes-fit done) (tested more Done))
+
+  module _ (words : List ℕ) where
+    pub factor-wrong : isDone fault ≡ false → fault ≡ tested (readerTests y a words) Done
+    factor-wrong refused = sizes-fail (wordTests (y .order) words) refused
+
+    pub factor-right : isDone fault ≡ true → {r : Answer} → r ≡ tested (wordTests (y .order) words) Done → r ≡ tested (readerTests y a words) Done
+    factor-right done e = sizes-pass (wordTests (y .order) words) done e
+
+    module _ (columns : ℕ) (few : columns ≤ 1024) (b : List Float) where
+      sides : Test
+      sides = eqb (length b) (y .order * columns) otherwise SliceLength
+
+      few-first : {r : Answer} → r ≡ tested (sizeTests y 0 (length a) ++ (sides ∷ wordTests (y .order) words)) Done → r ≡ tested (columnTests y columns a words b) Done
+      unfolding sides
+      few-first e = e ∙ sym (test-holds _ _ _ (le-leb columns 1024 few))
+
+      pub matrix-wrong : isDone fault ≡ false → fault ≡ tested (columnTests y columns a words b) Done
+      matrix-wrong refused = few-first (sizes-fail _ refused)
+
+      pub sides-wrong : isDone fault ≡ true → (length b ≡ y .order * columns → ⊥) → SliceLength ≡ tested (columnTests y columns a words b) Done
+      unfolding sides
+      sides-wrong done h = few-first (sizes-pass _ done (sym (test-fails _ _ _ (ne-eqb (length b) (y .order * columns) h))))
+
+      pub sides-right
+          : isDone fault ≡ true → length b ≡ y .order * columns → {r : Answer} → r ≡ tested (wordTests (y .order) words) Done
+          → r ≡ tested (columnTests y columns a words b) Done
+      unfolding sides
+      sides-right done h e = few-first (sizes-pass _ done (e ∙ sym (test-holds _ _ _ (eq-eqb (length b) (y .order * columns) h))))
+
+pub columns-many : (y : Layout) (columns : ℕ) (a : List Float) (words : List ℕ) (b : List Float) → 1024 < columns → OutOfRange ≡ tested (columnTests y columns a words b) Done
+columns-many y columns a words b h = sym (test-fails _ _ _ (lt-leb columns 1024 h))
+
+-- ---- what is known where all tests hold
+
+words-accepted : (n : ℕ) (words : List ℕ) → n ≤ 1024 → isDone (tested (wordTests n words) Done) ≡ true → Accepted n words
+unfolding checked tested
+words-accepted n words small done =
+    let h = all-hold ((eqb (length words) (wordsOf n) otherwise SliceLength) ∷ []) (checked n words) (refl, tt) done in
+    record { sized = record { order = small; total = eqb-true (length words) (wordsOf n) (h .0 .0) }; done = h .1 }
+
+sizes-then : (y : Layout) (a : List Float) (more : List Test) → isDone (tested (sizeTests y 0 (length a) ++ more) Done) ≡ true → Fits y 0 (length a) × (isDone (tested more Done) ≡ true)
+sizes-then y a more done =
+    let joined = ap isDone (sym (tested-join (sizeTests y 0 (length a)) more Done)) ∙ done in
+    (done-fits y 0 (length a) (tested more Done) joined, all-hold (sizeTests y 0 (length a)) (tested more Done) (sizes-refuse y 0 (length a)) joined .1)
+
+small-order : {y : Layout} {len : ℕ} → Fits y 0 len → y .order ≤ 1024
+small-order f = omega (arith, f .roomy .ordered, f .roomy .small)
+
+pub read-done : (y : Layout) (a : List Float) (words : List ℕ) → isDone (tested (readerTests y a words) Done) ≡ true → Readable y a words
+read-done y a words done =
+    let h = sizes-then y a (wordTests (y .order) words) done in
+    record { factor = laid-fits (h .0); accepted = words-accepted (y .order) words (small-order (h .0)) (h .1) }
+
+pub record Columned (y : Layout) (columns : ℕ) (a : List Float) (words : List ℕ) (b : List Float) : Type 0 where
+  pub few : columns ≤ 1024
+  pub readable : Readable y a words
+  pub long : length b ≡ y .order * columns
+
+pub columns-done
+    : (y : Layout) (columns : ℕ) (a : List Float) (words : List ℕ) (b : List Float)
+    → isDone (tested (columnTests y columns a words b) Done) ≡ true
+    → Columned y columns a words b
+unfolding tested
+columns-done y columns a words b done =
+    let rest : List Test = (eqb (length b) (y .order * columns) otherwise SliceLength) ∷ wordTests (y .order) words in
+    let first = all-hold ((leb columns 1024 otherwise OutOfRange) ∷ []) (tested (sizeTests y 0 (length a) ++ rest) Done) (refl, tt) done in
+    let sizes = sizes-then y a rest (first .1) in
+    let side = all-hold ((eqb (length b) (y .order * columns) otherwise SliceLength) ∷ []) (tested (wordTests (y .order) words) Done) (refl, tt) (sizes .1) in
+    record {
+      few = leb-true columns 1024 (first .0 .0);
+      readable = record { factor = laid-fits (sizes .0); accepted = words-accepted (y .order) words (small-order (sizes .0)) (side .1) };
+      long = eqb-true (length b) (y .order * columns) (side .0 .0);
+    }
+
+-- no test of a reader answers that all is done
+pub columns-refuse : (y : Layout) (columns : ℕ) (a : List Float) (words : List ℕ) (b : List Float) → Refusals (columnTests y columns a words b)
+columns-refuse y columns a words b = (refl, (refl, (refl, (refl, (refl, (refl, (refl, (refl, (refl, (refl, (refl, tt)))))))))))

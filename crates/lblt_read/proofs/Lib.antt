@@ -1,0 +1,5 @@
+pub mod Gathers
+pub mod Squares
+pub mod Steps
+pub mod Admitted
+pub mod Once

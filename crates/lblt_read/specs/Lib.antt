@@ -1,0 +1,4 @@
+pub mod Diagonal
+pub mod Permuted
+pub mod Calls
+pub mod inner

@@ -1,0 +1,96 @@
+// What is read from an LBLT factor: `determinant`, `d` and `l_permuted`; and what every reader refuses.
+mod diagonal;
+mod permuted;
+mod square;
+
+ghost use mathlib.Core.Path.{_≡_};
+ghost use Prim.Native.Nat.{_≤_};
+ghost use Rattle.answer.specs.declared.Answer.the-variants.{Done};
+ghost use Rattle.answer.specs.Refusals.{tested};
+ghost use Rattle.matrix.specs.Grid.{load};
+ghost use Rattle.matrix.specs.Layouts.{full, lower};
+ghost use Rattle.lblt_read.specs.Calls.{wordTests, readerTests, columnTests, LbltDetermined, LbltFilled};
+ghost use Rattle.lblt_read.specs.Diagonal.{dOf};
+ghost use Rattle.lblt_read.specs.Permuted.{lPermutedOf};
+use answer::Answer;
+use answer::Valued;
+use matrix::Layout;
+
+// ---- what every reader refuses, in the order of the table
+
+fn check_record(words: &[u32], n: usize) -> Answer
+    requires { ⌜ n ≤ 1024 ⌝ }
+    ensures { λ r. ⌜ r ≡ tested (wordTests n (now (words .entry))) Done ⌝ }
+{
+    if words.len() != pivots::words(n) {
+        return Answer::SliceLength;
+    }
+    pivots::check(words, n)
+}
+
+fn check_factor(y: Layout, a: &[f64], words: &[u32]) -> Answer
+    ensures { λ r. ⌜ r ≡ tested (readerTests y (now (a .entry)) (now (words .entry))) Done ⌝ }
+{
+    let fault = y.check(0, a.len());
+    if fault.code() != 0 {
+        return fault;
+    }
+    check_record(words, y.order)
+}
+
+// The same with a slice b of columns besides.
+pub fn check_columns(y: Layout, columns: usize, a: &[f64], words: &[u32], b: &[f64]) -> Answer
+    ensures { λ r. ⌜ r ≡ tested (columnTests y columns (now (a .entry)) (now (words .entry)) (now (b .entry))) Done ⌝ }
+{
+    if 1024 < columns {
+        return Answer::OutOfRange;
+    }
+    let fault = y.check(0, a.len());
+    if fault.code() != 0 {
+        return fault;
+    }
+    if b.len() != y.order * columns {
+        return Answer::SliceLength;
+    }
+    check_record(words, y.order)
+}
+
+// ---- the readers
+
+pub fn determinant(a: &[f64], words: &[u32], n: usize) -> Valued
+    ensures { λ r. ⌜ LbltDetermined (full n) (now (a .entry)) (now (words .entry)) r ⌝ }
+{
+    let y = Layout::full(n);
+    let answer = check_factor(y, a, words);
+    if answer.code() != 0 {
+        return Valued { answer, value: 0.0 };
+    }
+    let value = diagonal::product(y, a, words);
+    Valued { answer, value }
+}
+
+// Fills d with the block diagonal matrix.
+pub fn d(a: &[f64], words: &[u32], d: &mut [f64], n: usize) -> Answer
+    ensures { λ r. ⌜ LbltFilled (full n) (now (a .entry)) (now (words .entry)) (dOf n (load (lower (full n)) (now (a .entry))) (now (words .entry))) (now (d .entry)) r (now (d .exit)) ⌝ }
+{
+    let y = Layout::full(n);
+    let answer = check_columns(y, n, a, words, d);
+    if answer.code() != 0 {
+        return answer;
+    }
+    diagonal::fill(y, a, words, d);
+    answer
+}
+
+// Fills l with Pᵀ L.
+pub fn l_permuted(a: &[f64], words: &[u32], l: &mut [f64], n: usize) -> Answer
+    ensures { λ r. ⌜ LbltFilled (full n) (now (a .entry)) (now (words .entry)) (lPermutedOf n (load (lower (full n)) (now (a .entry))) (now (words .entry))) (now (l .entry)) r (now (l .exit)) ⌝ }
+{
+    let y = Layout::full(n);
+    let answer = check_columns(y, n, a, words, l);
+    if answer.code() != 0 {
+        return answer;
+    }
+    permuted::fill(y, a, words, l);
+    answer
+}
