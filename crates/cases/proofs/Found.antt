@@ -26,7 +26,7 @@ use Rattle.lblt_solve.specs.Diagonal.{determinantOf}
 use Rattle.lblt_solve.specs.Calls.{lowerOf, readerAnswer, solveAnswer, Solved, Determined}
 use Rattle.cholesky.specs.Promise.{batch, Extended}
 use Rattle.cholesky.specs.Solve.{sidesTests, solveSides, CholeskySolved}
-use Rattle.udu.specs.Promise.{Sizes, right, wrong, sizesOf, uduOf, answerBy, foundOf, LeftBy, Factored as FactoredUdu}
+use Rattle.udu.specs.Promise.{uduTests, uduOf, uduAnswer, factorsOf, UduFactored}
 use Rattle.cases.specs.Calls.{floats, bitsOf, answered, lentWords, lentFloats, Call, lbltFactor, lbltDeterminant, lbltSolve, lbltLargest, choleskyFactor, choleskySolve, choleskySolveSizes, uduFactor, root, Gives}
 use Rattle.matrix.proofs.Slices.{listed, is-listed, overlaid, holds-overlaid, fills-listed}
 use Rattle.matrix.specs.Rounded.{plusZero}
@@ -109,26 +109,26 @@ module _ (room n : ℕ) (a : List Float) where
 -- ---- UDU
 
 module _ (n : ℕ) (p u₀ d₀ : List Float) where
-  abbrev upperBy : Sizes → List Float
-  upperBy right = listed (λ q. mask (square n) (foundOf (uduOf n p) .u) (q % n) (q / n)) (n * n)
-  upperBy (wrong r) = u₀
+  abbrev uduSizes : Answer
+  uduSizes = tested (uduTests n (length p) (length u₀) (length d₀)) Done
 
-  abbrev diagonalBy : Sizes → List Float
-  diagonalBy right = listed (foundOf (uduOf n p) .d) n
-  diagonalBy (wrong r) = d₀
+  abbrev uduUpper : List Float
+  uduUpper = cond (isDone uduSizes) (listed (λ q. mask (square n) (factorsOf (uduOf n p) .u) (q % n) (q / n)) (n * n)) u₀
+
+  abbrev uduDiagonals : List Float
+  uduDiagonals = cond (isDone uduSizes) (listed (factorsOf (uduOf n p) .d) n) d₀
 
   unfoldable pub uduNumbers : List (List ℕ)
-  uduNumbers =
-      let s = sizesOf n (length p) (length u₀) (length d₀) in
-      answered (answerBy s (uduOf n p)) ∷ bitsOf (upperBy s) ∷ bitsOf (diagonalBy s) ∷ []
+  uduNumbers = answered (tested (uduTests n (length p) (length u₀) (length d₀)) (uduAnswer (uduOf n p))) ∷ bitsOf uduUpper ∷ bitsOf uduDiagonals ∷ []
 
-  pub factors-udu : {u d : List Float} {r : Answer} → FactoredUdu p u₀ d₀ n r u d → (answered r ∷ bitsOf u ∷ bitsOf d ∷ []) ≡ uduNumbers
+  pub factors-udu : {u d : List Float} {r : Answer} → UduFactored p u₀ d₀ n r u d → (answered r ∷ bitsOf u ∷ bitsOf d ∷ []) ≡ uduNumbers
   unfolding uduNumbers
-  factors-udu {u} {d} f = let g = left (sizesOf n (length p) (length u₀) (length d₀)) (f .slices) in rw (f .answer, g .0, g .1)
-    where
-      left : (s : Sizes) → LeftBy s n (uduOf n p) u₀ d₀ u d → (u ≡ upperBy s) × (d ≡ diagonalBy s)
-      left right f = (fills-listed (f .upper), is-listed d (foundOf (uduOf n p) .d) n (f .diagonal .long) (f .diagonal .cells))
-      left (wrong r) f = (f .upper, f .diagonal)
+  factors-udu {u} {d} f =
+      let g : (u ≡ uduUpper) × (d ≡ uduDiagonals) = done-or-refused uduSizes
+          (λ e. let held = f .slices .done e in
+          (rw e (fills-listed (held .upper)), rw e (is-listed d (factorsOf (uduOf n p) .d) n (held .diagonal .long) (held .diagonal .cells))))
+          (λ e. let kept = f .slices .refused e in (rw e (kept .upper), rw e (kept .diagonal))) in
+      rw (f .answer, g .0, g .1)
 
 -- ---- what each call gives
 

@@ -18,7 +18,7 @@ use Rattle.lblt.specs.Factor.{Factored}
 use Rattle.lblt_solve.specs.Calls.{Solved, Determined}
 use Rattle.cholesky.specs.Promise.{Extended}
 use Rattle.cholesky.specs.Solve.{CholeskySolved}
-use Rattle.udu.specs.Promise.{Factored as FactoredUdu}
+use Rattle.udu.specs.Promise.{UduFactored}
 
 unfoldable pub floats : List ℕ → List Float
 floats [] = []
@@ -81,7 +81,7 @@ Gives (choleskySolveSizes room n columns factor sides) numbers =
     → (answered r ∷ []) ≡ numbers
 -- the answer, u, d
 Gives (uduFactor n p) numbers =
-    (r : Answer) (u d : List Float) → FactoredUdu (floats p) (lentFloats (n * n)) (lentFloats n) n r u d
+    (r : Answer) (u d : List Float) → UduFactored (floats p) (lentFloats (n * n)) (lentFloats n) n r u d
     → (answered r ∷ bitsOf u ∷ bitsOf d ∷ []) ≡ numbers
 Gives (root x) numbers = (r : Float) → r ≡ rootOf (ofBits binary64 x) → ((toBits binary64 r ∷ []) ∷ []) ≡ numbers
 

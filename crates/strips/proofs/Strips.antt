@@ -64,6 +64,13 @@ strip-apart {to} {lo} {hi} {i = i} s d below side = d .strip .outside (i + s .st
 
 -- ---- strips that meet
 
+pub strip-nothing : {s lo : ℕ} {v : ℕ → Float} {l : List Float} → Strip s lo lo v l l
+strip-nothing {s} {lo} {v} {l} = strip-none {s = s} {lo = lo} {hi = lo} {v = v} {l = l} (omega arith) .strip
+
+-- the same rows written again
+pub strip-then : {s lo hi : ℕ} {v w : ℕ → Float} {l₀ l l' : List Float} → Strip s lo hi v l₀ l → Strip s lo hi w l l' → Strip s lo hi w l₀ l'
+strip-then p q = record { long = q .long ∙ p .long; inside = q .inside; outside = λ x free. q .outside x free ∙ p .outside x free }
+
 pub strip-as : {s lo hi : ℕ} {v w : ℕ → Float} {l₀ l : List Float} → Strip s lo hi v l₀ l → ((i : ℕ) → lo ≤ i → i < hi → v i ≡ w i) → Strip s lo hi w l₀ l
 strip-as p same = record { long = p .long; inside = λ i a b. p .inside i a b ∙ same i a b; outside = p .outside }
 

@@ -4,7 +4,7 @@
 --     left-at-first        what a call refused at the first leaves
 --     udu-two              order 2: the whole answer
 --     twins-meet           the rows of a pair n − 2, n − 1 of `first_twin` meet in one number
-use mathlib.Core.Path.{_≡_, refl, sym, _∙_, ap, subst}
+use mathlib.Core.Path.{_≡_, refl, sym, _∙_, ap, ap₂, subst}
 use mathlib.Core.Bool.{Bool, true, false, cond, true≢false}
 use mathlib.Core.List.{List}
 use Prim.Native.Nat.{ℕ, zero, suc, _+_, _-_, _*_, _≤_, _<_}
@@ -12,22 +12,24 @@ use native.Mathlib.Nat.{zero-mul, mul-one, mul-pos, zero-lt-suc}
 use native.Mathlib.Omega.{arith}
 use lib.IntN.{ℤ}
 use lib.Dec.{T}
-use lib.ListN.{length, getD}
+use lib.ListN.{getD}
 use borrow.Author.Tests.{eq-eqb, ne-eqb, le-leb}
-use lib.Ieee.{Float, nan, inf, fin, binary64, ofBits, add, sub, mul, div, eq, fits, isNan, up}
+use lib.Ieee.{Float, nan, inf, fin, binary64, ofBits, mul, div, eq, fits, isNan, up}
 use lib.Ieee.Fits.{up-pos}
 use Rattle.answer.specs.declared.Answer.{Answer}
 use Rattle.answer.specs.declared.Answer.the-variants.{Done, ZeroDiagonal}
 use Rattle.matrix.specs.Matrix.{Matrix}
+use Rattle.matrix.specs.Loop.{for, falling}
 use Rattle.matrix.specs.Grid.{load}
-use Rattle.matrix.specs.Layouts.{upper}
-use Rattle.matrix.specs.Rounded.{plusZero, one}
-use Rattle.udu.specs.Columns.{total, Found, nothing, squared, diagonal, lastEntry, entryOf, withDiagonal, withColumn, Run, accepted, refused, judged, column, run}
-use Rattle.udu.specs.Promise.{Sizes, right, sizesOf, uduOf, answerOf, foundOf, Filled, answerBy, LeftBy, Factored}
-use Rattle.udu.specs.Leaves.{Sized, Columned, squareOf}
-use Rattle.udu.proofs.Filled.{cell}
+use Rattle.matrix.specs.Layouts.{upper, square}
+use Rattle.matrix.specs.Rounded.{_⊕_, _⊖_, _⊗_, _⊘_, plusZero, one}
+use Rattle.matrix.proofs.Loops.{for-one, falling-related, Fell, fell-none, fell-more}
+use Rattle.matrix.proofs.Places.{square-at}
+use Rattle.udu.specs.Columns.{Factors, nothing, plusSquare, squareSum, uduDiagonal, lastEntry, uduEntry, withDiagonal, withColumn, UduRun, accepted, refused, columnBy, uduColumn, uduColumns}
+use Rattle.udu.specs.Promise.{UduSized, uduOf, uduAnswer, factorsOf, Holding, UduFactored}
+use Rattle.udu.proofs.Holding.{cell}
 use Rattle.udu.proofs.Reached.{refused-stays}
-use Rattle.udu.proofs.Sizes.{sized}
+use Rattle.udu.proofs.Sizes.{columned}
 use Rattle.twins.specs.Twins.{Twins}
 use Rattle.twins.proofs.Clauses.{Lower, lower-of-twins}
 use Rattle.twin_laws.proofs.Exact.{times-one, zero-plus, less-itself}
@@ -41,11 +43,11 @@ pub record LastTwins (n : ℕ) (p : List Float) (x : Float) : Type 0 where
 
 -- what UDU then finds as u(n−2, n−1), which is (1/x)·x, and as d(n−2)
 unfoldable pub side : Float → Float
-side x = mul binary64 (div binary64 one x) x
+side x = (one ⊘ x) ⊗ x
 
 unfoldable pub rest : Float → Float
 unfolding side
-rest x = sub binary64 x (add binary64 plusZero (mul binary64 x (mul binary64 (side x) (side x))))
+rest x = x ⊖ (plusZero ⊕ x ⊗ (side x ⊗ side x))
 
 -- the call goes past column j: done, or refused at a column before it
 pub data Past (j : ℕ) : Answer → Type 0 where
@@ -63,8 +65,8 @@ pub record LeftAtFirst (n : ℕ) (p : List Float) (x : Float) (u d : List Float)
   pub second : getD d (n - 1) nan ≡ x
   pub first : getD d (n - 2) nan ≡ rest x
   pub before : (k : ℕ) → k < n - 2 → getD d k nan ≡ plusZero
-  pub column : (i : ℕ) → i < n → squareOf n u i (n - 1) ≡ mul binary64 (div binary64 one x) (load (upper n) p i (n - 1))
-  pub clear : (i k : ℕ) → i < n → k < n - 1 → squareOf n u i k ≡ plusZero
+  pub column : (i : ℕ) → i < n → load (square n) u i (n - 1) ≡ (one ⊘ x) ⊗ load (upper n) p i (n - 1)
+  pub clear : (i k : ℕ) → i < n → k < n - 1 → load (square n) u i k ≡ plusZero
 
 -- ---- past a column
 
@@ -73,22 +75,19 @@ pub not-from : {j k : ℕ} {r : Answer} → Past j r → j ≤ k → r ≡ ZeroD
 not-from done from e = let z : _≡_ {A = ℕ} 0 1 = cc in omega arith
 not-from {j} {k} (before {k = i} less) from e = let same : i ≡ k = cc in omega arith
 
-past-column : (P : Matrix) (R : Run) (i t j : ℕ) → i < j → Past j (answerOf R) → Past j (answerOf (column P i t R))
-unfolding column
-past-column P (accepted F) i t j left past = by (diagonal P F i t) (eq (diagonal P F i t) plusZero)
+past-column : (n : ℕ) (P : Matrix) (R : UduRun) (i j : ℕ) → i < j → Past j (uduAnswer R) → Past j (uduAnswer (uduColumn n P i R))
+unfolding uduColumn
+past-column n P (accepted F) i j left past = by (uduDiagonal n P F i) (eq (uduDiagonal n P F i) plusZero)
   where
-    by : (y : Float) (b : Bool) → Past j (answerOf (judged P F i t y b))
+    by : (y : Float) (b : Bool) → Past j (uduAnswer (columnBy n P F i y b))
     by y true = before left
     by y false = done
-past-column P (refused k F) i t j left past = past
+past-column n P (refused k F) i j left past = past
 
--- the last t columns are past, and so it is after s more
-past-more : (P : Matrix) (n t s : ℕ) → t + s ≤ n → Past (n - t) (answerOf (run P n t)) → Past (n - t) (answerOf (run P n (t + s)))
-unfolding run
-past-more P n t zero within past = subst (λ (k : ℕ). Past (n - t) (answerOf (run P n k))) (let none : t ≡ t + 0 = omega arith in none) past
-past-more P n t (suc s) within past =
-    subst (λ (k : ℕ). Past (n - t) (answerOf (run P n k))) (let more : suc (t + s) ≡ t + suc s = omega arith in more)
-    (past-column P (run P n (t + s)) (n - suc (t + s)) (t + s) (n - t) (omega arith) (past-more P n t s (omega arith) past))
+-- past column j, and so it is after the columns before it
+past-more : (n : ℕ) (P : Matrix) (R : UduRun) (j : ℕ) → Past j (uduAnswer R) → Past j (uduAnswer (falling j (uduColumn n P) R))
+past-more n P R j past =
+    falling-related {X = UduRun} (λ S T. Past j (uduAnswer S)) j (uduColumn n P) (uduColumn n P) R R past (λ i S T left is. past-column n P S i j left is)
 
 -- ---- the columns of a matrix with such rows
 
@@ -96,69 +95,95 @@ module _ (n : ℕ) (p : List Float) (x : Float) (twins : LastTwins n p x) where
   abbrev P : Matrix
   P = load (upper n) p
 
+  -- the last two columns
+  abbrev lastTwo : UduRun
+  lastTwo = uduColumn n P (n - 2) (uduColumn n P (n - 1) (accepted nothing))
+
+  two-done : Fell n (uduColumn n P) (accepted nothing) (n - 2) lastTwo
+  two-done =
+      let second : 0 < n = omega (arith, twins .two) in
+      let first : 0 < n - 1 = omega (arith, twins .two) in
+      let place : n - 1 - 1 ≡ n - 2 = omega arith in
+      subst (λ (k : ℕ). Fell n (uduColumn n P) (accepted nothing) k (uduColumn n P k (uduColumn n P (n - 1) (accepted nothing)))) place
+      (fell-more (fell-more fell-none second refl) first refl)
+
   -- what is found once the last column is accepted
-  lastFound : Found
-  lastFound = withColumn (withDiagonal nothing (n - 1) x) (n - 1) (entryOf P nothing x (n - 1) zero)
+  lastFound : Factors
+  lastFound = withColumn (withDiagonal nothing (n - 1) x) (n - 1) (uduEntry n P nothing x (n - 1))
+
+  last : n - 1 + 1 ≡ n
+  last = omega (arith, twins .two)
 
   -- the one column behind n − 2
-  behind : n - 2 + 1 + 0 ≡ n - 1
-  behind = omega arith
+  behind : n - 2 + 1 ≡ n - 1
+  behind = omega (arith, twins .two)
 
-  at-second : lastFound .d (n - 2 + 1 + 0) ≡ x
+  at-last : uduDiagonal n P nothing (n - 1) ≡ x
+  unfolding uduDiagonal
+  at-last = rw (eq-eqb (n - 1 + 1) n last) (twins .second)
+
+  at-second : lastFound .d (n - 2 + 1) ≡ x
   unfolding lastFound withColumn withDiagonal
-  at-second = simp (eq-eqb (n - 2 + 1 + 0) (n - 1) behind)
+  at-second = simp (eq-eqb (n - 2 + 1) (n - 1) behind)
 
-  at-side : lastFound .u (n - 2) (n - 2 + 1 + 0) ≡ side x
-  unfolding lastFound withColumn withDiagonal entryOf lastEntry side
-  at-side = simp (eq-eqb (n - 2 + 1 + 0) (n - 1) behind, le-leb (n - 2) (n - 1) (omega arith), twins .beside)
+  at-side : lastFound .u (n - 2) (n - 2 + 1) ≡ side x
+  unfolding lastFound withColumn withDiagonal uduEntry lastEntry side
+  at-side = simp (eq-eqb (n - 2 + 1) (n - 1) behind, le-leb (n - 2) (n - 1) (omega arith), eq-eqb (n - 1 + 1) n last, twins .beside)
 
-  at-first : diagonal P lastFound (n - 2) 1 ≡ rest x
-  unfolding diagonal total squared rest
-  at-first = simp (twins .first, at-second, at-side)
+  one-term : squareSum n lastFound (n - 2) ≡ plusZero ⊕ x ⊗ (side x ⊗ side x)
+  unfolding squareSum
+  one-term =
+      let upto : n ≡ n - 2 + 1 + 1 = omega (arith, twins .two) in
+      ap (λ (hi : ℕ). for (n - 2 + 1) hi (plusSquare lastFound (n - 2)) plusZero) upto
+      ∙ for-one (n - 2 + 1) (plusSquare lastFound (n - 2)) plusZero
+      ∙ ap₂ (λ (y z : Float). plusZero ⊕ y ⊗ (z ⊗ z)) at-second at-side
+
+  at-first : uduDiagonal n P lastFound (n - 2) ≡ rest x
+  unfolding uduDiagonal rest
+  at-first =
+      rw (ne-eqb (n - 2 + 1) n (λ (e : n - 2 + 1 ≡ n). omega (arith, twins .two))) (ap₂ (λ (y z : Float). y ⊖ z) (twins .first) one-term)
 
   -- two columns, by the test of the last one, and by both
-  by-last : (b : Bool) → eq x plusZero ≡ b → run P n 2 ≡ column P (n - 2) 1 (judged P nothing (n - 1) 0 x b)
-  unfolding run column diagonal
+  by-last : (b : Bool) → eq x plusZero ≡ b → lastTwo ≡ uduColumn n P (n - 2) (columnBy n P nothing (n - 1) x b)
+  unfolding uduColumn
   by-last b e =
-      ap (column P (n - 2) 1)
-      (ap (λ (y : Float). judged P nothing (n - 1) 0 y (eq y plusZero)) (twins .second) ∙ ap (judged P nothing (n - 1) 0 x) e)
+      ap (uduColumn n P (n - 2))
+      (ap (λ (y : Float). columnBy n P nothing (n - 1) y (eq y plusZero)) at-last ∙ ap (columnBy n P nothing (n - 1) x) e)
 
-  by-both : (b : Bool) → eq x plusZero ≡ false → eq (rest x) plusZero ≡ b → run P n 2 ≡ judged P lastFound (n - 2) 1 (rest x) b
-  unfolding column lastFound
+  by-both : (b : Bool) → eq x plusZero ≡ false → eq (rest x) plusZero ≡ b → lastTwo ≡ columnBy n P lastFound (n - 2) (rest x) b
+  unfolding uduColumn lastFound
   by-both b e f =
       by-last false e
-      ∙ ap (λ (y : Float). judged P lastFound (n - 2) 1 y (eq y plusZero)) at-first
-      ∙ ap (judged P lastFound (n - 2) 1 (rest x)) f
+      ∙ ap (λ (y : Float). columnBy n P lastFound (n - 2) y (eq y plusZero)) at-first
+      ∙ ap (columnBy n P lastFound (n - 2) (rest x)) f
 
-  -- all n columns
-  all : 2 + (n - 2) ≡ n
-  all = omega arith
-
-  stays : {j : ℕ} {F : Found} → run P n 2 ≡ refused j F → uduOf n p ≡ refused j F
-  unfolding uduOf
-  stays {j} {F} e = ap (run P n) (sym all) ∙ refused-stays P n 2 (n - 2) j F e
+  stays : {j : ℕ} {F : Factors} → lastTwo ≡ refused j F → uduOf n p ≡ refused j F
+  unfolding uduOf uduColumns
+  stays {j} {F} e = sym (two-done .left) ∙ ap (falling (n - 2) (uduColumn n P)) e ∙ refused-stays n P (n - 2) j F
 
   refused-second : eq x plusZero ≡ true → uduOf n p ≡ refused (n - 1) (withDiagonal nothing (n - 1) x)
-  unfolding column
+  unfolding uduColumn
   refused-second e = stays (by-last true e)
 
   refused-first : eq x plusZero ≡ false → eq (rest x) plusZero ≡ true → uduOf n p ≡ refused (n - 2) (withDiagonal lastFound (n - 2) (rest x))
   refused-first e f = stays (by-both true e f)
 
-  past-both : eq x plusZero ≡ false → eq (rest x) plusZero ≡ false → Past (n - 2) (answerOf (uduOf n p))
-  unfolding uduOf
+  past-both : eq x plusZero ≡ false → eq (rest x) plusZero ≡ false → Past (n - 2) (uduAnswer (uduOf n p))
+  unfolding uduOf uduColumns
   past-both e f =
-      subst (λ (t : ℕ). Past (n - 2) (answerOf (run P n t))) all
-      (past-more P n 2 (n - 2) (omega arith) (subst (λ (R : Run). Past (n - 2) (answerOf R)) (sym (by-both false e f)) done))
+      subst (λ (R : UduRun). Past (n - 2) (uduAnswer R)) (two-done .left)
+      (past-more n P lastTwo (n - 2) (subst (λ (R : UduRun). Past (n - 2) (uduAnswer R)) (sym (by-both false e f)) done))
 
-  left-by : {u d : List Float} → Filled n (withDiagonal lastFound (n - 2) (rest x)) u d → LeftAtFirst n p x u d
-  unfolding lastFound withDiagonal withColumn nothing entryOf lastEntry squareOf
-  left-by h = record {
+  left-by : {u d : List Float} → Holding n (withDiagonal lastFound (n - 2) (rest x)) u d → LeftAtFirst n p x u d
+  unfolding lastFound withDiagonal withColumn nothing uduEntry lastEntry
+  left-by {u} h = record {
     second = h .diagonal .cells (n - 1) (omega arith) ∙ simp (ne-eqb (n - 1) (n - 2) (λ e. omega arith), eq-eqb (n - 1) (n - 1) refl);
     first = h .diagonal .cells (n - 2) (omega arith) ∙ simp (eq-eqb (n - 2) (n - 2) refl);
     before = λ k less. h .diagonal .cells k (omega arith) ∙ simp (ne-eqb k (n - 2) (λ e. omega arith), ne-eqb k (n - 1) (λ e. omega arith));
-    column = λ i row. cell _ (h .upper) i (n - 1) row (omega arith) ∙ simp (eq-eqb (n - 1) (n - 1) refl, le-leb i (n - 1) (omega arith));
-    clear = λ i k row less. cell _ (h .upper) i k row (omega arith) ∙ simp (ne-eqb k (n - 1) (λ e. omega arith));
+    column = λ i row.
+        square-at n u i (n - 1) row (omega arith) ∙ cell _ (h .upper) i (n - 1) row (omega arith)
+        ∙ simp (eq-eqb (n - 1) (n - 1) refl, le-leb i (n - 1) (omega arith), eq-eqb (n - 1 + 1) n last);
+    clear = λ i k row less. square-at n u i k row (omega arith) ∙ cell _ (h .upper) i k row (omega arith) ∙ simp (ne-eqb k (n - 1) (λ e. omega arith));
   }
 
 -- ---- (1/x)·x is 1
@@ -186,25 +211,15 @@ by-one (fin s (suc m) e) held back = (not-zero s m e, nothing-left s m e held ba
 
 -- ---- calls
 
--- what the promise says where the sizes are right
-columned : {p u₀ d₀ u d : List Float} {n : ℕ} {r : Answer} → Sized n p u₀ d₀ → Factored p u₀ d₀ n r u d → Columned n (uduOf n p) r u d
-columned {p} {u₀} {d₀} {u} {d} {n} {r} allowed call = record {
-  answer = subst (λ (s : Sizes). r ≡ answerBy s (uduOf n p)) fit (call .answer);
-  slices = subst (λ (s : Sizes). LeftBy s n (uduOf n p) u₀ d₀ u d) fit (call .slices);
-}
-  where
-    fit : sizesOf n (length p) (length u₀) (length d₀) ≡ right
-    fit = sized p u₀ d₀ n (allowed .high) (λ none. omega (arith, allowed .low)) (allowed .matrix) (allowed .upper) (allowed .diagonal)
-
-module _ {p u₀ d₀ u d : List Float} {n : ℕ} {x : Float} {r : Answer} (allowed : Sized n p u₀ d₀) (twins : LastTwins n p x) (call : Factored p u₀ d₀ n r u d) where
+module _ {p u₀ d₀ u d : List Float} {n : ℕ} {x : Float} {r : Answer} (allowed : UduSized n p u₀ d₀) (twins : LastTwins n p x) (call : UduFactored p u₀ d₀ n r u d) where
   pub udu-last-two : Decided n x r
   udu-last-two = record {
-    second = λ e. answered ∙ ap answerOf (refused-second n p x twins e);
-    first = λ e f. answered ∙ ap answerOf (refused-first n p x twins e f);
+    second = λ e. answered ∙ ap uduAnswer (refused-second n p x twins e);
+    first = λ e f. answered ∙ ap uduAnswer (refused-first n p x twins e f);
     neither = λ e f. subst (Past (n - 2)) (sym answered) (past-both n p x twins e f);
   }
     where
-      answered : r ≡ answerOf (uduOf n p)
+      answered : r ≡ uduAnswer (uduOf n p)
       answered = columned allowed call .answer
 
   -- x an f64; it is then finite and not zero
@@ -223,9 +238,9 @@ module _ {p u₀ d₀ u d : List Float} {n : ℕ} {x : Float} {r : Answer} (allo
   pub left-at-first : r ≡ ZeroDiagonal (n - 2) → LeftAtFirst n p x u d
   left-at-first is =
       let tests = first-only is in
-      left-by n p x twins (subst (λ (R : Run). Filled n (foundOf R) u d) (refused-first n p x twins (tests .0) (tests .1)) (columned allowed call .slices))
+      left-by n p x twins (subst (λ (R : UduRun). Holding n (factorsOf R) u d) (refused-first n p x twins (tests .0) (tests .1)) (columned allowed call .slices))
 
-pub udu-two : {p u₀ d₀ u d : List Float} {x : Float} {r : Answer} → Sized 2 p u₀ d₀ → LastTwins 2 p x → Factored p u₀ d₀ 2 r u d
+pub udu-two : {p u₀ d₀ u d : List Float} {x : Float} {r : Answer} → UduSized 2 p u₀ d₀ → LastTwins 2 p x → UduFactored p u₀ d₀ 2 r u d
     → r ≡ cond (eq x plusZero) (ZeroDiagonal 1) (cond (eq (rest x) plusZero) (ZeroDiagonal 0) Done)
 udu-two {x = x} {r = r} allowed twins call = by (eq x plusZero) (eq (rest x) plusZero) refl refl
   where

@@ -1,80 +1,80 @@
 -- The loop that adds up the cross terms in column j: `Crossing u₀ d n j k u` is its invariant. Assumes nothing.
 use mathlib.Core.List.{List}
-use mathlib.Core.Path.{_≡_, refl, _∙_, ap}
-use Prim.Native.Nat.{ℕ, _+_, _-_, _*_, _≤_, _<_}
-use native.Mathlib.Nat.{add-mul}
+use mathlib.Core.Logic.{inr}
+use mathlib.Core.Path.{_≡_, refl, sym, _∙_, ap}
+use Prim.Native.Nat.{ℕ, _+_, _*_, _≤_, _<_}
 use native.Mathlib.Omega.{arith}
-use lib.ListN.{getD}
-use lib.Ieee.{Float, nan, binary64, add, mul}
-use Rattle.udu.specs.declared.column.Four.{Four}
-use Rattle.udu.specs.Columns.{crossed}
-use Rattle.udu.specs.Leaves.{Written, Clear, added, addedFour, weightsOf, summed, squareOf, foundIn}
-use Rattle.udu.proofs.Written.{written-then, written-as}
-use Rattle.udu.proofs.Totals.{total-none, total-more, total-four}
-use Rattle.udu.proofs.Joined.{read, kept-after}
-use Rattle.udu.proofs.Offsets.{next-start}
+use lib.ListN.{length}
+use lib.Ieee.{Float}
+use Rattle.matrix.specs.Loop.{for}
+use Rattle.matrix.specs.Rounded.{plusZero}
+use Rattle.matrix.proofs.Loops.{for-none, for-one, for-four, for-join}
+use Rattle.matrix.proofs.Places.{digits-within}
+use Rattle.strips.specs.declared.Source.{Source}
+use Rattle.strips.specs.Strip.{rowAt, Strip, Elsewhere, plus, axpyOf, axpy4Of}
+use Rattle.strips.proofs.Strips.{strip-as, strip-then}
+use Rattle.udu.specs.Columns.{plusCross, crossSum}
+use Rattle.udu.specs.inner.Contracts.{Zeros, factorsIn, sourceOf, Added}
+use Rattle.udu.proofs.Entries.{cross-kept}
+
+-- ---- one column added, or four
+
+-- a column after j stands behind the rows of column j
+pub source-elsewhere : (n j k : ℕ) (u d : List Float) {s : Source} → s ≡ sourceOf n u d j k → length u ≡ n * n → j < k → k < n → Elsewhere 0 j (j * n) u s
+source-elsewhere n j k u d is long behind below =
+    rw is (record { within = omega (arith, digits-within n n j k (omega arith) below); beside = inr (omega (arith, digits-within n k j j (omega arith) behind)) })
+
+module _ (n j k : ℕ) (u₀ d : List Float) {u : List Float} {s : Source} (is : s ≡ sourceOf n u₀ d j k) where
+  pub added-one : k < n → Strip (j * n) 0 j (axpyOf u₀ (j * n) s) u₀ u → Added n j k u₀ d u (k + 1)
+  unfolding axpyOf plus
+  added-one below step = record {
+    from = omega arith;
+    upto = omega arith;
+    sums = strip-as step (λ i from less. rw is (sym (for-one k (plusCross (factorsIn n u₀ d) j i) (rowAt u₀ (j * n) i))));
+  }
+
+  pub added-four : {t v w : Source} → k + 4 ≤ n → t ≡ sourceOf n u₀ d j (k + 1) → v ≡ sourceOf n u₀ d j (k + 2) → w ≡ sourceOf n u₀ d j (k + 3)
+      → Strip (j * n) 0 j (axpy4Of u₀ (j * n) s t v w) u₀ u → Added n j k u₀ d u (k + 4)
+  unfolding axpy4Of plus
+  added-four below is₁ is₂ is₃ step = record {
+    from = omega arith;
+    upto = below;
+    sums = strip-as step (λ i from less. rw (is, is₁, is₂, is₃) (sym (for-four k (plusCross (factorsIn n u₀ d) j i) (rowAt u₀ (j * n) i))));
+  }
+
+-- ---- the loop
 
 pub record Crossing (u₀ d : List Float) (n j k : ℕ) (u : List Float) : Type 0 where
   pub from : j + 1 ≤ k
   pub upto : k ≤ n
-  pub part : Written u₀ u (j * n) j (summed (foundIn n u₀ d) j (k - (j + 1)))
+  pub sums : Strip (j * n) 0 j (λ i. for (j + 1) k (plusCross (factorsIn n u₀ d) j i) plusZero) u₀ u
 
 -- what was reached at k₁ with u₁ is kept up to k with u
 pub record Onward (u₁ d : List Float) (n j k₁ k : ℕ) (u : List Float) : Type 0 where
   pub kept : (u₀ : List Float) → Crossing u₀ d n j k₁ u₁ → Crossing u₀ d n j k u
 
-pub crossing-none : {u₀ d : List Float} {n j : ℕ} → j < n → Clear u₀ ((j + 1) * n) → Crossing u₀ d n j (j + 1) u₀
-unfolding summed
-crossing-none {u₀} {d} {n} {j} below clear = record {
+pub crossing-none : {u d : List Float} {n j : ℕ} → j < n → Zeros n (j + 1) u → Crossing u d n j (j + 1) u
+crossing-none {u} {d} {n} {j} below zeros = record {
   from = omega arith;
   upto = omega arith;
-  part = record {
+  sums = record {
     long = refl;
-    inside = λ i row. clear .cells (j * n + i) (omega (arith, next-start n j)) ∙ total-none (crossed (foundIn n u₀ d) j i) (j + 1);
-    outside = λ q apart. refl;
+    inside = λ i from less. zeros .cells i j (omega arith) (omega arith) ∙ sym (for-none (j + 1) (plusCross (factorsIn n u d) j i) plusZero);
+    outside = λ q free. refl;
   };
 }
 
-module _ {u₀ d : List Float} {n j k : ℕ} {u : List Float} (w : Crossing u₀ d n j k u) where
-  -- an entry of a column c after j, read at q
-  later : (c i q : ℕ) → j < c → q ≡ c * n + i → j < n → getD u q nan ≡ squareOf n u₀ i c
-  later c i q after is row = ap (λ (m : ℕ). getD u m nan) is ∙ read n u i c ∙ kept-after n j j (w .part) (omega arith) i c after
+pub crossing-more : {u₀ d : List Float} {n j k next : ℕ} {u u' : List Float} → Crossing u₀ d n j k u → j < n → Added n j k u d u' next → Crossing u₀ d n j next u'
+crossing-more {u₀} {d} {n} {j} {k} {next} {u} {u'} w row a = record {
+  from = omega (arith, w .from, a .from);
+  upto = a .upto;
+  sums = strip-as (strip-then (w .sums) (a .sums)) (λ i from less.
+      ap (for k next (plusCross (factorsIn n u d) j i)) (w .sums .inside i from less)
+      ∙ cross-kept n j (w .sums) (omega arith) d k next i (for (j + 1) k (plusCross (factorsIn n u₀ d) j i) plusZero) (omega (arith, w .from)) row (omega arith)
+      ∙ for-join (j + 1) k next (plusCross (factorsIn n u₀ d) j i) plusZero (w .from) (omega (arith, a .from)));
+}
 
-  -- a term that is added, of column c
-  term : (c i q r : ℕ) → j < c → q ≡ c * n + j → r ≡ c * n + i → j < n
-      → mul binary64 (mul binary64 (getD d c nan) (getD u q nan)) (getD u r nan) ≡ crossed (foundIn n u₀ d) j i c
-  unfolding crossed foundIn
-  term c i q r after is is' row = rw (later c j q after is row, later c i r after is' row)
-
-  pub crossing-more : {u' : List Float} → j < n → k < n
-      → Written u u' (j * n) j (added u (k * n) (j * n) (mul binary64 (getD d k nan) (getD u (j + k * n) nan))) → Crossing u₀ d n j (k + 1) u'
-  unfolding summed added
-  crossing-more {u'} row below step = record {
-    from = omega (arith, w .from);
-    upto = omega arith;
-    part = written-as (written-then (w .part) step) (λ i less.
-        ap (λ (s : Float). add binary64 s (mul binary64 (mul binary64 (getD d k nan) (getD u (j + k * n) nan)) (getD u (k * n + i) nan))) (w .part .inside i less)
-        ∙ ap (add binary64 (summed (foundIn n u₀ d) j (k - (j + 1)) i)) (term k i (j + k * n) (k * n + i) (omega (arith, w .from)) (omega arith) (omega arith) row)
-        ∙ total-more (crossed (foundIn n u₀ d) j i) (j + 1) k (w .from));
-  }
-
-  pub crossing-four : {u' : List Float} {v : Four} → j < n → k + 4 ≤ n → v ≡ weightsOf u d (j + k * n) n k
-      → Written u u' (j * n) j (addedFour u (k * n) n (j * n) v) → Crossing u₀ d n j (k + 4) u'
-  unfolding summed addedFour
-  crossing-four {u'} {v} row below is step = record {
-    from = omega (arith, w .from);
-    upto = omega arith;
-    part = written-as (written-then (w .part) step) (λ i less.
-        rw (
-          is,
-          w .part .inside i less,
-          term k i (j + k * n) (k * n + i) (omega (arith, w .from)) (omega arith) (omega arith) row,
-          term (k + 1) i (j + k * n + n) (k * n + n + i) (omega (arith, w .from)) (omega (arith, add-mul k 1 n)) (omega (arith, add-mul k 1 n)) row,
-          term (k + 2) i (j + k * n + 2 * n) (k * n + n + n + i) (omega (arith, w .from)) (omega (arith, add-mul k 2 n)) (omega (arith, add-mul k 2 n)) row,
-          term (k + 3) i (j + k * n + 3 * n) (k * n + n + n + n + i) (omega (arith, w .from)) (omega (arith, add-mul k 3 n)) (omega (arith, add-mul k 3 n)) row,
-        )
-        (total-four (crossed (foundIn n u₀ d) j i) (j + 1) k (w .from)));
-  }
-
-  pub crossing-all : n ≤ k → Written u₀ u (j * n) j (summed (foundIn n u₀ d) j (n - (j + 1)))
-  crossing-all past = written-as (w .part) (λ i less. ap (λ (m : ℕ). summed (foundIn n u₀ d) j (m - (j + 1)) i) (omega (arith, w .upto)))
+pub crossing-all : {u₀ d : List Float} {n j k : ℕ} {u : List Float} → Crossing u₀ d n j k u → n ≤ k → Strip (j * n) 0 j (crossSum n (factorsIn n u₀ d) j) u₀ u
+unfolding crossSum
+crossing-all {u₀} {d} {n} {j} w past =
+    strip-as (w .sums) (λ i from less. ap (λ (hi : ℕ). for (j + 1) hi (plusCross (factorsIn n u₀ d) j i) plusZero) (omega (arith, w .upto)))

@@ -1,12 +1,6 @@
-pub mod Written
-pub mod Totals
-pub mod Offsets
-pub mod Joined
+pub mod Entries
 pub mod Crossing
-pub mod Rows
-pub mod Filled
+pub mod Holding
 pub mod Reached
-pub mod Bridge
-pub mod Over
 pub mod Sizes
 pub mod Unique

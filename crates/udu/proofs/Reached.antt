@@ -1,91 +1,130 @@
--- The loop over the columns: `Reached P n j u d` says that the columns from j on are found and stand in u and d.
---     reached-none          before the last column
---     reached, stopped      after column j, accepted or refused
---     columned-all          after the first column
---     refused-stays         a refusal stands
+-- The loop over the columns: `Reached p n j u d` says that the columns of p from j on are found and stand in u and d.
+--     reached-none              before the last column
+--     accepted-on, refused-on   after one more column
+--     columned-all              after the first column
+--     refused-stays             a refusal stands
 -- Assumes nothing.
-use mathlib.Core.Bool.{true, false}
+use mathlib.Core.Bool.{Bool, true, false, cond}
 use mathlib.Core.List.{List}
-use mathlib.Core.Logic.{inl}
-use mathlib.Core.Path.{_≡_, sym, _∙_, ap, subst}
+use mathlib.Core.Path.{_≡_, refl, sym, _∙_, ap, ap₂, subst}
 use Prim.Native.Nat.{ℕ, zero, suc, _+_, _-_, _*_, _≤_, _<_}
 use native.Mathlib.Omega.{arith}
-use lib.ListN.{length}
-use lib.Ieee.{Float, eq}
+use lib.Dec.{eqb}
+use lib.ListN.{set}
+use lib.Seq.{ext-getD}
+use lib.Ieee.{Float, nan, eq}
 use Rattle.answer.specs.declared.Answer.the-variants.{Done, ZeroDiagonal}
 use Rattle.matrix.specs.Matrix.{Matrix}
-use Rattle.matrix.specs.Rounded.{plusZero}
-use Rattle.udu.specs.Columns.{Found, Run, accepted, refused, nothing, judged, column, run, diagonal, entryOf, withDiagonal, withColumn}
-use Rattle.udu.specs.Promise.{Filled, answerOf, foundOf}
-use Rattle.udu.specs.Leaves.{Clear, Stepped, Columned}
-use Rattle.udu.proofs.Written.{written-as}
-use Rattle.udu.proofs.Filled.{filled-none, filled-diagonal, filled-column, written-nothing}
-use Rattle.udu.proofs.Offsets.{later-start}
+use Rattle.matrix.specs.Loop.{for, falling}
+use Rattle.matrix.specs.Grid.{load}
+use Rattle.matrix.specs.Layouts.{upper}
+use Rattle.matrix.specs.Rounded.{_⊕_, _⊖_, _⊗_, _⊘_, plusZero, one}
+use Rattle.matrix.proofs.Loops.{for-same, Fell, fell-none, fell-more, fell-all}
+use Rattle.strips.specs.Strip.{Strip}
+use Rattle.strips.proofs.Strips.{strip-as}
+use Rattle.udu.specs.Columns.{Factors, UduRun, accepted, refused, nothing, plusSquare, plusCross, squareSum, crossSum, uduDiagonal, lastEntry, furtherEntry, uduEntry, withDiagonal, withColumn, columnBy, uduColumn, uduColumns}
+use Rattle.udu.specs.Promise.{Holding, uduOf, uduAnswer, factorsOf}
+use Rattle.udu.specs.inner.Contracts.{Zeros, factorsIn, diagonalIn, ColumnStep, Columned}
+use Rattle.udu.proofs.Entries.{kept}
+use Rattle.udu.proofs.Holding.{cell, holding-diagonal, holding-column}
 
-pub record Reached (P : Matrix) (n j : ℕ) (u d : List Float) : Type 0 where
-  pub upto : j ≤ n
-  pub found : Found
-  pub is : run P n (n - j) ≡ accepted found
-  pub filled : Filled n found u d
-  pub clear : Clear u (j * n)
+-- ---- a refusal stands
 
-pub reached-none : {n : ℕ} {u d : List Float} (P : Matrix) → length u ≡ n * n → length d ≡ n → Clear u (n * n) → Clear d n → Reached P n n u d
-unfolding run
-reached-none {n} {u} {d} P long short clear clear' = record {
-  upto = omega arith;
+pub refused-stays : (n : ℕ) (P : Matrix) (c j : ℕ) (F : Factors) → falling c (uduColumn n P) (refused j F) ≡ refused j F
+unfolding falling uduColumn
+refused-stays n P zero j F = refl
+refused-stays n P (suc c) j F = refused-stays n P c j F
+
+-- ---- what column j is worked out from in the slices is what was found
+
+module _ {n : ℕ} {F : Factors} {u d : List Float} (P : Matrix) (h : Holding n F u d) (j : ℕ) (below : j < n) where
+  same-diagonal : uduDiagonal n P (factorsIn n u d) j ≡ uduDiagonal n P F j
+  unfolding uduDiagonal squareSum
+  same-diagonal =
+      ap (λ (s : Float). cond (eqb (j + 1) n) (P j j) (P j j ⊖ s))
+      (for-same (j + 1) n (plusSquare (factorsIn n u d) j) (plusSquare F j) plusZero (λ k s from upto.
+      ap₂ (λ (x y : Float). s ⊕ x ⊗ (y ⊗ y)) (h .diagonal .cells k upto) (cell (F .u) (h .upper) j k below upto)))
+
+  same-entry : (x : Float) (i : ℕ) → i < n → uduEntry n P (factorsIn n u d) x j i ≡ uduEntry n P F x j i
+  unfolding uduEntry furtherEntry crossSum
+  same-entry x i row =
+      ap (λ (s : Float). cond (eqb (j + 1) n) (lastEntry P x j i) (cond (eqb i j) one ((P i j ⊖ s) ⊘ x)))
+      (for-same (j + 1) n (plusCross (factorsIn n u d) j i) (plusCross F j i) plusZero (λ k s from upto.
+      ap₂ (λ (y z : Float). s ⊕ y ⊗ z) (ap₂ (λ (y z : Float). y ⊗ z) (h .diagonal .cells k upto) (cell (F .u) (h .upper) j k below upto)) (cell (F .u) (h .upper) i k row upto)))
+
+-- ---- the loop
+
+pub record Reached (p : List Float) (n j : ℕ) (u d : List Float) : Type 0 where
+  pub found : Factors
+  pub fell : Fell n (uduColumn n (load (upper n) p)) (accepted nothing) j (accepted found)
+  pub holding : Holding n found u d
+  pub zeros : Zeros n j u
+
+pub reached-none : {n : ℕ} {u d : List Float} (p : List Float) → Holding n nothing u d → Reached p n n u d
+reached-none p h = record {
   found = nothing;
-  is = ap (run P n) none;
-  filled = filled-none long short clear clear';
-  clear = clear;
+  fell = fell-none;
+  holding = h;
+  zeros = record { cells = λ i k row column. unfold nothing in cell (nothing .u) (h .upper) i k row column };
 }
-  where
-    none : n - n ≡ 0
-    none = omega arith
 
-pub columned-all : {P : Matrix} {n : ℕ} {u d : List Float} → Reached P n 0 u d → Columned n (run P n n) Done u d
-columned-all {P} {n} {u} {d} r = record { answer = ap answerOf (sym whole); slices = subst (λ (R : Run). Filled n (foundOf R) u d) (sym whole) (r .filled) }
-  where
-    whole : run P n n ≡ accepted (r .found)
-    whole = ap (run P n) (let all : n ≡ n - 0 = omega arith in all) ∙ r .is
+pub columned-all : {p : List Float} {n : ℕ} {u d : List Float} → Reached p n 0 u d → Columned n (uduOf n p) Done u d
+unfolding uduOf uduColumns falling
+columned-all {p} {n} {u} {d} r =
+    record { answer = ap uduAnswer (r .fell .left); slices = subst (λ (R : UduRun). Holding n (factorsOf R) u d) (r .fell .left) (r .holding) }
 
-pub refused-stays : (P : Matrix) (n t s j : ℕ) (F : Found) → run P n t ≡ refused j F → run P n (t + s) ≡ refused j F
-unfolding run column
-refused-stays P n t zero j F e = ap (run P n) (let none : t + 0 ≡ t = omega arith in none) ∙ e
-refused-stays P n t (suc s) j F e =
-    ap (run P n) (let more : t + suc s ≡ suc (t + s) = omega arith in more) ∙ ap (column P (n - suc (t + s)) (t + s)) (refused-stays P n t s j F e)
+module _ {p : List Float} {n : ℕ} (j : ℕ) {u₀ d₀ : List Float} (before : Reached p n (j + 1) u₀ d₀) where
+  abbrev P : Matrix
+  P = load (upper n) p
 
-columned-refused : (P : Matrix) (n j : ℕ) {F : Found} {u d : List Float} → j + 1 ≤ n → run P n (n - j) ≡ refused j F → Filled n F u d → Columned n (run P n n) (ZeroDiagonal j) u d
-columned-refused P n j {F} {u} {d} upto e h = record { answer = ap answerOf (sym whole); slices = subst (λ (R : Run). Filled n (foundOf R) u d) (sym whole) h }
-  where
-    whole : run P n n ≡ refused j F
-    whole = ap (run P n) (let all : n ≡ n - j + j = omega arith in all) ∙ refused-stays P n (n - j) j j F e
+  abbrev x : Float
+  x = diagonalIn n j p u₀ d₀
 
--- what stands in u and d after column j, by what was found before it
-module _ {P : Matrix} {n : ℕ} {u₀ d₀ : List Float} (j : ℕ) (before : Reached P n (j + 1) u₀ d₀) (x : Float) (f : ℕ → Float)
-    (is : x ≡ diagonal P (before .found) j (n - (j + 1))) (each : (i : ℕ) → i < j + 1 → f i ≡ entryOf P (before .found) x j (n - (j + 1)) i) where
-  column-run : run P n (n - j) ≡ judged P (before .found) j (n - (j + 1)) x (eq x plusZero)
-  unfolding run column
-  column-run =
-      ap (run P n) count ∙ ap (λ (k : ℕ). column P k (n - (j + 1)) (run P n (n - (j + 1)))) here ∙ ap (column P j (n - (j + 1))) (before .is)
-      ∙ ap (λ (y : Float). judged P (before .found) j (n - (j + 1)) y (eq y plusZero)) (sym is)
-    where
-      count : n - j ≡ suc (n - (j + 1))
-      count = omega (arith, before .upto)
+  below : j < n
+  below = omega (arith, before .fell .upto)
 
-      here : n - suc (n - (j + 1)) ≡ j
-      here = omega (arith, before .upto)
+  -- what is left to do after column j
+  column-left : (b : Bool) → b ≡ eq x plusZero → Fell n (uduColumn n P) (accepted nothing) j (columnBy n P (before .found) j x b)
+  unfolding uduColumn
+  column-left b is =
+      subst (λ (k : ℕ). Fell n (uduColumn n P) (accepted nothing) k (columnBy n P (before .found) j x b)) (let last : j + 1 - 1 ≡ j = omega arith in last)
+      (fell-more (before .fell) (omega arith)
+      (ap (columnBy n P (before .found) j x) is
+      ∙ ap (λ (y : Float). columnBy n P (before .found) j y (eq y plusZero)) (same-diagonal P (before .holding) j below)
+      ∙ ap (λ (k : ℕ). uduColumn n P k (accepted (before .found))) (let last : j ≡ j + 1 - 1 = omega arith in last)))
 
-  pub reached : {u d : List Float} → Stepped u₀ d₀ n j x f false u d → Reached P n j u d
+  with-diagonal : {d : List Float} → d ≡ set d₀ j x → Holding n (withDiagonal (before .found) j x) u₀ d
+  with-diagonal {d} is = subst (Holding n (withDiagonal (before .found) j x) u₀) (sym is) (holding-diagonal j x below (before .holding))
+
+  reached : {u d : List Float} → ColumnStep n j p u₀ d₀ false u d → Reached p n j u d
   reached {u} {d} step = record {
-    upto = omega (arith, before .upto);
-    found = withColumn (withDiagonal (before .found) j x) j (entryOf P (before .found) x j (n - (j + 1)));
-    is = column-run ∙ ap (judged P (before .found) j (n - (j + 1)) x) (sym (step .judged));
-    filled = subst (Filled n _ u) (sym (step .diagonal))
-        (filled-column j _ (omega (arith, before .upto)) (written-as (step .column) each) (filled-diagonal j x (omega (arith, before .upto)) (before .filled)));
-    clear = record { cells = λ q below. step .column .outside q (inl below) ∙ before .clear .cells q (omega (arith, later-start n j (j + 1) (omega arith))) };
+    found = withColumn (withDiagonal (before .found) j x) j (uduEntry n P (before .found) x j);
+    fell = column-left false (step .tested);
+    holding =
+        holding-column j _ below (strip-as (step .column) (λ i from row. same-entry P (before .holding) j below x i (omega (arith, below)))) (with-diagonal (step .diagonal));
+    zeros = record { cells = λ i k row column. kept n j (step .column) (omega (arith, below)) i k row (λ e. omega arith) ∙ before .zeros .cells i k row (omega arith) };
   }
 
-  pub stopped : {u d : List Float} → Stepped u₀ d₀ n j x f true u d → Columned n (run P n n) (ZeroDiagonal j) u d
-  stopped {u} {d} step = columned-refused P n j (before .upto) (column-run ∙ ap (judged P (before .found) j (n - (j + 1)) x) (sym (step .judged)))
-      (subst (λ (l : List Float). Filled n (withDiagonal (before .found) j x) l d) (sym (written-nothing (step .column)))
-      (subst (Filled n _ u₀) (sym (step .diagonal)) (filled-diagonal j x (omega (arith, before .upto)) (before .filled))))
+  stopped : {u d : List Float} → ColumnStep n j p u₀ d₀ true u d → Columned n (uduOf n p) (ZeroDiagonal j) u d
+  unfolding uduOf uduColumns
+  stopped {u} {d} step = record {
+    answer = ap uduAnswer whole;
+    slices = subst (λ (R : UduRun). Holding n (factorsOf R) u d) whole (subst (λ (l : List Float). Holding n (withDiagonal (before .found) j x) l d) (sym unwritten) (with-diagonal (step .diagonal)));
+  }
+    where
+      whole : refused j (withDiagonal (before .found) j x) ≡ falling n (uduColumn n P) (accepted nothing)
+      whole = sym (refused-stays n P j j (withDiagonal (before .found) j x)) ∙ column-left true (step .tested) .left
+
+      unwritten : u ≡ u₀
+      unwritten = ext-getD nan u u₀ (step .column .long) (λ q inside. step .column .outside q (λ i from upto. absurd (omega arith)))
+
+-- by what was answered, at the column before the last that was reached
+module _ {p : List Float} {n k : ℕ} (j : ℕ) {u₀ d₀ u d : List Float} {r : Bool} (before : Reached p n k u₀ d₀) (next : k ≡ j + 1) (step : ColumnStep n j p u₀ d₀ r u d) where
+  here : Reached p n (j + 1) u₀ d₀
+  here = subst (λ (k : ℕ). Reached p n k u₀ d₀) next before
+
+  pub accepted-on : r ≡ false → Reached p n j u d
+  accepted-on e = reached j here (subst (λ (b : Bool). ColumnStep n j p u₀ d₀ b u d) e step)
+
+  pub refused-on : r ≡ true → Columned n (uduOf n p) (ZeroDiagonal j) u d
+  refused-on e = stopped j here (subst (λ (b : Bool). ColumnStep n j p u₀ d₀ b u d) e step)

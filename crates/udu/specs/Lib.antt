@@ -1,3 +1,3 @@
 pub mod Columns
 pub mod Promise
-pub mod Leaves
+pub mod inner

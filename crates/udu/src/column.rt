@@ -2,23 +2,18 @@
 ghost use mathlib.Core.Path.{_≡_};
 ghost use Prim.Native.Nat.{_+_, _-_, _*_, _≤_, _<_};
 ghost use lib.ListN.{length};
-ghost use Rattle.udu.specs.Columns.{total, squared, crossed};
-ghost use Rattle.udu.specs.Leaves.{Written, Clear, Sized, LastStep, EarlierStep, added, addedFour, weightsOf, summed, divided, multiplied, entriesIn, foundIn};
-
-pub fn clear(l: &mut [f64])
-    ensures { λ _. ⌜ Clear (now (l .exit)) (length (now (l .entry))) ⌝ }
-{
-    let mut i = 0;
-    while i < l.len() {
-        l[i] = 0.0;
-        i += 1;
-    }
-}
+ghost use Rattle.matrix.specs.Grid.{load};
+ghost use Rattle.matrix.specs.Layouts.{upper};
+ghost use Rattle.strips.specs.Strip.{Strip};
+ghost use Rattle.udu.specs.Columns.{squareSum, crossSum, furtherEntry};
+ghost use Rattle.udu.specs.Promise.{UduSized};
+ghost use Rattle.udu.specs.inner.Contracts.{Zeros, factorsIn, multiplesOf, quotientsOf, sourceOf, Added, ColumnStep};
+use strips::Source;
 
 // The last column: its diagonal and, unless that is zero, p times the diagonal's inverse. Answers whether it is zero.
 pub fn last(p: &[f64], u: &mut [f64], d: &mut [f64], n: usize) -> bool
-    requires { ⌜ Sized n (now p) (now u) (now d) ⌝ }
-    ensures { λ r. ⌜ LastStep n (now (p .entry)) (now (u .entry)) (now (d .entry)) r (now (u .exit)) (now (d .exit)) ⌝ }
+    requires { ⌜ UduSized n (now p) (now u) (now d) ⌝ }
+    ensures { λ r. ⌜ ColumnStep n (n - 1) (now (p .entry)) (now (u .entry)) (now (d .entry)) r (now (u .exit)) (now (d .exit)) ⌝ }
 {
     let j = n - 1;
     let at = j * n;
@@ -27,16 +22,16 @@ pub fn last(p: &[f64], u: &mut [f64], d: &mut [f64], n: usize) -> bool
     if x == 0.0 {
         return true;
     }
-    multiply(p, u, at, n, x);
+    multiply(p, u, at, n, 1.0 / x);
     false
 }
 
-// A column that is not the last: its diagonal and, unless that is zero, its entries. Answers whether it is zero.
-pub fn earlier(p: &[f64], u: &mut [f64], d: &mut [f64], j: usize, n: usize) -> bool
-    requires { ⌜ Sized n (now p) (now u) (now d) ⌝ }
+// A further column: its diagonal and, unless that is zero, its entries. Answers whether it is zero.
+pub fn further(p: &[f64], u: &mut [f64], d: &mut [f64], j: usize, n: usize) -> bool
+    requires { ⌜ UduSized n (now p) (now u) (now d) ⌝ }
     requires { ⌜ j + 1 < n ⌝ }
-    requires { ⌜ Clear (now u) ((j + 1) * n) ⌝ }
-    ensures { λ r. ⌜ EarlierStep n j (now (p .entry)) (now (u .entry)) (now (d .entry)) r (now (u .exit)) (now (d .exit)) ⌝ }
+    requires { ⌜ Zeros n (j + 1) (now u) ⌝ }
+    ensures { λ r. ⌜ ColumnStep n j (now (p .entry)) (now (u .entry)) (now (d .entry)) r (now (u .exit)) (now (d .exit)) ⌝ }
 {
     let at = j * n;
     let x = p[j + at] - squares(u, d, j, n);
@@ -51,10 +46,10 @@ pub fn earlier(p: &[f64], u: &mut [f64], d: &mut [f64], j: usize, n: usize) -> b
 
 // The entries of column j down to the diagonal, which becomes 1. Small orders are faster row by row.
 fn entries(p: &[f64], u: &mut [f64], d: &[f64], j: usize, n: usize, x: f64)
-    requires { ⌜ Sized n (now p) (now u) (now d) ⌝ }
+    requires { ⌜ UduSized n (now p) (now u) (now d) ⌝ }
     requires { ⌜ j < n ⌝ }
-    requires { ⌜ Clear (now u) ((j + 1) * n) ⌝ }
-    ensures { λ _. ⌜ Written (now (u .entry)) (now (u .exit)) (j * n) (j + 1) (entriesIn n j (now (p .entry)) (now (u .entry)) (now (d .entry)) x) ⌝ }
+    requires { ⌜ Zeros n (j + 1) (now u) ⌝ }
+    ensures { λ _. ⌜ Strip (j * n) 0 (j + 1) (furtherEntry n (load (upper n) (now (p .entry))) (factorsIn n (now (u .entry)) (now (d .entry))) x j) (now (u .entry)) (now (u .exit)) ⌝ }
 {
     if n < 16 {
         by_rows(p, u, d, j, n, x);
@@ -65,30 +60,30 @@ fn entries(p: &[f64], u: &mut [f64], d: &[f64], j: usize, n: usize, x: f64)
 
 // Each entry's sum by itself.
 fn by_rows(p: &[f64], u: &mut [f64], d: &[f64], j: usize, n: usize, x: f64)
-    requires { ⌜ Sized n (now p) (now u) (now d) ⌝ }
+    requires { ⌜ UduSized n (now p) (now u) (now d) ⌝ }
     requires { ⌜ j < n ⌝ }
-    ensures { λ _. ⌜ Written (now (u .entry)) (now (u .exit)) (j * n) (j + 1) (entriesIn n j (now (p .entry)) (now (u .entry)) (now (d .entry)) x) ⌝ }
+    ensures { λ _. ⌜ Strip (j * n) 0 (j + 1) (furtherEntry n (load (upper n) (now (p .entry))) (factorsIn n (now (u .entry)) (now (d .entry))) x j) (now (u .entry)) (now (u .exit)) ⌝ }
 {
     let at = j * n;
     let mut i = 0;
     while i < j {
-        u[at + i] = (p[at + i] - row(u, d, i, j, n)) / x;
+        u[i + at] = (p[i + at] - row(u, d, i, j, n)) / x;
         i += 1;
     }
-    u[at + j] = 1.0;
+    u[j + at] = 1.0;
 }
 
 // The sums of all rows together, column after column.
 fn by_columns(p: &[f64], u: &mut [f64], d: &[f64], j: usize, n: usize, x: f64)
-    requires { ⌜ Sized n (now p) (now u) (now d) ⌝ }
+    requires { ⌜ UduSized n (now p) (now u) (now d) ⌝ }
     requires { ⌜ j < n ⌝ }
-    requires { ⌜ Clear (now u) ((j + 1) * n) ⌝ }
-    ensures { λ _. ⌜ Written (now (u .entry)) (now (u .exit)) (j * n) (j + 1) (entriesIn n j (now (p .entry)) (now (u .entry)) (now (d .entry)) x) ⌝ }
+    requires { ⌜ Zeros n (j + 1) (now u) ⌝ }
+    ensures { λ _. ⌜ Strip (j * n) 0 (j + 1) (furtherEntry n (load (upper n) (now (p .entry))) (factorsIn n (now (u .entry)) (now (d .entry))) x j) (now (u .entry)) (now (u .exit)) ⌝ }
 {
     crosses(u, d, j, n);
     let at = j * n;
     divide(p, u, at, j, x);
-    u[at + j] = 1.0;
+    u[j + at] = 1.0;
 }
 
 // d(k)·(u(j,k)·u(j,k)) for k after j, added up.
@@ -97,7 +92,7 @@ fn squares(u: &[f64], d: &[f64], j: usize, n: usize) -> f64
     requires { ⌜ n ≤ 1024 ⌝ }
     requires { ⌜ length (now u) ≡ n * n ⌝ }
     requires { ⌜ length (now d) ≡ n ⌝ }
-    ensures { λ r. ⌜ r ≡ total (squared (foundIn n (now (u .entry)) (now (d .entry))) j) (j + 1) (n - (j + 1)) ⌝ }
+    ensures { λ r. ⌜ r ≡ squareSum n (factorsIn n (now (u .entry)) (now (d .entry))) j ⌝ }
 {
     let mut sum = 0.0;
     let mut k = j + 1;
@@ -116,7 +111,7 @@ fn row(u: &[f64], d: &[f64], i: usize, j: usize, n: usize) -> f64
     requires { ⌜ n ≤ 1024 ⌝ }
     requires { ⌜ length (now u) ≡ n * n ⌝ }
     requires { ⌜ length (now d) ≡ n ⌝ }
-    ensures { λ r. ⌜ r ≡ total (crossed (foundIn n (now (u .entry)) (now (d .entry))) j i) (j + 1) (n - (j + 1)) ⌝ }
+    ensures { λ r. ⌜ r ≡ crossSum n (factorsIn n (now (u .entry)) (now (d .entry))) j i ⌝ }
 {
     let mut sum = 0.0;
     let mut k = j + 1;
@@ -134,102 +129,89 @@ fn crosses(u: &mut [f64], d: &[f64], j: usize, n: usize)
     requires { ⌜ n ≤ 1024 ⌝ }
     requires { ⌜ length (now u) ≡ n * n ⌝ }
     requires { ⌜ length (now d) ≡ n ⌝ }
-    requires { ⌜ Clear (now u) ((j + 1) * n) ⌝ }
-    ensures { λ _. ⌜ Written (now (u .entry)) (now (u .exit)) (j * n) j (summed (foundIn n (now (u .entry)) (now (d .entry))) j (n - (j + 1))) ⌝ }
+    requires { ⌜ Zeros n (j + 1) (now u) ⌝ }
+    ensures { λ _. ⌜ Strip (j * n) 0 j (crossSum n (factorsIn n (now (u .entry)) (now (d .entry))) j) (now (u .entry)) (now (u .exit)) ⌝ }
 {
-    let to = j * n;
     let mut k = j + 1;
     while k + 4 <= n {
-        let from = k * n;
-        let w = weights(u, d, j + from, n, k);
-        gather_four(u, from, n, to, j, w);
+        add_four(u, d, j, k, n);
         k += 4;
     }
     while k < n {
-        let from = k * n;
-        let c = d[k] * u[j + from];
-        gather(u, from, to, j, c);
+        add_one(u, d, j, k, n);
         k += 1;
     }
 }
 
-// The numbers that four columns are multiplied by.
-struct Four {
-    a: f64,
-    b: f64,
-    c: f64,
-    d: f64,
+// Adds column k.
+fn add_one(u: &mut [f64], d: &[f64], j: usize, k: usize, n: usize)
+    requires { ⌜ j < k ⌝ }
+    requires { ⌜ k < n ⌝ }
+    requires { ⌜ n ≤ 1024 ⌝ }
+    requires { ⌜ length (now u) ≡ n * n ⌝ }
+    requires { ⌜ length (now d) ≡ n ⌝ }
+    ensures { λ _. ⌜ Added n j k (now (u .entry)) (now (d .entry)) (now (u .exit)) (k + 1) ⌝ }
+{
+    let to = j * n;
+    let s = source(u, d, j, k, n);
+    strips::axpy(u, to, 0, j, s);
 }
 
-// d(k)·u(j,k) for four columns from k on; u(j,k) stands at `at`.
-fn weights(u: &[f64], d: &[f64], at: usize, step: usize, k: usize) -> Four
-    requires { ⌜ at + 3 * step < length (now u) ⌝ }
-    requires { ⌜ k + 3 < length (now d) ⌝ }
-    ensures { λ r. ⌜ r ≡ weightsOf (now (u .entry)) (now (d .entry)) at step k ⌝ }
+// Adds four columns from k on.
+fn add_four(u: &mut [f64], d: &[f64], j: usize, k: usize, n: usize)
+    requires { ⌜ j < k ⌝ }
+    requires { ⌜ k + 4 ≤ n ⌝ }
+    requires { ⌜ n ≤ 1024 ⌝ }
+    requires { ⌜ length (now u) ≡ n * n ⌝ }
+    requires { ⌜ length (now d) ≡ n ⌝ }
+    ensures { λ _. ⌜ Added n j k (now (u .entry)) (now (d .entry)) (now (u .exit)) (k + 4) ⌝ }
 {
-    Four {
-        a: d[k] * u[at],
-        b: d[k + 1] * u[at + step],
-        c: d[k + 2] * u[at + 2 * step],
-        d: d[k + 3] * u[at + 3 * step],
+    let to = j * n;
+    let s = source(u, d, j, k, n);
+    let t = source(u, d, j, k + 1, n);
+    let v = source(u, d, j, k + 2, n);
+    let w = source(u, d, j, k + 3, n);
+    strips::axpy4(u, to, 0, j, s, t, v, w);
+}
+
+// Column k, and what it is multiplied by in the sums of column j: d(k)·u(j,k).
+fn source(u: &[f64], d: &[f64], j: usize, k: usize, n: usize) -> Source
+    requires { ⌜ j < k ⌝ }
+    requires { ⌜ k < n ⌝ }
+    requires { ⌜ n ≤ 1024 ⌝ }
+    requires { ⌜ length (now u) ≡ n * n ⌝ }
+    requires { ⌜ length (now d) ≡ n ⌝ }
+    ensures { λ s. ⌜ s ≡ sourceOf n (now (u .entry)) (now (d .entry)) j k ⌝ }
+{
+    let from = k * n;
+    Source {
+        start: from,
+        scale: d[k] * u[j + from],
     }
 }
 
-// Four columns added, one after the other: they start at `from` and lie `step` apart.
-fn gather_four(l: &mut [f64], from: usize, step: usize, to: usize, rows: usize, w: Four)
-    requires { ⌜ to + rows ≤ from ⌝ }
-    requires { ⌜ from + 3 * step + rows ≤ length (now l) ⌝ }
-    ensures { λ _. ⌜ Written (now (l .entry)) (now (l .exit)) to rows (addedFour (now (l .entry)) from step to w) ⌝ }
-{
-    let second = from + step;
-    let third = second + step;
-    let fourth = third + step;
-    let mut i = 0;
-    while i < rows {
-        l[to + i] = l[to + i]
-            + w.a * l[from + i]
-            + w.b * l[second + i]
-            + w.c * l[third + i]
-            + w.d * l[fourth + i];
-        i += 1;
-    }
-}
-
-// Adds c times the numbers from `from` on to those from `to` on.
-fn gather(l: &mut [f64], from: usize, to: usize, rows: usize, c: f64)
-    requires { ⌜ to + rows ≤ from ⌝ }
-    requires { ⌜ from + rows ≤ length (now l) ⌝ }
-    ensures { λ _. ⌜ Written (now (l .entry)) (now (l .exit)) to rows (added (now (l .entry)) from to c) ⌝ }
-{
-    let mut i = 0;
-    while i < rows {
-        l[to + i] = l[to + i] + c * l[from + i];
-        i += 1;
-    }
-}
-
-// (p − u) / x, number by number from `at` on.
+// Rows of the column at `at`: (p − u) / x.
 fn divide(p: &[f64], u: &mut [f64], at: usize, rows: usize, x: f64)
-    requires { ⌜ at + rows ≤ length (now p) ⌝ }
-    requires { ⌜ at + rows ≤ length (now u) ⌝ }
-    ensures { λ _. ⌜ Written (now (u .entry)) (now (u .exit)) at rows (divided (now (p .entry)) (now (u .entry)) at x) ⌝ }
+    requires { ⌜ rows + at ≤ length (now p) ⌝ }
+    requires { ⌜ rows + at ≤ length (now u) ⌝ }
+    ensures { λ _. ⌜ Strip at 0 rows (quotientsOf (now (p .entry)) (now (u .entry)) at x) (now (u .entry)) (now (u .exit)) ⌝ }
 {
     let mut i = 0;
     while i < rows {
-        u[at + i] = (p[at + i] - u[at + i]) / x;
+        u[i + at] = (p[i + at] - u[i + at]) / x;
         i += 1;
     }
 }
 
-// The numbers of p from `at` on, times 1 / x.
-fn multiply(p: &[f64], u: &mut [f64], at: usize, rows: usize, x: f64)
-    requires { ⌜ at + rows ≤ length (now p) ⌝ }
-    requires { ⌜ at + rows ≤ length (now u) ⌝ }
-    ensures { λ _. ⌜ Written (now (u .entry)) (now (u .exit)) at rows (multiplied (now (p .entry)) at x) ⌝ }
+// Rows of the column at `at`: c times those of p.
+fn multiply(p: &[f64], u: &mut [f64], at: usize, rows: usize, c: f64)
+    requires { ⌜ rows + at ≤ length (now p) ⌝ }
+    requires { ⌜ rows + at ≤ length (now u) ⌝ }
+    ensures { λ _. ⌜ Strip at 0 rows (multiplesOf (now (p .entry)) at c) (now (u .entry)) (now (u .exit)) ⌝ }
 {
     let mut i = 0;
     while i < rows {
-        u[at + i] = 1.0 / x * p[at + i];
+        u[i + at] = c * p[i + at];
         i += 1;
     }
 }

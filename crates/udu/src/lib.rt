@@ -1,14 +1,14 @@
 // UDU: u upper triangular and a diagonal d with p = u·d·uᵀ, column by column from the last.
-ghost use Rattle.udu.specs.Promise.{Factored, uduOf};
-ghost use Rattle.udu.specs.Leaves.{Sized, Clear, Columned};
-ghost use Prim.Native.Nat.{_*_};
+ghost use Rattle.udu.specs.Columns.{nothing};
+ghost use Rattle.udu.specs.Promise.{UduSized, UduFactored, Holding, uduOf};
+ghost use Rattle.udu.specs.inner.Contracts.{Columned};
 use answer::Answer;
 
 mod column;
 
 // Fills u (n·n) and d (n) from the upper part of p (n·n).
 pub fn factor(p: &[f64], u: &mut [f64], d: &mut [f64], n: usize) -> Answer
-    ensures { λ r. ⌜ Factored (now (p .entry)) (now (u .entry)) (now (d .entry)) n r (now (u .exit)) (now (d .exit)) ⌝ }
+    ensures { λ r. ⌜ UduFactored (now (p .entry)) (now (u .entry)) (now (d .entry)) n r (now (u .exit)) (now (d .exit)) ⌝ }
 {
     if 1024 < n {
         return Answer::OutOfRange;
@@ -16,25 +16,25 @@ pub fn factor(p: &[f64], u: &mut [f64], d: &mut [f64], n: usize) -> Answer
     if n == 0 {
         return Answer::OutOfRange;
     }
-    if p.len() != n * n {
+    let size = n * n;
+    if p.len() != size {
         return Answer::MatrixLength;
     }
-    if u.len() != n * n {
+    if u.len() != size {
         return Answer::SliceLength;
     }
     if d.len() != n {
         return Answer::SliceLength;
     }
-    column::clear(d);
-    column::clear(u);
+    strips::clear(d, 0, 0, n);
+    strips::clear(u, 0, 0, size);
     columns(p, u, d, n)
 }
 
 // The columns from the last to the first, until a diagonal is zero.
 fn columns(p: &[f64], u: &mut [f64], d: &mut [f64], n: usize) -> Answer
-    requires { ⌜ Sized n (now p) (now u) (now d) ⌝ }
-    requires { ⌜ Clear (now u) (n * n) ⌝ }
-    requires { ⌜ Clear (now d) n ⌝ }
+    requires { ⌜ UduSized n (now p) (now u) (now d) ⌝ }
+    requires { ⌜ Holding n nothing (now u) (now d) ⌝ }
     ensures { λ r. ⌜ Columned n (uduOf n (now (p .entry))) r (now (u .exit)) (now (d .exit)) ⌝ }
 {
     let mut j = n - 1;
@@ -43,7 +43,7 @@ fn columns(p: &[f64], u: &mut [f64], d: &mut [f64], n: usize) -> Answer
     }
     while 0 < j {
         j -= 1;
-        if column::earlier(p, u, d, j, n) {
+        if column::further(p, u, d, j, n) {
             return Answer::ZeroDiagonal(j as u32);
         }
     }

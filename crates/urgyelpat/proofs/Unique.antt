@@ -85,7 +85,7 @@ module _ {room n : ℕ} {a : List Float} where
 pub udu-factor-unique : {n : ℕ} {p u u₁ u₂ d d₁ d₂ : List Float} {r s : ℕ} → UduFactor n p u d r u₁ d₁ → UduFactor n p u d s u₂ d₂ → (r ≡ s) × (u₁ ≡ u₂) × (d₁ ≡ d₂)
 udu-factor-unique x y =
     let same = udu.factored-unique (x .given) (y .given) in
-    (passed-same x y (same .answer), same .upper, same .diagonal)
+    (passed-same x y (same .0), same .1, same .2)
 
 pub first-twin-pair-unique : {room m n : ℕ} {a : List Float} {r s : ℕ} → FirstTwinPair room m n a r → FirstTwinPair room m n a s → r ≡ s
 first-twin-pair-unique {room} {m} {n} {a} p q = passed-same p q (first-twin-since-unique a room m n (p .given) (q .given))

@@ -55,7 +55,7 @@ CholeskyDeterminant room n a r = Passed determinedOf (CholeskyDetermined (inRoom
 -- ---- UDU and twins
 
 abbrev pub UduFactor : ℕ → List Float → List Float → List Float → ℕ → List Float → List Float → Type 0
-UduFactor n p u d r u' d' = Passed numberOf (λ (answer : Answer). udu.Factored p u d n answer u' d') r
+UduFactor n p u d r u' d' = Passed numberOf (λ (answer : Answer). udu.UduFactored p u d n answer u' d') r
 
 abbrev pub FirstTwinPair : ℕ → ℕ → ℕ → List Float → ℕ → Type 0
 FirstTwinPair room earlier n a r = Passed twinNumber (FirstTwinSince a room earlier n) r

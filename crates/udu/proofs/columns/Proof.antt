@@ -1,20 +1,16 @@
 -- `columns` meets its contract. Assumes nothing.
 use mathlib.Core.Path.{sym, subst, _∙_}
-use Prim.Native.Nat.{ℕ, _-_, _*_}
+use Prim.Native.Nat.{ℕ, _-_, _<_}
 use native.Mathlib.Omega.{arith}
 use denote.Ref.{now}
-use Rattle.matrix.specs.Grid.{load}
-use Rattle.matrix.specs.Layouts.{upper}
-use Rattle.udu.specs.Promise.{uduOf}
-use Rattle.udu.specs.Leaves.{Clear}
-use Rattle.udu.proofs.Reached.{reached-none, columned-all}
-use Rattle.udu.proofs.Over.{Over, Turning, last-accepted, last-refused, earlier-accepted, earlier-refused}
+use Rattle.udu.specs.inner.Contracts.{Zeros}
+use Rattle.udu.proofs.Reached.{Reached, reached-none, accepted-on, refused-on, columned-all}
 use borrow.Author.Needs.{needs}
 use Rattle.udu.proofs.columns.Statement.{statement}
 use Rattle.udu.proofs.columns.Tie as tie
 
 abbrev Inv-loop : tie.InvT-loop
-Inv-loop p u₀ d₀ n j₀ u d j = Turning p n j u d
+Inv-loop p u₀ d₀ n j₀ u d j = Reached p n j u d × (j < n)
 
 abbrev μ-loop : tie.MeasureT-loop
 μ-loop p u₀ d₀ n j₀ u d j = j
@@ -35,47 +31,46 @@ same-length-2 : tie.Need-same-length-2 Inv-loop μ-loop
 same-length-2 c = search needs
 
 returns : tie.Need-returns Inv-loop μ-loop
-returns c = last-refused (now (c .before .before .before .before .before .before .before .before .before .before .before .args .p)) (reached-none (load (upper (c .before .before .before .before .before .before .before .before .before .before .before .args .n)) (now (c .before .before .before .before .before .before .before .before .before .before .before .args .p))) (c .before .before .before .before .before .before .before .before .before .before .before .pre .0 .upper) (c .before .before .before .before .before .before .before .before .before .before .before .pre .0 .diagonal) (c .before .before .before .before .before .before .before .before .before .before .before .pre .1 .0) (c .before .before .before .before .before .before .before .before .before .before .before .pre .1 .1)) (c .before .before .before .before .before .before .before .before .before .before .before .pre .0 .low) (c .before .before .before .before .before .last .ensures) (c .if1 .taken)
+returns c = refused-on (c .before .before .before .before .before .before .before .before .before .before .before .args .n - 1) (reached-none (now (c .before .before .before .before .before .before .before .before .before .before .before .args .p)) (c .before .before .before .before .before .before .before .before .before .before .before .pre .1)) (omega (arith, c .before .before .before .before .before .before .before .before .before .before .before .pre .0 .low)) (c .before .before .before .before .before .last .ensures) (c .if1 .taken)
 
 loop-holds : tie.Need-loop-holds Inv-loop μ-loop
-loop-holds c = record { over = last-accepted (now (c .before .before .before .before .before .before .before .before .before .before .before .args .p)) (reached-none (load (upper (c .before .before .before .before .before .before .before .before .before .before .before .args .n)) (now (c .before .before .before .before .before .before .before .before .before .before .before .args .p))) (c .before .before .before .before .before .before .before .before .before .before .before .pre .0 .upper) (c .before .before .before .before .before .before .before .before .before .before .before .pre .0 .diagonal) (c .before .before .before .before .before .before .before .before .before .before .before .pre .1 .0) (c .before .before .before .before .before .before .before .before .before .before .before .pre .1 .1)) (c .before .before .before .before .before .before .before .before .before .before .before .pre .0 .low) (c .before .before .before .before .before .last .ensures) (c .if1 .left); below = omega (arith, c .before .before .before .before .before .before .before .before .before .before .before .pre .0 .low) }
+loop-holds c = (accepted-on (c .before .before .before .before .before .before .before .before .before .before .before .args .n - 1) (reached-none (now (c .before .before .before .before .before .before .before .before .before .before .before .args .p)) (c .before .before .before .before .before .before .before .before .before .before .before .pre .1)) (omega (arith, c .before .before .before .before .before .before .before .before .before .before .before .pre .0 .low)) (c .before .before .before .before .before .last .ensures) (c .if1 .left), omega (arith, c .before .before .before .before .before .before .before .before .before .before .before .pre .0 .low))
 
 sub-j-2 : tie.Need-sub-j-2 Inv-loop μ-loop
 sub-j-2 c = search needs
 
-earlier-requires : tie.Need-earlier-requires Inv-loop μ-loop
-earlier-requires c κs = (
-  record { low = c .before .before .before .before .before .before .before .before .before .before .before .before .before .before .before .pre .0 .low; high = c .before .before .before .before .before .before .before .before .before .before .before .before .before .before .before .pre .0 .high; matrix = c .before .before .before .before .before .before .before .before .before .before .before .before .before .before .before .pre .0 .matrix; upper = c .before .before .before .loop .inv .over .filled .upper .long; diagonal = c .before .before .before .loop .inv .over .filled .diagonal .long },
-  (omega (arith, c .before .before .before .loop .inv .below, c .before .before .loop-test .taken), subst (λ (k : ℕ). Clear (c .before .before .before .loop .u) (k * c .before .before .before .before .before .before .before .before .before .before .before .before .before .before .before .args .n)) (omega (arith, c .before .before .loop-test .taken)) (c .before .before .before .loop .inv .over .clear)),
+further-requires : tie.Need-further-requires Inv-loop μ-loop
+further-requires c κs = (
+  record { low = c .before .before .before .before .before .before .before .before .before .before .before .before .before .before .before .pre .0 .low; high = c .before .before .before .before .before .before .before .before .before .before .before .before .before .before .before .pre .0 .high; matrix = c .before .before .before .before .before .before .before .before .before .before .before .before .before .before .before .pre .0 .matrix; upper = c .before .before .before .loop .inv .0 .holding .upper .long; diagonal = c .before .before .before .loop .inv .0 .holding .diagonal .long },
+  (omega (arith, c .before .before .before .loop .inv .1, c .before .before .loop-test .taken), subst (λ (k : ℕ). Zeros (c .before .before .before .before .before .before .before .before .before .before .before .before .before .before .before .args .n) k (c .before .before .before .loop .u)) (omega (arith, c .before .before .loop-test .taken)) (c .before .before .before .loop .inv .0 .zeros)),
 )
 
 cast-t18 : tie.Need-cast-t18 Inv-loop μ-loop
-cast-t18 c = omega (arith, c .before .before .before .before .before .before .before .before .before .loop .inv .below, c .before .before .before .before .before .before .before .before .before .before .before .before .before .before .before .before .before .before .before .before .before .pre .0 .high)
+cast-t18 c = omega (arith, c .before .before .before .before .before .before .before .before .before .loop .inv .1, c .before .before .before .before .before .before .before .before .before .before .before .before .before .before .before .before .before .before .before .before .before .pre .0 .high)
 
 same-length-3 : tie.Need-same-length-3 Inv-loop μ-loop
-same-length-3 c = c .before .before .before .before .before .earlier .ensures .column .long ∙ c .before .before .before .before .before .before .before .before .before .loop .inv .over .filled .upper .long ∙ sym (c .before .before .before .before .before .before .before .before .before .before .before .before .before .before .before .before .before .before .before .before .before .pre .0 .upper)
+same-length-3 c = c .before .before .before .before .before .further .ensures .column .long ∙ c .before .before .before .before .before .before .before .before .before .loop .inv .0 .holding .upper .long ∙ sym (c .before .before .before .before .before .before .before .before .before .before .before .before .before .before .before .before .before .before .before .before .before .pre .0 .upper)
 
 same-length-4 : tie.Need-same-length-4 Inv-loop μ-loop
-same-length-4 c = c .before .before .before .before .before .earlier .kept .1 .1 .0 ∙ c .before .before .before .before .before .before .before .before .before .loop .inv .over .filled .diagonal .long ∙ sym (c .before .before .before .before .before .before .before .before .before .before .before .before .before .before .before .before .before .before .before .before .before .pre .0 .diagonal)
+same-length-4 c = c .before .before .before .before .before .further .kept .1 .1 .0 ∙ c .before .before .before .before .before .before .before .before .before .loop .inv .0 .holding .diagonal .long ∙ sym (c .before .before .before .before .before .before .before .before .before .before .before .before .before .before .before .before .before .before .before .before .before .pre .0 .diagonal)
 
 returns-2 : tie.Need-returns-2 Inv-loop μ-loop
-returns-2 c = earlier-refused (now (c .before .before .before .before .before .before .before .before .before .before .before .before .before .before .before .before .before .before .before .before .before .args .p)) (c .before .before .before .before .before .before .before .before .before .loop .j - 1) (c .before .before .before .before .before .before .before .before .before .loop .inv .over) (c .before .before .before .before .before .before .before .before .before .loop .inv .below) (omega (arith, c .before .before .before .before .before .before .before .before .loop-test .taken)) (c .before .before .before .before .before .earlier .ensures) (c .if2 .taken)
+returns-2 c = refused-on (c .before .before .before .before .before .before .before .before .before .loop .j - 1) (c .before .before .before .before .before .before .before .before .before .loop .inv .0) (omega (arith, c .before .before .before .before .before .before .before .before .loop-test .taken)) (c .before .before .before .before .before .further .ensures) (c .if2 .taken)
 
 loop-less : tie.Need-loop-less Inv-loop μ-loop
 loop-less c = omega (arith, c .before .before .before .before .before .before .before .before .loop-test .taken)
 
 loop-again : tie.Need-loop-again Inv-loop μ-loop
-loop-again c = record { over = earlier-accepted (now (c .before .before .before .before .before .before .before .before .before .before .before .before .before .before .before .before .before .before .before .before .before .args .p)) (c .before .before .before .before .before .before .before .before .before .loop .j - 1) (c .before .before .before .before .before .before .before .before .before .loop .inv .over) (c .before .before .before .before .before .before .before .before .before .loop .inv .below) (omega (arith, c .before .before .before .before .before .before .before .before .loop-test .taken)) (c .before .before .before .before .before .earlier .ensures) (c .if2 .left); below = omega (arith, c .before .before .before .before .before .before .before .before .before .loop .inv .below) }
+loop-again c = (accepted-on (c .before .before .before .before .before .before .before .before .before .loop .j - 1) (c .before .before .before .before .before .before .before .before .before .loop .inv .0) (omega (arith, c .before .before .before .before .before .before .before .before .loop-test .taken)) (c .before .before .before .before .before .further .ensures) (c .if2 .left), omega (arith, c .before .before .before .before .before .before .before .before .before .loop .inv .1))
 
 same-length-5 : tie.Need-same-length-5 Inv-loop μ-loop
-same-length-5 c = c .before .loop .inv .over .filled .upper .long ∙ sym (c .before .before .before .before .before .before .before .before .before .before .before .before .before .pre .0 .upper)
+same-length-5 c = c .before .loop .inv .0 .holding .upper .long ∙ sym (c .before .before .before .before .before .before .before .before .before .before .before .before .before .pre .0 .upper)
 
 same-length-6 : tie.Need-same-length-6 Inv-loop μ-loop
-same-length-6 c = c .before .loop .inv .over .filled .diagonal .long ∙ sym (c .before .before .before .before .before .before .before .before .before .before .before .before .before .pre .0 .diagonal)
+same-length-6 c = c .before .loop .inv .0 .holding .diagonal .long ∙ sym (c .before .before .before .before .before .before .before .before .before .before .before .before .before .pre .0 .diagonal)
 
 returns-3 : tie.Need-returns-3 Inv-loop μ-loop
-unfolding uduOf
-returns-3 c = columned-all (subst (λ (k : ℕ). Over (now (c .before .before .before .before .before .before .before .before .before .before .before .before .before .args .p)) (c .before .before .before .before .before .before .before .before .before .before .before .before .before .args .n) k (c .before .loop .u) (c .before .loop .d)) (omega (arith, c .loop-test .left)) (c .before .loop .inv .over))
+returns-3 c = columned-all (subst (λ (k : ℕ). Reached (now (c .before .before .before .before .before .before .before .before .before .before .before .before .before .args .p)) (c .before .before .before .before .before .before .before .before .before .before .before .before .before .args .n) k (c .before .loop .u) (c .before .loop .d)) (omega (arith, c .loop-test .left)) (c .before .loop .inv .0))
 
 pub columns-spec : {M : Type 1} → statement M
 columns-spec =
@@ -91,7 +86,7 @@ columns-spec =
     returns
     loop-holds
     sub-j-2
-    earlier-requires
+    further-requires
     cast-t18
     same-length-3
     same-length-4

@@ -1,58 +1,54 @@
 -- `factor` meets its contract. Assumes nothing.
-use mathlib.Core.Path.{subst}
-use Prim.Native.Nat.{_*_, _≤_}
-use native.Mathlib.Nat.{mul-le-mul, pos-of-ne-zero}
+use mathlib.Core.Path.{refl, _∙_}
+use native.Mathlib.Nat.{pos-of-ne-zero}
 use native.Mathlib.Omega.{arith}
-use denote.Ref.{now}
-use Rattle.udu.specs.Leaves.{Clear}
-use Rattle.udu.proofs.Sizes.{refused-high, refused-zero, refused-matrix, refused-upper, refused-diagonal, factored}
-use borrow.Author.Needs.{needs}
+use borrow.Author.Tests.{le-leb, lt-leb, lt-ltb, le-ltb, eq-eqb, ne-eqb}
+use Rattle.answer.specs.declared.Answer.the-variants.{OutOfRange, MatrixLength, SliceLength}
+use Rattle.answer.proofs.Tested.{here, later}
+use Rattle.matrix.proofs.Places.{product-small}
+use Rattle.udu.proofs.Holding.{holding-none}
+use Rattle.udu.proofs.Sizes.{unfactored, factored}
 use Rattle.udu.proofs.factor.Statement.{statement}
 use Rattle.udu.proofs.factor.Tie as tie
 
 returns : tie.Need-returns
-returns c = refused-high (now (c .before .before .before .before .args .p)) (now (c .before .before .before .before .args .u)) (now (c .before .before .before .before .args .d)) (c .before .before .before .before .args .n) (c .if1 .taken)
+returns c = unfactored OutOfRange refl (here (lt-leb _ _ (c .if1 .taken)) refl)
 
 returns-2 : tie.Need-returns-2
-returns-2 c = refused-zero (now (c .before .before .before .before .before .args .p)) (now (c .before .before .before .before .before .args .u)) (now (c .before .before .before .before .before .args .d)) (c .before .before .before .before .before .args .n) (c .before .if1 .left) (c .if2 .taken)
+returns-2 c = unfactored OutOfRange refl (later (le-leb _ _ (c .before .if1 .left)) (here (le-ltb 0 (c .before .before .before .before .before .args .n) (omega (arith, c .if2 .taken))) refl))
 
-mul-if3 : tie.Need-mul-if3
-mul-if3 c =
-    let small : c .before .before .before .before .before .args .n * c .before .before .before .before .before .args .n ≤ 1024 * 1024 = mul-le-mul (c .before .if1 .left) (c .before .if1 .left) in
-    omega arith
+mul-size : tie.Need-mul-size
+mul-size c = omega (arith, product-small _ _ (c .before .if1 .left) (c .before .if1 .left))
 
 returns-3 : tie.Need-returns-3
-returns-3 c = refused-matrix (now (c .before .before .before .before .before .before .args .p)) (now (c .before .before .before .before .before .before .args .u)) (now (c .before .before .before .before .before .before .args .d)) (c .before .before .before .before .before .before .args .n) (c .before .before .if1 .left) (c .before .if2 .left) (c .if3 .taken)
-
-mul-if4 : tie.Need-mul-if4
-mul-if4 c = search needs
+returns-3 c = unfactored MatrixLength refl (later (le-leb _ _ (c .before .before .if1 .left)) (later (lt-ltb _ _ (pos-of-ne-zero (c .before .if2 .left))) (here (ne-eqb _ _ (c .if3 .taken)) refl)))
 
 returns-4 : tie.Need-returns-4
-returns-4 c = refused-upper (now (c .before .before .before .before .before .before .before .args .p)) (now (c .before .before .before .before .before .before .before .args .u)) (now (c .before .before .before .before .before .before .before .args .d)) (c .before .before .before .before .before .before .before .args .n) (c .before .before .before .if1 .left) (c .before .before .if2 .left) (c .before .if3 .left) (c .if4 .taken)
+returns-4 c = unfactored SliceLength refl (later (le-leb _ _ (c .before .before .before .if1 .left)) (later (lt-ltb _ _ (pos-of-ne-zero (c .before .before .if2 .left))) (later (eq-eqb _ _ (c .before .if3 .left)) (here (ne-eqb _ _ (c .if4 .taken)) refl))))
 
 returns-5 : tie.Need-returns-5
-returns-5 c = refused-diagonal (now (c .before .before .before .before .before .before .before .before .args .p)) (now (c .before .before .before .before .before .before .before .before .args .u)) (now (c .before .before .before .before .before .before .before .before .args .d)) (c .before .before .before .before .before .before .before .before .args .n) (c .before .before .before .before .if1 .left) (c .before .before .before .if2 .left) (c .before .before .if3 .left) (c .before .if4 .left) (c .if5 .taken)
+returns-5 c = unfactored SliceLength refl (later (le-leb _ _ (c .before .before .before .before .if1 .left)) (later (lt-ltb _ _ (pos-of-ne-zero (c .before .before .before .if2 .left))) (later (eq-eqb _ _ (c .before .before .if3 .left)) (later (eq-eqb _ _ (c .before .if4 .left)) (here (ne-eqb _ _ (c .if5 .taken)) refl)))))
 
 clear-requires : tie.Need-clear-requires
-clear-requires c κs = search needs
+clear-requires c κs = (omega arith, omega (arith, c .before .if5 .left))
 
 clear-requires-2 : tie.Need-clear-requires-2
-clear-requires-2 c κs = search needs
+clear-requires-2 c κs = (omega arith, omega (arith, c .before .before .before .before .before .before .if4 .left))
 
 columns-requires : tie.Need-columns-requires
 columns-requires c κs = (
-  record { low = search (needs, pos-of-ne-zero); high = search needs; matrix = search needs; upper = search needs; diagonal = search needs },
-  (subst (Clear _) (search needs) (c .before .before .before .before .clear2 .ensures), subst (Clear _) (search needs) (c .before .before .before .before .before .before .before .before .clear .ensures)),
+  record { low = pos-of-ne-zero (c .before .before .before .before .before .before .before .before .before .before .before .before .before .if2 .left); high = c .before .before .before .before .before .before .before .before .before .before .before .before .before .before .if1 .left; matrix = c .before .before .before .before .before .before .before .before .before .before .before .before .if3 .left; upper = c .before .before .before .before .clear2 .ensures .long ∙ c .before .before .before .before .before .before .before .before .before .before .before .if4 .left; diagonal = c .before .before .before .before .before .before .before .before .clear .ensures .long ∙ c .before .before .before .before .before .before .before .before .before .before .if5 .left },
+  holding-none (c .before .before .before .before .before .before .before .before .before .before .before .if4 .left) (c .before .before .before .before .before .before .before .before .before .before .if5 .left) (c .before .before .before .before .clear2 .ensures) (c .before .before .before .before .before .before .before .before .clear .ensures),
 )
 
 same-length : tie.Need-same-length
-same-length c = search needs
+same-length c = c .before .before .before .before .columns .kept .1 .0 ∙ c .before .before .before .before .before .before .before .before .before .clear2 .ensures .long
 
 same-length-2 : tie.Need-same-length-2
-same-length-2 c = search needs
+same-length-2 c = c .before .before .before .before .columns .kept .1 .1 .0 ∙ c .before .before .before .before .before .before .before .before .before .before .before .before .before .clear .ensures .long
 
 returns-6 : tie.Need-returns-6
-returns-6 c = factored (now (c .before .before .before .before .before .before .before .before .before .before .before .before .before .before .before .before .before .before .before .before .before .before .before .args .p)) (now (c .before .before .before .before .before .before .before .before .before .before .before .before .before .before .before .before .before .before .before .before .before .before .before .args .u)) (now (c .before .before .before .before .before .before .before .before .before .before .before .before .before .before .before .before .before .before .before .before .before .before .before .args .d)) (c .before .before .before .before .before .before .before .before .before .before .before .before .before .before .before .before .before .before .before .before .before .before .before .args .n) (c .before .before .before .before .before .before .before .before .before .before .before .before .before .before .before .before .before .before .before .if1 .left) (c .before .before .before .before .before .before .before .before .before .before .before .before .before .before .before .before .before .before .if2 .left) (c .before .before .before .before .before .before .before .before .before .before .before .before .before .before .before .before .before .if3 .left) (c .before .before .before .before .before .before .before .before .before .before .before .before .before .before .before .before .if4 .left) (c .before .before .before .before .before .before .before .before .before .before .before .before .before .before .before .if5 .left) (c .before .before .before .before .columns .ensures)
+returns-6 c = factored (record { low = pos-of-ne-zero (c .before .before .before .before .before .before .before .before .before .before .before .before .before .before .before .before .before .before .if2 .left); high = c .before .before .before .before .before .before .before .before .before .before .before .before .before .before .before .before .before .before .before .if1 .left; matrix = c .before .before .before .before .before .before .before .before .before .before .before .before .before .before .before .before .before .if3 .left; upper = c .before .before .before .before .before .before .before .before .before .before .before .before .before .before .before .before .if4 .left; diagonal = c .before .before .before .before .before .before .before .before .before .before .before .before .before .before .before .if5 .left }) (c .before .before .before .before .columns .ensures)
 
 pub factor-spec : {M : Type 1} → statement M
 factor-spec =
@@ -60,9 +56,8 @@ factor-spec =
     (tie.spec
     returns
     returns-2
-    mul-if3
+    mul-size
     returns-3
-    mul-if4
     returns-4
     returns-5
     clear-requires

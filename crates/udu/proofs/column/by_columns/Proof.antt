@@ -1,12 +1,11 @@
 -- `by_columns` meets its contract. Assumes nothing.
 use mathlib.Core.Path.{_∙_}
-use Prim.Native.Nat.{_+_, _-_}
 use native.Mathlib.Omega.{arith}
 use denote.Ref.{now}
 use lib.ListN.{length-set}
-use Rattle.matrix.proofs.Places.{digits-within}
-use Rattle.udu.specs.Leaves.{foundIn}
-use Rattle.udu.proofs.Joined.{divided-column, with-diagonal}
+use Rattle.matrix.proofs.Places.{digits-within, product-small}
+use Rattle.udu.specs.inner.Contracts.{factorsIn}
+use Rattle.udu.proofs.Entries.{quotient-entry, with-diagonal}
 use Rattle.udu.proofs.column.by_columns.Statement.{statement}
 use Rattle.udu.proofs.column.by_columns.Tie as tie
 
@@ -14,16 +13,16 @@ crosses-requires : tie.Need-crosses-requires
 crosses-requires c κs = (c .before .before .before .before .pre .1 .0, (c .before .before .before .before .pre .0 .high, (c .before .before .before .before .pre .0 .upper, (c .before .before .before .before .pre .0 .diagonal, c .before .before .before .before .pre .1 .1))))
 
 mul-at : tie.Need-mul-at
-mul-at c = omega (arith, c .before .before .before .before .before .before .before .pre .0 .matrix, digits-within (c .before .before .before .before .before .before .before .args .n) (c .before .before .before .before .before .before .before .args .n) (c .before .before .before .before .before .before .before .args .j) (c .before .before .before .before .before .before .before .args .j) (c .before .before .before .before .before .before .before .pre .1 .0) (c .before .before .before .before .before .before .before .pre .1 .0))
+mul-at c = omega (arith, digits-within (c .before .before .before .before .before .before .before .args .n) (c .before .before .before .before .before .before .before .args .n) (c .before .before .before .before .before .before .before .args .j) (c .before .before .before .before .before .before .before .args .j) (c .before .before .before .before .before .before .before .pre .1 .0) (c .before .before .before .before .before .before .before .pre .1 .0), product-small (c .before .before .before .before .before .before .before .args .n) (c .before .before .before .before .before .before .before .args .n) (c .before .before .before .before .before .before .before .pre .0 .high) (c .before .before .before .before .before .before .before .pre .0 .high))
 
 divide-requires : tie.Need-divide-requires
 divide-requires c κs = (omega (arith, c .before .before .before .before .before .before .before .before .pre .0 .matrix, digits-within (c .before .before .before .before .before .before .before .before .args .n) (c .before .before .before .before .before .before .before .before .args .n) (c .before .before .before .before .before .before .before .before .args .j) (c .before .before .before .before .before .before .before .before .args .j) (c .before .before .before .before .before .before .before .before .pre .1 .0) (c .before .before .before .before .before .before .before .before .pre .1 .0)), omega (arith, c .before .before .before .crosses .ensures .long, c .before .before .before .before .before .before .before .before .pre .0 .upper, digits-within (c .before .before .before .before .before .before .before .before .args .n) (c .before .before .before .before .before .before .before .before .args .n) (c .before .before .before .before .before .before .before .before .args .j) (c .before .before .before .before .before .before .before .before .args .j) (c .before .before .before .before .before .before .before .before .pre .1 .0) (c .before .before .before .before .before .before .before .before .pre .1 .0)))
 
 add-u : tie.Need-add-u
-add-u c = omega (arith, c .before .before .before .before .before .before .before .before .before .before .before .pre .0 .matrix, c .before .before .before .before .before .before .before .before .before .before .before .good, digits-within (c .before .before .before .before .before .before .before .before .before .before .before .args .n) (c .before .before .before .before .before .before .before .before .before .before .before .args .n) (c .before .before .before .before .before .before .before .before .before .before .before .args .j) (c .before .before .before .before .before .before .before .before .before .before .before .args .j) (c .before .before .before .before .before .before .before .before .before .before .before .pre .1 .0) (c .before .before .before .before .before .before .before .before .before .before .before .pre .1 .0))
+add-u c = omega (arith, digits-within (c .before .before .before .before .before .before .before .before .before .before .before .args .n) (c .before .before .before .before .before .before .before .before .before .before .before .args .n) (c .before .before .before .before .before .before .before .before .before .before .before .args .j) (c .before .before .before .before .before .before .before .before .before .before .before .args .j) (c .before .before .before .before .before .before .before .before .before .before .before .pre .1 .0) (c .before .before .before .before .before .before .before .before .before .before .before .pre .1 .0), product-small (c .before .before .before .before .before .before .before .before .before .before .before .args .n) (c .before .before .before .before .before .before .before .before .before .before .before .args .n) (c .before .before .before .before .before .before .before .before .before .before .before .pre .0 .high) (c .before .before .before .before .before .before .before .before .before .before .before .pre .0 .high))
 
 mul-u : tie.Need-mul-u
-mul-u c = omega (arith, c .before .before .before .before .before .before .before .before .before .before .before .pre .0 .matrix, c .before .before .before .before .before .before .before .before .before .before .before .good, digits-within (c .before .before .before .before .before .before .before .before .before .before .before .args .n) (c .before .before .before .before .before .before .before .before .before .before .before .args .n) (c .before .before .before .before .before .before .before .before .before .before .before .args .j) (c .before .before .before .before .before .before .before .before .before .before .before .args .j) (c .before .before .before .before .before .before .before .before .before .before .before .pre .1 .0) (c .before .before .before .before .before .before .before .before .before .before .before .pre .1 .0))
+mul-u c = omega (arith, digits-within (c .before .before .before .before .before .before .before .before .before .before .before .args .n) (c .before .before .before .before .before .before .before .before .before .before .before .args .n) (c .before .before .before .before .before .before .before .before .before .before .before .args .j) (c .before .before .before .before .before .before .before .before .before .before .before .args .j) (c .before .before .before .before .before .before .before .before .before .before .before .pre .1 .0) (c .before .before .before .before .before .before .before .before .before .before .before .pre .1 .0), product-small (c .before .before .before .before .before .before .before .before .before .before .before .args .n) (c .before .before .before .before .before .before .before .before .before .before .before .args .n) (c .before .before .before .before .before .before .before .before .before .before .before .pre .0 .high) (c .before .before .before .before .before .before .before .before .before .before .before .pre .0 .high))
 
 slice-write-u : tie.Need-slice-write-u
 slice-write-u c = omega (arith, c .before .before .divide .ensures .long, c .before .before .before .before .before .before .crosses .ensures .long, c .before .before .before .before .before .before .before .before .before .before .before .pre .0 .upper, digits-within (c .before .before .before .before .before .before .before .before .before .before .before .args .n) (c .before .before .before .before .before .before .before .before .before .before .before .args .n) (c .before .before .before .before .before .before .before .before .before .before .before .args .j) (c .before .before .before .before .before .before .before .before .before .before .before .args .j) (c .before .before .before .before .before .before .before .before .before .before .before .pre .1 .0) (c .before .before .before .before .before .before .before .before .before .before .before .pre .1 .0))
@@ -32,10 +31,9 @@ same-length : tie.Need-same-length
 same-length c = simp length-set (c .before .before .divide .ensures .long ∙ c .before .before .before .before .before .before .crosses .ensures .long)
 
 returns : tie.Need-returns
-returns c =
-    let column = divided-column (c .before .before .before .before .before .before .before .before .before .before .before .args .n) (c .before .before .before .before .before .before .before .before .before .before .before .args .j) (c .before .before .before .before .before .before .before .before .before .before .before .args .n - (c .before .before .before .before .before .before .before .before .before .before .before .args .j + 1)) (foundIn (c .before .before .before .before .before .before .before .before .before .before .before .args .n) (now (c .before .before .before .before .before .before .before .before .before .before .before .args .u)) (now (c .before .before .before .before .before .before .before .before .before .before .before .args .d))) (now (c .before .before .before .before .before .before .before .before .before .before .before .args .p)) (c .before .before .before .before .before .before .before .before .before .before .before .args .x) (c .before .before .before .before .before .before .crosses .ensures) (c .before .before .divide .ensures) in
-    with-diagonal (c .before .before .before .before .before .before .before .before .before .before .before .args .n) (c .before .before .before .before .before .before .before .before .before .before .before .args .j) (c .before .before .before .before .before .before .before .before .before .before .before .args .n - (c .before .before .before .before .before .before .before .before .before .before .before .args .j + 1)) (foundIn (c .before .before .before .before .before .before .before .before .before .before .before .args .n) (now (c .before .before .before .before .before .before .before .before .before .before .before .args .u)) (now (c .before .before .before .before .before .before .before .before .before .before .before .args .d))) (now (c .before .before .before .before .before .before .before .before .before .before .before .args .p)) (c .before .before .before .before .before .before .before .before .before .before .before .args .x)
-    (omega (arith, c .before .before .before .before .before .before .before .before .before .before .before .pre .0 .upper, digits-within (c .before .before .before .before .before .before .before .before .before .before .before .args .n) (c .before .before .before .before .before .before .before .before .before .before .before .args .n) (c .before .before .before .before .before .before .before .before .before .before .before .args .j) (c .before .before .before .before .before .before .before .before .before .before .before .args .j) (c .before .before .before .before .before .before .before .before .before .before .before .pre .1 .0) (c .before .before .before .before .before .before .before .before .before .before .before .pre .1 .0))) column
+returns c = 
+    with-diagonal (c .before .before .before .before .before .before .before .before .before .before .before .args .n) (c .before .before .before .before .before .before .before .before .before .before .before .args .j) (factorsIn (c .before .before .before .before .before .before .before .before .before .before .before .args .n) (now (c .before .before .before .before .before .before .before .before .before .before .before .args .u)) (now (c .before .before .before .before .before .before .before .before .before .before .before .args .d))) (now (c .before .before .before .before .before .before .before .before .before .before .before .args .p)) (c .before .before .before .before .before .before .before .before .before .before .before .args .x) (omega (arith, c .before .before .before .before .before .before .before .before .before .before .before .pre .0 .upper, digits-within (c .before .before .before .before .before .before .before .before .before .before .before .args .n) (c .before .before .before .before .before .before .before .before .before .before .before .args .n) (c .before .before .before .before .before .before .before .before .before .before .before .args .j) (c .before .before .before .before .before .before .before .before .before .before .before .args .j) (c .before .before .before .before .before .before .before .before .before .before .before .pre .1 .0) (c .before .before .before .before .before .before .before .before .before .before .before .pre .1 .0)))
+    (quotient-entry (c .before .before .before .before .before .before .before .before .before .before .before .args .n) (c .before .before .before .before .before .before .before .before .before .before .before .args .j) (factorsIn (c .before .before .before .before .before .before .before .before .before .before .before .args .n) (now (c .before .before .before .before .before .before .before .before .before .before .before .args .u)) (now (c .before .before .before .before .before .before .before .before .before .before .before .args .d))) (now (c .before .before .before .before .before .before .before .before .before .before .before .args .p)) (c .before .before .before .before .before .before .before .before .before .before .before .args .x) (c .before .before .before .before .before .before .before .before .before .before .before .pre .1 .0) (c .before .before .before .before .before .before .crosses .ensures) (c .before .before .divide .ensures))
 
 pub by-columns-spec : {M : Type 1} → statement M
 by-columns-spec =

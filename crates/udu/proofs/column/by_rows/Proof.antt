@@ -1,79 +1,78 @@
 -- `by_rows` meets its contract. Assumes nothing.
 use mathlib.Core.Path.{_∙_}
-use Prim.Native.Nat.{_+_, _-_, _*_}
+use Prim.Native.Nat.{_-_, _*_}
 use native.Mathlib.Omega.{arith}
 use denote.Ref.{now}
 use lib.ListN.{length-set}
-use Rattle.matrix.proofs.Places.{digits-within}
-use Rattle.udu.specs.Columns.{earlierEntry}
-use Rattle.udu.specs.Leaves.{squareOf, foundIn}
-use Rattle.udu.proofs.Written.{Writing, writing-none, writing-more, writing-all}
-use Rattle.udu.proofs.Joined.{with-diagonal}
-use Rattle.udu.proofs.Rows.{row-entry}
-use borrow.Author.Needs.{needs}
+use Rattle.matrix.specs.Grid.{load}
+use Rattle.matrix.specs.Layouts.{upper}
+use Rattle.matrix.proofs.Places.{digits-within, product-small}
+use Rattle.strips.proofs.Strips.{Partway, strip-none, strip-more, strip-all}
+use Rattle.udu.specs.Columns.{furtherEntry}
+use Rattle.udu.specs.inner.Contracts.{factorsIn}
+use Rattle.udu.proofs.Entries.{row-entry, with-diagonal}
 use Rattle.udu.proofs.column.by_rows.Statement.{statement}
 use Rattle.udu.proofs.column.by_rows.Tie as tie
 
 abbrev Inv-loop : tie.InvT-loop
-Inv-loop p u₀ d j n x at i₀ u i = Writing u₀ u (j * n) j (earlierEntry (squareOf n p) (foundIn n u₀ d) x j (n - (j + 1))) i
+Inv-loop p u₀ d j n x at i₀ u i = Partway (j * n) 0 j (furtherEntry n (load (upper n) p) (factorsIn n u₀ d) x j) u₀ i u
 
 abbrev μ-loop : tie.MeasureT-loop
 μ-loop p u₀ d j n x at i₀ u i = j - i
 
 mul-at : tie.Need-mul-at Inv-loop μ-loop
-mul-at c = omega (arith, c .before .before .before .pre .0 .matrix, digits-within (c .before .before .before .args .n) (c .before .before .before .args .n) (c .before .before .before .args .j) (c .before .before .before .args .j) (c .before .before .before .pre .1) (c .before .before .before .pre .1))
+mul-at c = omega (arith, digits-within (c .before .before .before .args .n) (c .before .before .before .args .n) (c .before .before .before .args .j) (c .before .before .before .args .j) (c .before .before .before .pre .1) (c .before .before .before .pre .1), product-small (c .before .before .before .args .n) (c .before .before .before .args .n) (c .before .before .before .pre .0 .high) (c .before .before .before .pre .0 .high))
 
 loop-holds : tie.Need-loop-holds Inv-loop μ-loop
-loop-holds c = writing-none
+loop-holds c = strip-none (omega arith)
 
 add-u : tie.Need-add-u Inv-loop μ-loop
-add-u c = omega (arith, c .before .before .before .before .before .pre .0 .matrix, c .loop-test .taken, digits-within (c .before .before .before .before .before .args .n) (c .before .before .before .before .before .args .n) (c .before .before .before .before .before .args .j) (c .before .before .before .before .before .args .j) (c .before .before .before .before .before .pre .1) (c .before .before .before .before .before .pre .1))
+add-u c = omega (arith, c .loop-test .taken, digits-within (c .before .before .before .before .before .args .n) (c .before .before .before .before .before .args .n) (c .before .before .before .before .before .args .j) (c .before .before .before .before .before .args .j) (c .before .before .before .before .before .pre .1) (c .before .before .before .before .before .pre .1), product-small (c .before .before .before .before .before .args .n) (c .before .before .before .before .before .args .n) (c .before .before .before .before .before .pre .0 .high) (c .before .before .before .before .before .pre .0 .high))
 
 mul-u : tie.Need-mul-u Inv-loop μ-loop
-mul-u c = omega (arith, c .before .before .before .before .before .pre .0 .matrix, c .loop-test .taken, digits-within (c .before .before .before .before .before .args .n) (c .before .before .before .before .before .args .n) (c .before .before .before .before .before .args .j) (c .before .before .before .before .before .args .j) (c .before .before .before .before .before .pre .1) (c .before .before .before .before .before .pre .1))
+mul-u c = omega (arith, c .loop-test .taken, digits-within (c .before .before .before .before .before .args .n) (c .before .before .before .before .before .args .n) (c .before .before .before .before .before .args .j) (c .before .before .before .before .before .args .j) (c .before .before .before .before .before .pre .1) (c .before .before .before .before .before .pre .1), product-small (c .before .before .before .before .before .args .n) (c .before .before .before .before .before .args .n) (c .before .before .before .before .before .pre .0 .high) (c .before .before .before .before .before .pre .0 .high))
 
 shared-slice-read-u : tie.Need-shared-slice-read-u Inv-loop μ-loop
-shared-slice-read-u c = omega (arith, c .before .before .before .before .before .before .pre .0 .matrix, c .before .loop-test .taken, digits-within (c .before .before .before .before .before .before .args .n) (c .before .before .before .before .before .before .args .n) (c .before .before .before .before .before .before .args .j) (c .before .before .before .before .before .before .args .j) (c .before .before .before .before .before .before .pre .1) (c .before .before .before .before .before .before .pre .1))
+shared-slice-read-u c = omega (arith, c .before .loop-test .taken, c .before .before .before .before .before .before .pre .0 .matrix, digits-within (c .before .before .before .before .before .before .args .n) (c .before .before .before .before .before .before .args .n) (c .before .before .before .before .before .before .args .j) (c .before .before .before .before .before .before .args .j) (c .before .before .before .before .before .before .pre .1) (c .before .before .before .before .before .before .pre .1))
 
 row-requires : tie.Need-row-requires Inv-loop μ-loop
-row-requires c κs = (c .before .before .loop-test .taken, (c .before .before .before .before .before .before .before .pre .1, (c .before .before .before .before .before .before .before .pre .0 .high, (c .before .before .before .loop .inv .part .long ∙ c .before .before .before .before .before .before .before .pre .0 .upper, c .before .before .before .before .before .before .before .pre .0 .diagonal))))
+row-requires c κs = (c .before .before .loop-test .taken, (c .before .before .before .before .before .before .before .pre .1, (c .before .before .before .before .before .before .before .pre .0 .high, (c .before .before .before .loop .inv .strip .long ∙ c .before .before .before .before .before .before .before .pre .0 .upper, c .before .before .before .before .before .before .before .pre .0 .diagonal))))
 
 add-u-2 : tie.Need-add-u-2 Inv-loop μ-loop
-add-u-2 c = omega (arith, c .before .before .before .before .before .before .before .before .pre .0 .matrix, c .before .before .before .before .before .before .before .before .good, c .before .before .before .loop-test .taken, digits-within (c .before .before .before .before .before .before .before .before .args .n) (c .before .before .before .before .before .before .before .before .args .n) (c .before .before .before .before .before .before .before .before .args .j) (c .before .before .before .before .before .before .before .before .args .j) (c .before .before .before .before .before .before .before .before .pre .1) (c .before .before .before .before .before .before .before .before .pre .1))
+add-u-2 c = omega (arith, c .before .before .before .loop-test .taken, digits-within (c .before .before .before .before .before .before .before .before .args .n) (c .before .before .before .before .before .before .before .before .args .n) (c .before .before .before .before .before .before .before .before .args .j) (c .before .before .before .before .before .before .before .before .args .j) (c .before .before .before .before .before .before .before .before .pre .1) (c .before .before .before .before .before .before .before .before .pre .1), product-small (c .before .before .before .before .before .before .before .before .args .n) (c .before .before .before .before .before .before .before .before .args .n) (c .before .before .before .before .before .before .before .before .pre .0 .high) (c .before .before .before .before .before .before .before .before .pre .0 .high))
 
 mul-u-2 : tie.Need-mul-u-2 Inv-loop μ-loop
-mul-u-2 c = omega (arith, c .before .before .before .before .before .before .before .before .pre .0 .matrix, c .before .before .before .before .before .before .before .before .good, c .before .before .before .loop-test .taken, digits-within (c .before .before .before .before .before .before .before .before .args .n) (c .before .before .before .before .before .before .before .before .args .n) (c .before .before .before .before .before .before .before .before .args .j) (c .before .before .before .before .before .before .before .before .args .j) (c .before .before .before .before .before .before .before .before .pre .1) (c .before .before .before .before .before .before .before .before .pre .1))
+mul-u-2 c = omega (arith, c .before .before .before .loop-test .taken, digits-within (c .before .before .before .before .before .before .before .before .args .n) (c .before .before .before .before .before .before .before .before .args .n) (c .before .before .before .before .before .before .before .before .args .j) (c .before .before .before .before .before .before .before .before .args .j) (c .before .before .before .before .before .before .before .before .pre .1) (c .before .before .before .before .before .before .before .before .pre .1), product-small (c .before .before .before .before .before .before .before .before .args .n) (c .before .before .before .before .before .before .before .before .args .n) (c .before .before .before .before .before .before .before .before .pre .0 .high) (c .before .before .before .before .before .before .before .before .pre .0 .high))
 
 slice-write-u : tie.Need-slice-write-u Inv-loop μ-loop
-slice-write-u c = omega (arith, c .before .before .before .before .loop .inv .part .long, c .before .before .before .before .before .before .before .before .pre .0 .upper, c .before .before .before .loop-test .taken, digits-within (c .before .before .before .before .before .before .before .before .args .n) (c .before .before .before .before .before .before .before .before .args .n) (c .before .before .before .before .before .before .before .before .args .j) (c .before .before .before .before .before .before .before .before .args .j) (c .before .before .before .before .before .before .before .before .pre .1) (c .before .before .before .before .before .before .before .before .pre .1))
+slice-write-u c = omega (arith, c .before .before .before .before .loop .inv .strip .long, c .before .before .before .before .before .before .before .before .pre .0 .upper, c .before .before .before .loop-test .taken, digits-within (c .before .before .before .before .before .before .before .before .args .n) (c .before .before .before .before .before .before .before .before .args .n) (c .before .before .before .before .before .before .before .before .args .j) (c .before .before .before .before .before .before .before .before .args .j) (c .before .before .before .before .before .before .before .before .pre .1) (c .before .before .before .before .before .before .before .before .pre .1))
 
 add-i : tie.Need-add-i Inv-loop μ-loop
-add-i c = search needs
+add-i c = omega (arith, c .before .before .before .loop-test .taken, c .before .before .before .before .before .before .before .before .pre .1, c .before .before .before .before .before .before .before .before .pre .0 .high)
 
 loop-less : tie.Need-loop-less Inv-loop μ-loop
-loop-less c = search needs
+loop-less c = omega (arith, c .before .before .before .loop-test .taken)
 
 loop-again : tie.Need-loop-again Inv-loop μ-loop
-loop-again c =
-    writing-more (c .before .before .before .before .loop .inv) (c .before .before .before .loop-test .taken) (omega (arith, c .before .before .before .before .before .before .before .before .pre .0 .upper, digits-within (c .before .before .before .before .before .before .before .before .args .n) (c .before .before .before .before .before .before .before .before .args .n) (c .before .before .before .before .before .before .before .before .args .j) (c .before .before .before .before .before .before .before .before .args .j) (c .before .before .before .before .before .before .before .before .pre .1) (c .before .before .before .before .before .before .before .before .pre .1)))
-    (row-entry (now (c .before .before .before .before .before .before .before .before .args .d)) (c .before .before .before .before .before .before .before .before .args .n) (c .before .before .before .before .before .before .before .before .args .j) (c .before .before .before .before .loop .i) (c .before .before .before .before .loop .inv) (c .before .before .before .before .before .before .before .before .pre .1) (now (c .before .before .before .before .before .before .before .before .args .p)) (c .before .before .before .before .before .before .before .before .args .x) (c .row .result) (c .before .before .before .loop-test .taken) (c .row .ensures))
+loop-again c = 
+    strip-more _ (c .before .before .before .before .loop .inv) (c .before .before .before .loop-test .taken) (omega (arith, c .before .before .before .before .before .before .before .before .pre .0 .upper, digits-within (c .before .before .before .before .before .before .before .before .args .n) (c .before .before .before .before .before .before .before .before .args .n) (c .before .before .before .before .before .before .before .before .args .j) (c .before .before .before .before .before .before .before .before .args .j) (c .before .before .before .before .before .before .before .before .pre .1) (c .before .before .before .before .before .before .before .before .pre .1)))
+    (row-entry (c .before .before .before .before .before .before .before .before .args .n) (c .before .before .before .before .before .before .before .before .args .j) (c .before .before .before .before .loop .i) (now (c .before .before .before .before .before .before .before .before .args .d)) (now (c .before .before .before .before .before .before .before .before .args .p)) (c .before .before .before .before .before .before .before .before .args .x) (c .row .result) (c .before .before .before .before .loop .inv) (c .before .before .before .loop-test .taken) (c .before .before .before .before .before .before .before .before .pre .1) (c .row .ensures))
 
 add-u-3 : tie.Need-add-u-3 Inv-loop μ-loop
-add-u-3 c = omega (arith, c .before .before .before .before .before .pre .0 .matrix, c .before .before .before .before .before .good, digits-within (c .before .before .before .before .before .args .n) (c .before .before .before .before .before .args .n) (c .before .before .before .before .before .args .j) (c .before .before .before .before .before .args .j) (c .before .before .before .before .before .pre .1) (c .before .before .before .before .before .pre .1))
+add-u-3 c = omega (arith, digits-within (c .before .before .before .before .before .args .n) (c .before .before .before .before .before .args .n) (c .before .before .before .before .before .args .j) (c .before .before .before .before .before .args .j) (c .before .before .before .before .before .pre .1) (c .before .before .before .before .before .pre .1), product-small (c .before .before .before .before .before .args .n) (c .before .before .before .before .before .args .n) (c .before .before .before .before .before .pre .0 .high) (c .before .before .before .before .before .pre .0 .high))
 
 mul-u-3 : tie.Need-mul-u-3 Inv-loop μ-loop
-mul-u-3 c = omega (arith, c .before .before .before .before .before .pre .0 .matrix, c .before .before .before .before .before .good, digits-within (c .before .before .before .before .before .args .n) (c .before .before .before .before .before .args .n) (c .before .before .before .before .before .args .j) (c .before .before .before .before .before .args .j) (c .before .before .before .before .before .pre .1) (c .before .before .before .before .before .pre .1))
+mul-u-3 c = omega (arith, digits-within (c .before .before .before .before .before .args .n) (c .before .before .before .before .before .args .n) (c .before .before .before .before .before .args .j) (c .before .before .before .before .before .args .j) (c .before .before .before .before .before .pre .1) (c .before .before .before .before .before .pre .1), product-small (c .before .before .before .before .before .args .n) (c .before .before .before .before .before .args .n) (c .before .before .before .before .before .pre .0 .high) (c .before .before .before .before .before .pre .0 .high))
 
 slice-write-u-2 : tie.Need-slice-write-u-2 Inv-loop μ-loop
-slice-write-u-2 c = omega (arith, c .before .loop .inv .part .long, c .before .before .before .before .before .pre .0 .upper, digits-within (c .before .before .before .before .before .args .n) (c .before .before .before .before .before .args .n) (c .before .before .before .before .before .args .j) (c .before .before .before .before .before .args .j) (c .before .before .before .before .before .pre .1) (c .before .before .before .before .before .pre .1))
+slice-write-u-2 c = omega (arith, c .before .loop .inv .strip .long, c .before .before .before .before .before .pre .0 .upper, digits-within (c .before .before .before .before .before .args .n) (c .before .before .before .before .before .args .n) (c .before .before .before .before .before .args .j) (c .before .before .before .before .before .args .j) (c .before .before .before .before .before .pre .1) (c .before .before .before .before .before .pre .1))
 
 same-length : tie.Need-same-length Inv-loop μ-loop
-same-length c = simp length-set (c .before .loop .inv .part .long)
+same-length c = simp length-set (c .before .loop .inv .strip .long)
 
 returns : tie.Need-returns Inv-loop μ-loop
-returns c =
-    with-diagonal (c .before .before .before .before .before .args .n) (c .before .before .before .before .before .args .j) (c .before .before .before .before .before .args .n - (c .before .before .before .before .before .args .j + 1)) (foundIn (c .before .before .before .before .before .args .n) (now (c .before .before .before .before .before .args .u)) (now (c .before .before .before .before .before .args .d))) (now (c .before .before .before .before .before .args .p)) (c .before .before .before .before .before .args .x)
-    (omega (arith, c .before .before .before .before .before .pre .0 .upper, digits-within (c .before .before .before .before .before .args .n) (c .before .before .before .before .before .args .n) (c .before .before .before .before .before .args .j) (c .before .before .before .before .before .args .j) (c .before .before .before .before .before .pre .1) (c .before .before .before .before .before .pre .1))) (writing-all (c .before .loop .inv) (c .loop-test .left))
+returns c = 
+    with-diagonal (c .before .before .before .before .before .args .n) (c .before .before .before .before .before .args .j) (factorsIn (c .before .before .before .before .before .args .n) (now (c .before .before .before .before .before .args .u)) (now (c .before .before .before .before .before .args .d))) (now (c .before .before .before .before .before .args .p)) (c .before .before .before .before .before .args .x) (omega (arith, c .before .before .before .before .before .pre .0 .upper, digits-within (c .before .before .before .before .before .args .n) (c .before .before .before .before .before .args .n) (c .before .before .before .before .before .args .j) (c .before .before .before .before .before .args .j) (c .before .before .before .before .before .pre .1) (c .before .before .before .before .before .pre .1))) (strip-all (c .before .loop .inv) (c .loop-test .left))
 
 pub by-rows-spec : {M : Type 1} → statement M
 by-rows-spec =

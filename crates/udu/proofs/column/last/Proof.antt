@@ -1,11 +1,9 @@
 -- `last` meets its contract. Assumes nothing.
-use mathlib.Core.Path.{refl, sym}
 use Prim.Native.Nat.{_-_}
 use native.Mathlib.Omega.{arith}
-use Rattle.matrix.proofs.Places.{digits-within}
-use Rattle.udu.specs.Leaves.{lastDiagonal, squareOf}
-use Rattle.udu.proofs.Written.{written-none}
-use Rattle.udu.proofs.Joined.{last-column}
+use denote.Ref.{now}
+use Rattle.matrix.proofs.Places.{digits-within, product-small}
+use Rattle.udu.proofs.Entries.{last-zero, last-stepped}
 use borrow.Author.Needs.{needs}
 use Rattle.udu.proofs.column.last.Statement.{statement}
 use Rattle.udu.proofs.column.last.Tie as tie
@@ -14,16 +12,16 @@ sub-j : tie.Need-sub-j
 sub-j c = search needs
 
 mul-at : tie.Need-mul-at
-mul-at c = omega (arith, digits-within (c .before .before .before .args .n) (c .before .before .before .args .n) (c .before .before .before .args .n - 1) (c .before .before .before .args .n - 1) (omega arith) (omega arith))
+mul-at c = omega (arith, digits-within (c .before .before .before .args .n) (c .before .before .before .args .n) (c .before .before .before .args .n - 1) (c .before .before .before .args .n - 1) (omega (arith, c .before .before .before .pre .low)) (omega (arith, c .before .before .before .pre .low)), product-small (c .before .before .before .args .n) (c .before .before .before .args .n) (c .before .before .before .pre .high) (c .before .before .before .pre .high))
 
 add-x : tie.Need-add-x
-add-x c = omega (arith, digits-within (c .before .before .before .args .n) (c .before .before .before .args .n) (c .before .before .before .args .n - 1) (c .before .before .before .args .n - 1) (omega arith) (omega arith))
+add-x c = omega (arith, digits-within (c .before .before .before .args .n) (c .before .before .before .args .n) (c .before .before .before .args .n - 1) (c .before .before .before .args .n - 1) (omega (arith, c .before .before .before .pre .low)) (omega (arith, c .before .before .before .pre .low)), product-small (c .before .before .before .args .n) (c .before .before .before .args .n) (c .before .before .before .pre .high) (c .before .before .before .pre .high))
 
 mul-x : tie.Need-mul-x
-mul-x c = omega (arith, digits-within (c .before .before .before .args .n) (c .before .before .before .args .n) (c .before .before .before .args .n - 1) (c .before .before .before .args .n - 1) (omega arith) (omega arith))
+mul-x c = omega (arith, digits-within (c .before .before .before .args .n) (c .before .before .before .args .n) (c .before .before .before .args .n - 1) (c .before .before .before .args .n - 1) (omega (arith, c .before .before .before .pre .low)) (omega (arith, c .before .before .before .pre .low)), product-small (c .before .before .before .args .n) (c .before .before .before .args .n) (c .before .before .before .pre .high) (c .before .before .before .pre .high))
 
 shared-slice-read-x : tie.Need-shared-slice-read-x
-shared-slice-read-x c = omega (arith, digits-within (c .before .before .before .before .args .n) (c .before .before .before .before .args .n) (c .before .before .before .before .args .n - 1) (c .before .before .before .before .args .n - 1) (omega arith) (omega arith))
+shared-slice-read-x c = omega (arith, c .before .before .before .before .pre .matrix, digits-within (c .before .before .before .before .args .n) (c .before .before .before .before .args .n) (c .before .before .before .before .args .n - 1) (c .before .before .before .before .args .n - 1) (omega (arith, c .before .before .before .before .pre .low)) (omega (arith, c .before .before .before .before .pre .low)))
 
 mul-d : tie.Need-mul-d
 mul-d c = search needs
@@ -35,11 +33,10 @@ same-length : tie.Need-same-length
 same-length c = search needs
 
 returns : tie.Need-returns
-unfolding lastDiagonal squareOf
-returns c = record { judged = sym (c .if1 .taken); diagonal = refl; column = written-none }
+returns c = last-zero (c .before .before .before .before .before .args .n) (now (c .before .before .before .before .before .args .p)) (now (c .before .before .before .before .before .args .u)) (now (c .before .before .before .before .before .args .d)) (c .before .before .before .before .before .pre .low) (c .if1 .taken)
 
 multiply-requires : tie.Need-multiply-requires
-multiply-requires c κs = (omega (arith, digits-within (c .before .before .before .before .before .before .args .n) (c .before .before .before .before .before .before .args .n) (c .before .before .before .before .before .before .args .n - 1) (c .before .before .before .before .before .before .args .n - 1) (omega arith) (omega arith)), omega (arith, digits-within (c .before .before .before .before .before .before .args .n) (c .before .before .before .before .before .before .args .n) (c .before .before .before .before .before .before .args .n - 1) (c .before .before .before .before .before .before .args .n - 1) (omega arith) (omega arith)))
+multiply-requires c κs = (omega (arith, c .before .before .before .before .before .before .pre .matrix, digits-within (c .before .before .before .before .before .before .args .n) (c .before .before .before .before .before .before .args .n) (c .before .before .before .before .before .before .args .n - 1) (c .before .before .before .before .before .before .args .n - 1) (omega (arith, c .before .before .before .before .before .before .pre .low)) (omega (arith, c .before .before .before .before .before .before .pre .low))), omega (arith, c .before .before .before .before .before .before .pre .upper, digits-within (c .before .before .before .before .before .before .args .n) (c .before .before .before .before .before .before .args .n) (c .before .before .before .before .before .before .args .n - 1) (c .before .before .before .before .before .before .args .n - 1) (omega (arith, c .before .before .before .before .before .before .pre .low)) (omega (arith, c .before .before .before .before .before .before .pre .low))))
 
 same-length-2 : tie.Need-same-length-2
 same-length-2 c = search needs
@@ -48,8 +45,7 @@ same-length-3 : tie.Need-same-length-3
 same-length-3 c = search needs
 
 returns-2 : tie.Need-returns-2
-unfolding lastDiagonal squareOf
-returns-2 c = record { judged = sym (search needs); diagonal = refl; column = search (needs, last-column) }
+returns-2 c = last-stepped (c .before .before .before .before .before .before .before .before .before .args .n) (now (c .before .before .before .before .before .before .before .before .before .args .p)) (now (c .before .before .before .before .before .before .before .before .before .args .u)) (now (c .before .before .before .before .before .before .before .before .before .args .d)) (c .before .before .before .before .before .before .before .before .before .pre .low) (c .before .before .before .before .if1 .left) (c .before .before .multiply .ensures)
 
 pub last-spec : {M : Type 1} → statement M
 last-spec =

@@ -2,16 +2,17 @@
 use mathlib.Core.Path.{refl}
 use Prim.Native.Nat.{_+_, _-_}
 use native.Mathlib.Omega.{arith}
+use Rattle.matrix.specs.Rounded.{plusZero}
+use Rattle.matrix.proofs.Loops.{Ran, ran-none, ran-more, ran-all}
 use Rattle.matrix.proofs.Places.{digits-within}
-use Rattle.udu.specs.Columns.{crossed}
-use Rattle.udu.specs.Leaves.{foundIn, squareOf}
-use Rattle.udu.proofs.Totals.{Summing, summing-none, summing-more, summing-all}
+use Rattle.udu.specs.Columns.{plusCross, crossSum}
+use Rattle.udu.specs.inner.Contracts.{factorsIn}
 use borrow.Author.Needs.{needs}
 use Rattle.udu.proofs.column.row.Statement.{statement}
 use Rattle.udu.proofs.column.row.Tie as tie
 
 abbrev Inv-loop : tie.InvT-loop
-Inv-loop u d i j n sum₀ k₀ sum k = Summing (crossed (foundIn n u d) j i) (j + 1) n k sum
+Inv-loop u d i j n sum₀ k₀ sum k = Ran (j + 1) n (plusCross (factorsIn n u d) j i) plusZero k sum
 
 abbrev μ-loop : tie.MeasureT-loop
 μ-loop u d i j n sum₀ k₀ sum k = n - k
@@ -20,7 +21,7 @@ add-k : tie.Need-add-k Inv-loop μ-loop
 add-k c = search needs
 
 loop-holds : tie.Need-loop-holds Inv-loop μ-loop
-loop-holds c = summing-none (omega arith)
+loop-holds c = ran-none (omega arith)
 
 mul-from : tie.Need-mul-from Inv-loop μ-loop
 mul-from c = omega (arith, digits-within (c .before .before .args .n) (c .before .before .args .n) (c .before .before .args .j) (c .before .loop .k) (c .before .before .pre .1 .0) (c .loop-test .taken))
@@ -56,11 +57,11 @@ loop-less : tie.Need-loop-less Inv-loop μ-loop
 loop-less c = search needs
 
 loop-again : tie.Need-loop-again Inv-loop μ-loop
-unfolding crossed foundIn squareOf
-loop-again c = summing-more (c .before .before .before .before .loop .inv) (c .before .before .before .loop-test .taken) refl
+loop-again c = ran-more (c .before .before .before .before .loop .inv) (c .before .before .before .loop-test .taken) refl
 
 returns : tie.Need-returns Inv-loop μ-loop
-returns c = summing-all (c .before .loop .inv) (c .loop-test .left)
+unfolding crossSum
+returns c = ran-all (c .before .loop .inv) (c .loop-test .left)
 
 pub row-spec : {M : Type 1} → statement M
 row-spec =
