@@ -6,7 +6,6 @@ use Prim.Native.Nat.{ℕ, _≤_, _<_}
 use native.Mathlib.Decide.{decLe}
 use native.Mathlib.Omega.{arith}
 use lib.Dec.{lit<}
-use lib.ListN.{length}
 use lib.Ieee.{Float, binary64, ofBits, eq}
 use Rattle.answer.specs.Number.{isDone}
 use Rattle.matrix.specs.Matrix.{Matrix}
@@ -14,14 +13,13 @@ use Rattle.matrix.specs.Grid.{load}
 use Rattle.matrix.specs.Layouts.{startOf, inLower, placeIn, lower}
 use Rattle.twins.specs.declared.Twin.the-variants.{Nothing, Pair}
 use Rattle.twins.specs.Twins.{symmetric, Twins}
-use Rattle.twins.specs.Sizes.{sizes}
-use Rattle.twins.specs.First.{rowsIn, none, pair, FirstTwinSince, FirstTwin}
+use Rattle.twins.specs.First.{rowsIn, sizeAnswer, none, pair, FirstTwinSince, FirstTwin}
 use Rattle.cases.specs.Calls.{floats}
 use Rattle.cases.specs.Twins.{upperTwins, cameTwice, cameOnce, factoredTwice, factoredOnce}
 
 -- ---- two rows, of which the first m came earlier
 
-module _ (m : ℕ) (slice : List ℕ) (fits : isDone (sizes 2 m 2 (length (floats slice))) ≡ true) where
+module _ (m : ℕ) (slice : List ℕ) (fits : isDone (sizeAnswer (floats slice) 2 m 2) ≡ true) where
   abbrev rows : Matrix
   rows = rowsIn 2 2 (floats slice)
 

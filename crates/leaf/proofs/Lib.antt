@@ -9,6 +9,7 @@ pub mod Rounded
 pub mod Patterns
 pub mod Fields
 pub mod Neighbours
+pub mod Fractions
 pub mod Between
 pub mod Nearest
 pub mod Once

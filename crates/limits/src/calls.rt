@@ -1,95 +1,82 @@
-// What each call answers on slices for order 1, and for up to 1,024 columns.
+// The calls, each on slices for order 1, and for up to 1,024 columns.
 use answer::Answer;
+use answer::Valued;
+use twins::Twin;
 
-// A sound record of order 1.
-const RECORD: [u32; 3] = [0, 1, 0];
+pub enum Call {
+    LbltFactor,
+    LbltSolve,
+    LbltDeterminant,
+    LbltD,
+    LbltLPermuted,
+    CholeskyFactor,
+    CholeskyExtend,
+    CholeskySolve,
+    CholeskyL,
+    CholeskyUnpack,
+    CholeskyDeterminant,
+    UduFactor,
+    FirstTwin,
+    FirstTwinSince,
+}
 
-fn code(answer: Answer) -> u64 {
+impl Call {
+    pub fn print_name(self) {
+        match self {
+            Call::LbltFactor => io::write_all(1, b"lblt_factor"),
+            Call::LbltSolve => io::write_all(1, b"lblt_solve"),
+            Call::LbltDeterminant => io::write_all(1, b"lblt_determinant"),
+            Call::LbltD => io::write_all(1, b"lblt_d"),
+            Call::LbltLPermuted => io::write_all(1, b"lblt_l_permuted"),
+            Call::CholeskyFactor => io::write_all(1, b"cholesky_factor"),
+            Call::CholeskyExtend => io::write_all(1, b"cholesky_extend"),
+            Call::CholeskySolve => io::write_all(1, b"cholesky_solve"),
+            Call::CholeskyL => io::write_all(1, b"cholesky_l"),
+            Call::CholeskyUnpack => io::write_all(1, b"cholesky_unpack"),
+            Call::CholeskyDeterminant => io::write_all(1, b"cholesky_determinant"),
+            Call::UduFactor => io::write_all(1, b"udu_factor"),
+            Call::FirstTwin => io::write_all(1, b"first_twin"),
+            Call::FirstTwinSince => io::write_all(1, b"first_twin_since"),
+        };
+    }
+
+    // The code that the call answers, by those of these sizes that it takes.
+    pub fn code(self, room: usize, earlier: usize, n: usize, columns: usize) -> u64 {
+        let mut a = [2.0];
+        let mut b = [1.0; 1024];
+        let mut u = [0.0];
+        let mut d = [0.0];
+        // A sound record of order 1.
+        let mut record = [0u32, 1, 0];
+        match self {
+            Call::LbltFactor => plain(lblt::factor(&mut a, &mut record, n)),
+            Call::LbltSolve => plain(lblt_solve::solve_mut(&a, &record, &mut b, n, columns)),
+            Call::LbltDeterminant => valued(lblt_read::determinant(&a, &record, n)),
+            Call::LbltD => plain(lblt_read::d(&a, &record, &mut u, n)),
+            Call::LbltLPermuted => plain(lblt_read::l_permuted(&a, &record, &mut u, n)),
+            Call::CholeskyFactor => plain(cholesky::factor(&mut a, room, n)),
+            Call::CholeskyExtend => plain(cholesky::extend(&mut a, room, earlier, n)),
+            Call::CholeskySolve => plain(cholesky::solve_mut(&a, &mut b, room, n, columns)),
+            Call::CholeskyL => plain(cholesky::l(&a, &mut u, room, n)),
+            Call::CholeskyUnpack => plain(cholesky::unpack(&mut a, room, n)),
+            Call::CholeskyDeterminant => valued(cholesky::determinant(&a, room, n)),
+            Call::UduFactor => plain(udu::factor(&a, &mut u, &mut d, n)),
+            Call::FirstTwin => told(twins::first_twin(&a, room, n)),
+            Call::FirstTwinSince => told(twins::first_twin_since(&a, room, earlier, n)),
+        }
+    }
+}
+
+fn plain(answer: Answer) -> u64 {
     answer.code() as u64
 }
 
-pub fn lblt_factor(n: usize) -> u64 {
-    let mut a = [2.0];
-    let mut record = RECORD;
-    code(lblt::factor(&mut a, &mut record, n))
-}
-
-pub fn lblt_solve(n: usize, columns: usize) -> u64 {
-    let a = [2.0];
-    let record = RECORD;
-    let mut b = [1.0; 1024];
-    code(lblt_solve::solve_mut(&a, &record, &mut b, n, columns))
-}
-
-pub fn lblt_determinant(n: usize) -> u64 {
-    let a = [2.0];
-    let record = RECORD;
-    let answer = lblt_solve::determinant(&a, &record, n).answer;
-    code(answer)
-}
-
-pub fn lblt_d(n: usize) -> u64 {
-    let a = [2.0];
-    let record = RECORD;
-    let mut d = [0.0];
-    code(lblt_solve::d(&a, &record, &mut d, n))
-}
-
-pub fn lblt_l_permuted(n: usize) -> u64 {
-    let a = [2.0];
-    let record = RECORD;
-    let mut l = [0.0];
-    code(lblt_solve::l_permuted(&a, &record, &mut l, n))
-}
-
-pub fn cholesky_factor(room: usize, n: usize) -> u64 {
-    let mut a = [2.0];
-    code(cholesky::factor(&mut a, room, n))
-}
-
-pub fn cholesky_extend(room: usize, earlier: usize, n: usize) -> u64 {
-    let mut a = [2.0];
-    code(cholesky::extend(&mut a, room, earlier, n))
-}
-
-pub fn cholesky_solve(room: usize, n: usize, columns: usize) -> u64 {
-    let a = [2.0];
-    let mut b = [1.0; 1024];
-    code(cholesky::solve_mut(&a, &mut b, room, n, columns))
-}
-
-pub fn cholesky_l(room: usize, n: usize) -> u64 {
-    let a = [2.0];
-    let mut l = [0.0];
-    code(cholesky::l(&a, &mut l, room, n))
-}
-
-pub fn cholesky_unpack(room: usize, n: usize) -> u64 {
-    let mut a = [2.0];
-    code(cholesky::unpack(&mut a, room, n))
-}
-
-pub fn cholesky_determinant(room: usize, n: usize) -> u64 {
-    let a = [2.0];
-    let answer = cholesky::determinant(&a, room, n).answer;
-    code(answer)
-}
-
-pub fn udu_factor(n: usize) -> u64 {
-    let p = [2.0];
-    let mut u = [0.0];
-    let mut d = [0.0];
-    code(udu::factor(&p, &mut u, &mut d, n))
+fn valued(v: Valued) -> u64 {
+    let answer = v.answer;
+    plain(answer)
 }
 
 // The code of a refusal.
-pub fn first_twin(room: usize, n: usize) -> u64 {
-    let a = [2.0];
-    twins::first_twin(&a, room, n).number() / 4096
-}
-
-// The code of a refusal.
-pub fn first_twin_since(room: usize, earlier: usize, n: usize) -> u64 {
-    let a = [2.0];
-    twins::first_twin_since(&a, room, earlier, n).number() / 4096
+fn told(twin: Twin) -> u64 {
+    twin.number() / 4096
 }

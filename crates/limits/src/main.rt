@@ -2,148 +2,87 @@
 // refusal, code 3, since no matrix of such a length is lent here; oracle/longrun has whole runs at order 1,024.
 mod calls;
 
+use calls::Call;
+
 fn main() {
     lblt();
     cholesky();
-    line(
-        b"udu_factor, order",
-        calls::udu_factor(1024),
-        calls::udu_factor(1025),
-    );
+    order(Call::UduFactor);
     twins();
 }
 
 fn lblt() {
-    line(
-        b"lblt_factor, order",
-        calls::lblt_factor(1024),
-        calls::lblt_factor(1025),
-    );
-    line(
-        b"lblt_solve, order",
-        calls::lblt_solve(1024, 1),
-        calls::lblt_solve(1025, 1),
-    );
-    line(
-        b"lblt_solve, columns",
-        calls::lblt_solve(1, 1024),
-        calls::lblt_solve(1, 1025),
-    );
-    line(
-        b"lblt_determinant, order",
-        calls::lblt_determinant(1024),
-        calls::lblt_determinant(1025),
-    );
-    line(b"lblt_d, order", calls::lblt_d(1024), calls::lblt_d(1025));
-    line(
-        b"lblt_l_permuted, order",
-        calls::lblt_l_permuted(1024),
-        calls::lblt_l_permuted(1025),
-    );
+    order(Call::LbltFactor);
+    order(Call::LbltSolve);
+    columns(Call::LbltSolve);
+    order(Call::LbltDeterminant);
+    order(Call::LbltD);
+    order(Call::LbltLPermuted);
 }
 
 fn cholesky() {
-    line(
-        b"cholesky_factor, room",
-        calls::cholesky_factor(1024, 0),
-        calls::cholesky_factor(1025, 0),
-    );
-    line(
-        b"cholesky_factor, order",
-        calls::cholesky_factor(1024, 1024),
-        calls::cholesky_factor(1024, 1025),
-    );
-    line(
-        b"cholesky_extend, room",
-        calls::cholesky_extend(1024, 0, 0),
-        calls::cholesky_extend(1025, 0, 0),
-    );
-    line(
-        b"cholesky_extend, order",
-        calls::cholesky_extend(1024, 0, 1024),
-        calls::cholesky_extend(1024, 0, 1025),
-    );
-    line(
-        b"cholesky_extend, earlier order",
-        calls::cholesky_extend(1024, 1024, 1024),
-        calls::cholesky_extend(1024, 1025, 1024),
-    );
-    line(
-        b"cholesky_solve, room",
-        calls::cholesky_solve(1024, 0, 1),
-        calls::cholesky_solve(1025, 0, 1),
-    );
-    line(
-        b"cholesky_solve, order",
-        calls::cholesky_solve(1024, 1024, 1),
-        calls::cholesky_solve(1024, 1025, 1),
-    );
-    line(
-        b"cholesky_solve, columns",
-        calls::cholesky_solve(1, 1, 1024),
-        calls::cholesky_solve(1, 1, 1025),
-    );
-    line(
-        b"cholesky_l, room",
-        calls::cholesky_l(1024, 0),
-        calls::cholesky_l(1025, 0),
-    );
-    line(
-        b"cholesky_l, order",
-        calls::cholesky_l(1024, 1024),
-        calls::cholesky_l(1024, 1025),
-    );
-    line(
-        b"cholesky_unpack, room",
-        calls::cholesky_unpack(1024, 0),
-        calls::cholesky_unpack(1025, 0),
-    );
-    line(
-        b"cholesky_unpack, order",
-        calls::cholesky_unpack(1024, 1024),
-        calls::cholesky_unpack(1024, 1025),
-    );
-    line(
-        b"cholesky_determinant, room",
-        calls::cholesky_determinant(1024, 0),
-        calls::cholesky_determinant(1025, 0),
-    );
-    line(
-        b"cholesky_determinant, order",
-        calls::cholesky_determinant(1024, 1024),
-        calls::cholesky_determinant(1024, 1025),
-    );
+    room(Call::CholeskyFactor);
+    order(Call::CholeskyFactor);
+    room(Call::CholeskyExtend);
+    order(Call::CholeskyExtend);
+    earlier_order(Call::CholeskyExtend);
+    room(Call::CholeskySolve);
+    order(Call::CholeskySolve);
+    columns(Call::CholeskySolve);
+    room(Call::CholeskyL);
+    order(Call::CholeskyL);
+    room(Call::CholeskyUnpack);
+    order(Call::CholeskyUnpack);
+    room(Call::CholeskyDeterminant);
+    order(Call::CholeskyDeterminant);
 }
 
 fn twins() {
+    room(Call::FirstTwin);
+    order(Call::FirstTwin);
+    room(Call::FirstTwinSince);
+    order(Call::FirstTwinSince);
+    earlier_order(Call::FirstTwinSince);
+}
+
+fn room(call: Call) {
     line(
-        b"first_twin, room",
-        calls::first_twin(1024, 0),
-        calls::first_twin(1025, 0),
-    );
-    line(
-        b"first_twin, order",
-        calls::first_twin(1024, 1024),
-        calls::first_twin(1024, 1025),
-    );
-    line(
-        b"first_twin_since, room",
-        calls::first_twin_since(1024, 0, 0),
-        calls::first_twin_since(1025, 0, 0),
-    );
-    line(
-        b"first_twin_since, order",
-        calls::first_twin_since(1024, 0, 1024),
-        calls::first_twin_since(1024, 0, 1025),
-    );
-    line(
-        b"first_twin_since, earlier order",
-        calls::first_twin_since(1024, 1024, 1024),
-        calls::first_twin_since(1024, 1025, 1024),
+        call,
+        b", room",
+        call.code(1024, 0, 0, 1),
+        call.code(1025, 0, 0, 1),
     );
 }
 
-fn line(what: &[u8], accepted: u64, refused: u64) {
+fn order(call: Call) {
+    line(
+        call,
+        b", order",
+        call.code(1024, 0, 1024, 1),
+        call.code(1024, 0, 1025, 1),
+    );
+}
+
+fn earlier_order(call: Call) {
+    line(
+        call,
+        b", earlier order",
+        call.code(1024, 1024, 1024, 1),
+        call.code(1024, 1025, 1024, 1),
+    );
+}
+
+fn columns(call: Call) {
+    line(
+        call,
+        b", columns",
+        call.code(1, 0, 1, 1024),
+        call.code(1, 0, 1, 1025),
+    );
+}
+
+fn line(call: Call, what: &[u8], accepted: u64, refused: u64) {
+    call.print_name();
     io::write_all(1, what);
     io::write_all(1, b": 1024 gives ");
     io::print_decimal(1, accepted);

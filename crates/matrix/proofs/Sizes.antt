@@ -2,7 +2,7 @@
 use mathlib.Core.Path.{_≡_, refl, sym, _∙_, ap}
 use mathlib.Core.Bool.{true}
 use mathlib.Core.List.{List, _++_}
-use Prim.Native.Nat.{ℕ, _≤_}
+use Prim.Native.Nat.{ℕ, _*_, _≤_}
 use native.Mathlib.Omega.{arith}
 use lib.ListN.{length}
 use lib.Ieee.{Float}
@@ -80,3 +80,7 @@ laid-after laid step = record { roomy = laid .roomy; sound = step .sound }
 
 pub full-roomy : (n : ℕ) → n ≤ 1024 → Roomy (full n)
 full-roomy n small = record { ordered = omega arith; small = small }
+
+pub full-fits : (n len : ℕ) → n ≤ 1024 → len ≡ n * n → Fits (full n) 0 len
+unfolding sizeOf
+full-fits n len small long = record { roomy = full-roomy n small; rising = omega arith; long = long }

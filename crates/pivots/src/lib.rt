@@ -12,6 +12,9 @@ fn wide(word: u32) -> usize
     word as usize
 }
 
+// The words of a record of order 64, for a lent array.
+pub const WORDS_OF_64: usize = 2 * 64 + 1;
+
 // The words of a record of order n.
 pub fn words(n: usize) -> usize
     requires { ⌜ n ≤ 1024 ⌝ }

@@ -57,7 +57,7 @@ pub fn call(
         1..=5 => of_lblt(which, n, x, part(a, s.a), part(b, s.b), part_words(r, s.r)),
         6..=10 | 14 => of_cholesky(which, n, x, y, part(a, s.a), part(b, s.b)),
         11 => of_udu(n, part(a, s.a), part(b, s.b), part(c, s.c)),
-        12 | 13 => of_twins(which, n, x, y, part(a, s.a)),
+        12..=13 => of_twins(which, n, x, y, part(a, s.a)),
         _ => no_call(),
     }
 }
@@ -73,9 +73,9 @@ fn of_lblt(
     match which {
         1 => plain(lblt::factor(a, r, n)),
         2 => plain(lblt_solve::solve_mut(a, r, b, n, columns)),
-        3 => valued(lblt_solve::determinant(a, r, n)),
-        4 => plain(lblt_solve::d(a, r, b, n)),
-        _ => plain(lblt_solve::l_permuted(a, r, b, n)),
+        3 => valued(lblt_read::determinant(a, r, n)),
+        4 => plain(lblt_read::d(a, r, b, n)),
+        _ => plain(lblt_read::l_permuted(a, r, b, n)),
     }
 }
 

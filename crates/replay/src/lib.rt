@@ -19,7 +19,7 @@ pub fn run() {
     let mut a = [0.0; 4096];
     let mut b = [0.0; 4096];
     let mut c = [0.0; 64];
-    let mut r = [0u32; 129];
+    let mut r = [0u32; pivots::WORDS_OF_64];
     report::summary(blocks(&mut block, &mut a, &mut b, &mut c, &mut r));
 }
 

@@ -137,22 +137,20 @@ fn run(
     r: &mut [u32],
 ) -> State {
     match op {
-        SET | FILL | RANDOM => load(s, op, which, count, list, a, b, c, r),
+        SET..=RANDOM => load(s, op, which, count, list, a, b, c, r),
         CALL => called(s, which, list, a, b, c, r),
         SWEEP => sweep(s, which, at_most(count, 64), list, a, b, c, r),
         REPEAT => repeat(s, count, list, a),
         PLACES => places(s, count, list, a),
-        SHIFT => {
-            shift(
-                a,
-                count,
-                size(word(list, 0)),
-                leaf::from_bits(word(list, 1)),
-            );
-            s
-        }
+        SHIFT => shifted(s, count, list, a),
         _ => looked(s, op, which, count, list, a, b, c, r),
     }
+}
+
+fn shifted(s: State, count: usize, list: &[u8], a: &mut [f64]) -> State {
+    let by = leaf::from_bits(word(list, 1));
+    shift(a, count, size(word(list, 0)), by);
+    s
 }
 
 // The instructions that change no register.

@@ -11,6 +11,7 @@ use Rattle.answer.specs.declared.Answer.{Answer}
 use Rattle.answer.specs.Number.{codeOf}
 use Rattle.matrix.specs.Grid.{load}
 use Rattle.matrix.specs.Layouts.{full, lower}
+use Rattle.pivots.specs.Words.{wordsOf}
 use Rattle.twins.specs.declared.Twin.{Twin}
 use Rattle.twins.specs.declared.Twin.the-variants.{Nothing, Pair, Refused}
 use Rattle.twins.specs.First.{FirstTwin}
@@ -24,7 +25,7 @@ use Rattle.sheet_page.proofs.PutLaws.{put-ends}
 use Rattle.sheet.specs.declared.Responded.{Responded}
 use Rattle.sheet.specs.Respond.{pageFrom, emptyRoom, emptyWords, numbersOf, factorPage, factors, refuses, Responds}
 use Rattle.sheet.specs.Warn.{Warning, names-twins, no-twins, no-sheet, Warns}
-use Rattle.sheet.specs.Parts.{Square, Writes, Empty}
+use Rattle.sheet.specs.inner.Parts.{Square, Writes, Empty}
 use Rattle.sheet.proofs.Twins.{OfRows, of-rows}
 
 pub square-small : (n : ℕ) → n ≤ 64 → n * n ≤ 4096
@@ -33,8 +34,8 @@ square-small n h = mul-le-mul {n₁ = n} {m₁ = n} {n₂ = 64} {m₂ = 64} h h
 pub room-length : (a : List Float) (words : List ℕ) → Empty a words → length a ≡ 4096
 room-length a words e = ap length (e .room) ∙ length-replicate 4096 (ofBits binary64 0)
 
-pub words-length : (a : List Float) (words : List ℕ) → Empty a words → length words ≡ 129
-words-length a words e = ap length (e .record-words) ∙ length-replicate {A = ℕ} 129 0
+pub words-length : (a : List Float) (words : List ℕ) → Empty a words → length words ≡ wordsOf 64
+words-length a words e = ap length (e .record-words) ∙ length-replicate {A = ℕ} (wordsOf 64) 0
 
 -- a room with no record beside it
 pub lone-room : {a : List Float} → a ≡ emptyRoom → Empty a emptyWords
@@ -86,12 +87,12 @@ module _ {s : List ℕ} {a : List Float} {r : Sheet} {a′ : List Float} (read :
       go (wrong line n bits f e b c) = subst (λ (x : Sheet). x .order ≤ 64) (sym e) (omega arith)
 
   -- the first n·n numbers of the room, and the first words of the record
-  pub parts : (words : List ℕ) → Empty a words → length a′ ≡ length a → Square (r .order) (take (r .order * r .order) a′) (take (2 * r .order + 1) words)
-  parts words e kept =
+  pub parts : (words : List ℕ) {count : ℕ} → count ≡ wordsOf (r .order) → Empty a words → length a′ ≡ length a → Square (r .order) (take (r .order * r .order) a′) (take count words)
+  parts words {count} is e kept =
       let n = r .order in
       let cells : n * n ≤ length a′ = omega (arith, square-small (r .order) order-small, room-length a words e) in
-      let count : 2 * n + 1 ≤ length words = omega (arith, order-small, words-length a words e) in
-      record { small = order-small; long = length-take-le (n * n) a′ cells; sized = length-take-le (2 * n + 1) words count }
+      let room : count ≤ length words = omega (arith, is, order-small, words-length a words e) in
+      record { small = order-small; long = length-take-le (n * n) a′ cells; sized = length-take-le count words room ∙ is }
 
   pub refuses-it : {o : List ℕ} {k : ℕ} {o′ : List ℕ} → (codeOf (r .answer) ≡ 0 → ⊥) → Put o 0 (refusalOf (r .answer)) k o′ → Responds s o (responded (r .answer) k) o′
   refuses-it {o} {k} {o′} bad put = go read
@@ -107,13 +108,13 @@ module _ {s : List ℕ} {a : List Float} {r : Sheet} {a′ : List Float} (read :
             counted = sym (length-take-le k o′ (put-ends put));
           }
 
-  pub factors-it : (words : List ℕ) {o : List ℕ} {k : ℕ} {o′ : List ℕ} → Empty a words → codeOf (r .answer) ≡ 0
-      → Writes (r .order) (take (r .order * r .order) a′) (take (2 * r .order + 1) words) o k o′ → Responds s o (responded (r .answer) k) o′
+  pub factors-it : (words : List ℕ) {count : ℕ} {o : List ℕ} {k : ℕ} {o′ : List ℕ} → count ≡ wordsOf (r .order) → Empty a words → codeOf (r .answer) ≡ 0
+      → Writes (r .order) (take (r .order * r .order) a′) (take count words) o k o′ → Responds s o (responded (r .answer) k) o′
   unfolding factorPage numbersOf
-  factors-it words {o} {k} {o′} empty good put = go read
+  factors-it words {o = o} {k = k} {o′ = o′} is empty good put = go read
     where
       page : ℕ → List Float → List ℕ → List ℕ
-      page n b w = pageFrom n (load (lower (full n)) (take (n * n) b)) (take (2 * n + 1) w)
+      page n b w = pageFrom n (load (lower (full n)) (take (n * n) b)) (take (wordsOf n) w)
 
       go : Reads s a r a′ → Responds s o (responded (r .answer) k) o′
       go (right n bits h same e c) =
@@ -125,7 +126,7 @@ module _ {s : List ℕ} {a : List Float} {r : Sheet} {a′ : List Float} (read :
                 (ap (λ (x : Sheet). page (x .order) a′ words) e
                 ∙ ap (λ (b : List Float). page n b words) (c ∙ ap (stored n (places n) bits) (empty .room))
                 ∙ ap (page n (stored n (places n) bits emptyRoom)) (empty .record-words));
-            put = put;
+            put = subst (λ (c : ℕ). Writes (r .order) (take (r .order * r .order) a′) (take c words) o k o′) is put;
             ends = put-ends put;
             counted = sym (length-take-le k o′ (put-ends put));
           }

@@ -16,7 +16,7 @@ use Rattle.pivots.specs.Rule.{Accepted}
 use Rattle.pivots.proofs.Boundaries.{Upto, start, one, two, boundary-all, mark-row}
 use Rattle.lblt.specs.Factor.{finalState, recorded}
 use Rattle.lblt.proofs.Accepted.{accepted}
-use Rattle.lblt_solve.specs.Diagonal.{determinantOf}
+use Rattle.lblt_read.specs.Diagonal.{determinantOf}
 use Rattle.sheet_text.specs.Sheet.{sheetLines, join, sheetOf, IsSheet, Begins, FirstWrong}
 use Rattle.sheet_text.proofs.PlaceLaws.{lt-or-ge}
 use Rattle.sheet_text.proofs.NumberLaws.{eq-or-ne}
@@ -136,7 +136,7 @@ page-fits n M words small sized =
 words-sized : (n : ℕ) → n ≤ 64 → Sized n (take (wordsOf n) emptyWords)
 words-sized n small = record {
   order = omega arith;
-  total = length-take-le (wordsOf n) emptyWords (omega (arith, length-replicate {A = ℕ} 129 0));
+  total = length-take-le (wordsOf n) emptyWords (omega (arith, length-replicate {A = ℕ} (wordsOf 64) 0));
 }
 
 line-small : (s : List ℕ) (line : ℕ) → FirstWrong s line → line < 10000

@@ -2,9 +2,8 @@
 use mathlib.Core.Path.{_≡_, sym, ap, _∙_}
 use mathlib.Core.Bool.{Bool, true, cond}
 use mathlib.Core.List.{List}
-use Prim.Native.Nat.{ℕ, _*_, _≤_}
+use Prim.Native.Nat.{ℕ}
 use native.Mathlib.Omega.{arith}
-use borrow.Author.Tests.{le-ltb, eq-eqb}
 use lib.Ieee.{Float, binary64, toBits}
 use lib.ListN.{length}
 use Rattle.answer.specs.declared.Valued.{Valued}
@@ -13,22 +12,23 @@ use Rattle.answer.specs.Number.{isDone}
 use Rattle.answer.specs.Refusals.{tested}
 use Rattle.matrix.specs.Matrix.{Matrix}
 use Rattle.matrix.specs.Grid.{load}
-use Rattle.matrix.specs.Layouts.{full, startOf, sizeOf, lower}
+use Rattle.matrix.specs.Layouts.{full, startOf, lower}
 use Rattle.matrix.proofs.Places.{lower-at}
-use Rattle.matrix.proofs.Sizes.{full-roomy}
+use Rattle.matrix.proofs.Sizes.{fits-then, full-fits}
 use Rattle.matrix.specs.Rounded.{plusZero}
-use Rattle.pivots.specs.Words.{wordsOf, Sized}
+use Rattle.pivots.specs.Words.{Sized}
 use Rattle.pivots.specs.Rule.{checked}
 use Rattle.lblt.specs.Factor.{factorTests, finalState, recorded, Stored}
 use Rattle.lblt.proofs.Done.{all-right}
 use Rattle.lblt.proofs.Accepted.{accepted}
-use Rattle.lblt_solve.specs.Calls.{lowerOf, readerAnswer, Determined}
-use Rattle.lblt_solve.specs.Diagonal.{determinantOf}
+use Rattle.lblt_read.specs.Calls.{wordTests, readerTests, LbltDetermined}
+use Rattle.lblt_read.specs.Diagonal.{determinantOf}
+use Rattle.lblt_read.proofs.Admitted.{record-long}
 use Rattle.sheet_text.specs.Place.{places}
 use Rattle.sheet_text.proofs.EachPlace.{each-same, each-place}
 use Rattle.sheet_page.specs.Page.{matrixIn, bitsAt, bitsOf, pageLines, pageOf}
 use Rattle.sheet.specs.Respond.{pageFrom}
-use Rattle.sheet.specs.Parts.{Square}
+use Rattle.sheet.specs.inner.Parts.{Square}
 
 -- the factor's entries are those that stand in the slice
 bits-same : (n : ℕ) (a : List Float) (F : Matrix) → load (lower (full n)) a ≡ F → bitsOf n (matrixIn n a) ≡ bitsOf n F
@@ -44,10 +44,7 @@ page-same n words a F det e = rw (bits-same n a F e)
 
 module _ (n : ℕ) (a : List Float) (words : List ℕ) (q : Square n a words) where
   pub answer-done : isDone (tested (factorTests (full n) a words) Done) ≡ true
-  unfolding sizeOf
-  answer-done =
-      ap isDone
-      (all-right (full n) a words (record { roomy = full-roomy n (omega (arith, q .small)); rising = omega arith; long = q .long }) (q .sized))
+  answer-done = ap isDone (all-right (full n) a words (full-fits n (length a) (omega (arith, q .small)) (q .long)) (q .sized))
 
   words-sized : Sized n words
   words-sized = record { order = omega (arith, q .small); total = q .sized }
@@ -56,23 +53,22 @@ module _ (n : ℕ) (a : List Float) (words : List ℕ) (q : Square n a words) wh
     record-accepted : isDone (checked n words′) ≡ true
     record-accepted = ap (λ (w : List ℕ). isDone (checked n w)) (s .pivots) ∙ accepted n (load (lower (full n)) a) words words-sized .done
 
-    reader-done : isDone (readerAnswer n n a′ words′ a′) ≡ true
-    unfolding readerAnswer
+    reader-done : isDone (tested (readerTests (full n) a′ words′) Done) ≡ true
     reader-done =
-        let small = q .small in
-        let below : n ≤ 1024 = omega arith in
-        rw (le-ltb 1024 n below, eq-eqb (length a′) (n * n) (long ∙ q .long), eq-eqb (length words′) (wordsOf n) (sized ∙ q .sized)) record-accepted
+        ap isDone
+        (fits-then (full n) 0 (length a′) (full-fits n (length a′) (omega (arith, q .small)) (long ∙ q .long)) (wordTests n words′) Done
+        ∙ sym (record-long n words′ (sized ∙ q .sized)))
+        ∙ record-accepted
 
-    determinant-is : (v : Valued) → Determined n a′ words′ v → v .value ≡ determinantOf n (finalState n (load (lower (full n)) a) words .matrix) (recorded n (load (lower (full n)) a) words)
-    unfolding lowerOf
+    determinant-is : (v : Valued) → LbltDetermined (full n) a′ words′ v → v .value ≡ determinantOf n (finalState n (load (lower (full n)) a) words .matrix) (recorded n (load (lower (full n)) a) words)
     determinant-is v d =
         d .value
-        ∙ ap (λ (done : Bool). cond done (determinantOf n (lowerOf n a′) words′) plusZero) (ap isDone (d .answer) ∙ reader-done)
+        ∙ ap (λ (done : Bool). cond done (determinantOf n (load (lower (full n)) a′) words′) plusZero) (ap isDone (d .answer) ∙ reader-done)
         ∙ ap (λ (M : Matrix). determinantOf n M words′) (s .matrix .cells)
         ∙ ap (determinantOf n (finalState n (load (lower (full n)) a) words .matrix)) (s .pivots)
 
     -- the page that is written is that of the matrix that was given
-    pub page-is : (v : Valued) → Determined n a′ words′ v → pageOf n words′ (matrixIn n a′) (v .value) ≡ pageFrom n (load (lower (full n)) a) words
+    pub page-is : (v : Valued) → LbltDetermined (full n) a′ words′ v → pageOf n words′ (matrixIn n a′) (v .value) ≡ pageFrom n (load (lower (full n)) a) words
     unfolding pageFrom
     page-is v d =
         page-same n words′ a′ (finalState n (load (lower (full n)) a) words .matrix) (v .value) (s .matrix .cells)

@@ -8,7 +8,7 @@ use Rattle.twins.specs.declared.Twin.{Twin}
 use Rattle.twins.specs.First.{FirstTwin}
 use Rattle.twins.proofs.Unique.{first-twin-unique}
 use Rattle.twins.proofs.Exists.{some-first-twin-since}
-use Rattle.sheet_text.specs.Read.{readOf}
+use Rattle.sheet_text.specs.inner.Read.{readOf}
 use Rattle.sheet_text.specs.Sheet.{sheetOf, IsSheet, Reads, right, wrong}
 use Rattle.sheet_text.proofs.SheetSound.{sound}
 use Rattle.sheet_text.proofs.SheetOnce.{one-line}

@@ -1,3 +1,3 @@
 pub mod Respond
 pub mod Warn
-pub mod Parts
+pub mod inner

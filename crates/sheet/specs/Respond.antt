@@ -11,7 +11,7 @@ use Rattle.matrix.specs.Grid.{load}
 use Rattle.matrix.specs.Layouts.{full, lower}
 use Rattle.pivots.specs.Words.{wordsOf}
 use Rattle.lblt.specs.Factor.{finalState, recorded}
-use Rattle.lblt_solve.specs.Diagonal.{determinantOf}
+use Rattle.lblt_read.specs.Diagonal.{determinantOf}
 use Rattle.sheet_text.specs.Place.{places}
 use Rattle.sheet_text.specs.Sheet.{sheetOf, IsSheet, FirstWrong, stored}
 use Rattle.sheet_page.specs.Page.{pageOf, refusalOf}
@@ -28,7 +28,7 @@ abbrev pub emptyRoom : List Float
 emptyRoom = replicate 4096 (ofBits binary64 0)
 
 abbrev pub emptyWords : List ℕ
-emptyWords = replicate 129 0
+emptyWords = replicate (wordsOf 64) 0
 
 -- the n·n numbers of a sheet: its entries, and zero above the diagonal
 unfoldable pub numbersOf : ℕ → List ℕ → List Float

@@ -8,7 +8,7 @@ use twins::Twin;
 ghost use mathlib.Core.Path.{_≡_};
 ghost use Rattle.sheet.specs.Respond.{Responds, emptyRoom};
 ghost use Rattle.sheet.specs.Warn.{Warns};
-ghost use Rattle.sheet.specs.Parts.{Square, Writes, Empty};
+ghost use Rattle.sheet.specs.inner.Parts.{Square, Writes, Empty};
 
 // Factors the n·n numbers and writes the page.
 fn factor_and_write(a: &mut [f64], words: &mut [u32], n: usize, out: &mut [u8]) -> usize
@@ -16,7 +16,7 @@ fn factor_and_write(a: &mut [f64], words: &mut [u32], n: usize, out: &mut [u8]) 
     ensures { λ r. ⌜ Writes n (now (a .entry)) (now (words .entry)) (now (out .entry)) r (now (out .exit)) ⌝ }
 {
     lblt::factor(a, words, n);
-    let determinant = lblt_solve::determinant(a, words, n);
+    let determinant = lblt_read::determinant(a, words, n);
     put_page(out, n, words, a, determinant.value)
 }
 
@@ -41,7 +41,7 @@ fn read_and_answer(s: &[u8], a: &mut [f64], words: &mut [u32], out: &mut [u8]) -
         };
     }
     let cells = n * n;
-    let count = 2 * n + 1;
+    let count = pivots::words(n);
     Responded {
         answer: verdict,
         end: factor_and_write(&mut a[..cells], &mut words[..count], n, out),
@@ -53,7 +53,7 @@ pub fn respond(s: &[u8], out: &mut [u8]) -> Responded
     ensures { λ r. ⌜ Responds (now (s .entry)) (now (out .entry)) r (now (out .exit)) ⌝ }
 {
     let mut room = [0.0; 4096];
-    let mut words = [0u32; 129];
+    let mut words = [0u32; pivots::WORDS_OF_64];
     read_and_answer(s, &mut room, &mut words, out)
 }
 

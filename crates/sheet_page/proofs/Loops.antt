@@ -9,12 +9,13 @@ use lib.ListN.{length}
 use Rattle.pivots.specs.Words.{indexAt, sizeAt}
 use Rattle.sheet_text.specs.declared.place.Place.{Place}
 use Rattle.sheet_text.specs.Text.{entryLine}
-use Rattle.sheet_text.specs.Place.{places, nextPlace, cell}
+use Rattle.sheet_text.specs.Place.{places, cell}
+use Rattle.sheet_text.specs.inner.Next.{nextPlace}
 use Rattle.sheet_text.specs.Sheet.{entryLines, join}
 use Rattle.sheet_text.proofs.PlaceLaws.{at as place, Inside, restFrom, rest-all, rest-none, rest-more, next-inside}
 use Rattle.sheet_page.specs.Put.{Put}
 use Rattle.sheet_page.specs.Page.{pivotLine, pivotLines, matrixIn, bitsAt, bitsOf}
-use Rattle.sheet_page.specs.Asked.{EntriesPut}
+use Rattle.sheet_page.specs.inner.Parts.{EntriesPut}
 use Rattle.sheet_page.proofs.ToGo.{ToGo, to-go-all, to-go-more, to-go-none}
 
 -- ---- pivot lines

@@ -10,8 +10,8 @@ use lib.ListN.{length, getD}
 use Rattle.sheet_text.specs.declared.place.Place.{Place}
 use Rattle.sheet_text.specs.declared.reader.Sheet.{Sheet}
 use Rattle.sheet_text.specs.Place.{places}
-use Rattle.sheet_text.specs.Read.{rightAt, Outcome, outcome}
-use Rattle.sheet_text.specs.Sheet.{sheetOf, IsSheet, stored, Reads}
+use Rattle.sheet_text.specs.Sheet.{rightAt, sheetOf, IsSheet, stored, Reads}
+use Rattle.sheet_text.specs.inner.Read.{Outcome, outcome}
 use Rattle.sheet_text.proofs.Stored.{stored-entry}
 use Rattle.sheet_text.proofs.SheetOnce.{reads-once}
 use Rattle.sheet_text.proofs.SheetLaws.{complete}

@@ -1,29 +1,11 @@
--- What the writers of the page ask, and what the writer of the entries promises.
-use mathlib.Core.Path.{_≡_}
+-- What the writer of the page asks.
 use mathlib.Core.List.{List}
-use Prim.Native.Nat.{ℕ, _+_, _*_, _≤_}
+use Prim.Native.Nat.{ℕ, _*_, _≤_}
 use lib.Ieee.{Float}
 use lib.ListN.{length}
-use Rattle.sheet_text.specs.Place.{places}
-use Rattle.sheet_text.specs.Sheet.{entryLines, join}
-use Rattle.sheet_page.specs.declared.page.Written.{Written}
-use Rattle.sheet_page.specs.Put.{Put}
-use Rattle.sheet_page.specs.Page.{matrixIn, bitsOf}
-
-pub record PutPivots (o : List ℕ) (at : ℕ) (words : List ℕ) (n : ℕ) : Type 0 where
-  pub room : at ≤ length o
-  pub whole : 2 * n + 1 ≤ length words
-
-pub record PutEntries (o : List ℕ) (at n : ℕ) (a : List Float) : Type 0 where
-  pub room : at ≤ length o
-  pub small : n ≤ 64
-  pub whole : n * n ≤ length a
-
-pub record EntriesPut (o : List ℕ) (at n : ℕ) (a : List Float) (r : Written) (o′ : List ℕ) : Type 0 where
-  pub put : Put o at (join (entryLines (places n) (bitsOf n (matrixIn n a)))) (r .next) o′
-  pub count : r .count ≡ length (places n)
+use Rattle.pivots.specs.Words.{wordsOf}
 
 pub record PutPage (n : ℕ) (words : List ℕ) (a : List Float) : Type 0 where
   pub small : n ≤ 64
-  pub words-whole : 2 * n + 1 ≤ length words
+  pub words-whole : wordsOf n ≤ length words
   pub cells-whole : n * n ≤ length a

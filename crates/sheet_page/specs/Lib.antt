@@ -1,3 +1,4 @@
 pub mod Put
 pub mod Page
 pub mod Asked
+pub mod inner

@@ -1,7 +1,7 @@
 -- What a writer does: the text stands in the slice from a place on, as far as the slice has room; all else is kept.
 use mathlib.Core.Path.{_≡_}
 use mathlib.Core.List.{List, _++_}
-use Prim.Native.Nat.{ℕ, _+_, _<_, _≤_, min}
+use Prim.Native.Nat.{ℕ, _+_, min}
 use lib.ListN.{length, take, drop}
 
 -- o before, o′ after, r the place where the text ends
@@ -10,8 +10,3 @@ pub record Put (o : List ℕ) (at : ℕ) (text : List ℕ) (r : ℕ) (o′ : Lis
   pub ends : r ≡ min (at + length text) (length o)
   pub stands : take r o′ ≡ take (length o) (take at o ++ text)
   pub kept : drop r o′ ≡ drop r o
-
--- what the writer of one digit asks
-pub record PutDigit (o : List ℕ) (at d : ℕ) : Type 0 where
-  pub room : at ≤ length o
-  pub small : d < 16

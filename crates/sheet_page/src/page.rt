@@ -6,13 +6,14 @@ use crate::put::put_pair_line;
 use crate::put::put_word;
 use answer::Answer;
 use sheet_text::Place;
-ghost use Prim.Native.Nat.{_*_, _<_, _≤_};
+ghost use Prim.Native.Nat.{_≤_};
 ghost use lib.ListN.{length};
 ghost use lib.Ieee.{binary64, toBits};
 ghost use Rattle.sheet_text.specs.Text.{entryLine};
 ghost use Rattle.sheet_text.specs.Sheet.{join};
 ghost use Rattle.sheet_page.specs.Put.{Put};
-ghost use Rattle.sheet_page.specs.Asked.{PutPivots, PutEntries, EntriesPut, PutPage};
+ghost use Rattle.sheet_page.specs.Asked.{PutPage};
+ghost use Rattle.sheet_page.specs.inner.Parts.{PutPivots, PutEntries, EntriesPut};
 ghost use Rattle.sheet_page.specs.Page.{pivotLine, pivotLines, zeroLine, detLine, matrixIn, pageOf, refusalOf, twinLine};
 
 fn put_pivot(out: &mut [u8], at: usize, row: usize, index: usize, size: usize) -> usize

@@ -4,7 +4,8 @@ ghost use Prim.Native.Nat.{_<_, _≤_};
 ghost use mathlib.Core.Path.{_≡_};
 ghost use lib.ListN.{length};
 ghost use Rattle.sheet_text.specs.Text.{tab, lf, digit, decimal, hex, field, bitsField, numberLine};
-ghost use Rattle.sheet_page.specs.Put.{Put, PutDigit};
+ghost use Rattle.sheet_page.specs.Put.{Put};
+ghost use Rattle.sheet_page.specs.inner.Parts.{PutDigit};
 
 pub fn put_byte(out: &mut [u8], at: usize, b: u8) -> usize
     requires { ⌜ at ≤ length (now out) ⌝ }

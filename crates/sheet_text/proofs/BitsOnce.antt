@@ -6,9 +6,9 @@ use native.Mathlib.Omega.{arith}
 use lib.ListN.{length}
 use Rattle.sheet_text.specs.declared.place.Place.{Place}
 use Rattle.sheet_text.specs.Text.{bytes, numberLine, entryLine}
-use Rattle.sheet_text.specs.Parse.{found, numberAfter}
+use Rattle.sheet_text.specs.inner.Parse.{found, numberAfter}
 use Rattle.sheet_text.specs.Place.{places}
-use Rattle.sheet_text.specs.Read.{entryAt}
+use Rattle.sheet_text.specs.inner.Read.{entryAt}
 use Rattle.sheet_text.specs.Sheet.{entryLines, join, sheetOf, IsSheet}
 use Rattle.sheet_text.proofs.LineLaws.{line-found, place-found}
 use Rattle.sheet_text.proofs.EntriesLaws.{Wide, wide-tail, Short, short-places}

@@ -6,7 +6,7 @@ use Prim.Native.Nat.{ℕ, _-_, _<_, _≤_}
 use native.Mathlib.Omega.{arith}
 use borrow.Author.Tests.{lt-ltb, le-ltb, le-leb, lt-leb}
 use Rattle.sheet_text.specs.Text.{digit}
-use Rattle.sheet_text.specs.Digit.{digitOf}
+use Rattle.sheet_text.specs.inner.Digit.{digitOf}
 use Rattle.sheet_text.proofs.Table.{table-entry}
 use Rattle.sheet_text.proofs.PlaceLaws.{lt-or-ge}
 

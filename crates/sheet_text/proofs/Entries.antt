@@ -7,9 +7,10 @@ use native.Mathlib.Omega.{arith}
 use lib.Ieee.{Float, binary64, ofBits}
 use lib.ListN.{length, drop, set, length-set}
 use Rattle.sheet_text.specs.declared.place.Place.{Place}
-use Rattle.sheet_text.specs.Parse.{found, missing}
-use Rattle.sheet_text.specs.Place.{places, nextPlace, cell}
-use Rattle.sheet_text.specs.Read.{entryAt, taken, takeEntries}
+use Rattle.sheet_text.specs.inner.Parse.{found, missing}
+use Rattle.sheet_text.specs.Place.{places, cell}
+use Rattle.sheet_text.specs.inner.Next.{nextPlace}
+use Rattle.sheet_text.specs.inner.Read.{entryAt, taken, takeEntries}
 use Rattle.sheet_text.proofs.EntrySteps.{entries-stop, entries-more}
 use Rattle.sheet_text.proofs.PlaceLaws.{at as place, Inside, restFrom, rest-all, rest-none, rest-more, rest-falls, next-inside, length-places}
 

@@ -9,9 +9,9 @@ use lib.Ieee.{Float, binary64, ofBits}
 use lib.ListN.{length, getD, take, drop, set}
 use Rattle.sheet_text.specs.declared.place.Place.{Place}
 use Rattle.sheet_text.specs.Text.{entryLine}
-use Rattle.sheet_text.specs.Parse.{Parse, found, missing}
+use Rattle.sheet_text.specs.inner.Parse.{Parse, found, missing}
 use Rattle.sheet_text.specs.Place.{places, cell}
-use Rattle.sheet_text.specs.Read.{entryAt, Taken, taken, takeEntries}
+use Rattle.sheet_text.specs.inner.Read.{entryAt, Taken, taken, takeEntries}
 use Rattle.sheet_text.specs.Sheet.{entryLines, join, stored}
 use Rattle.sheet_text.proofs.Steps.{false-is-not-true}
 use Rattle.sheet_text.proofs.EntrySteps.{entries-stop, entries-more}

@@ -9,10 +9,10 @@ use lib.ListN.{drop, set}
 use lib.Seq.{drop-drop}
 use Rattle.sheet_text.specs.Text.{bytes, tab}
 use Rattle.sheet_text.specs.declared.line.Entry.{Entry}
-use Rattle.sheet_text.specs.Parse.{found, missing, startsWith, number, bits, afterColumn, afterRow, entry}
+use Rattle.sheet_text.specs.inner.Parse.{found, missing, startsWith, number, bits, afterColumn, afterRow, entry}
 use Rattle.sheet_text.specs.declared.place.Place.{Place}
 use Rattle.sheet_text.specs.Place.{cell}
-use Rattle.sheet_text.specs.Read.{entryAt, taken, takeEntries}
+use Rattle.sheet_text.specs.inner.Read.{entryAt, taken, takeEntries}
 
 pub column-bits : (row column b : ℕ) (t rest : List ℕ) → bits t ≡ found b rest → afterColumn row column t ≡ found (record { row = row; column = column; bits = b }) rest
 unfolding afterColumn

@@ -6,8 +6,8 @@ use Prim.Native.Nat.{ℕ, zero, suc, _+_, _*_, _/_, _%_, _^_, _<_, _≤_}
 use native.Mathlib.Nat.{pow-suc, pow-zero, add-zero, zero-add, add-suc, suc-add}
 use native.Mathlib.Omega.{arith}
 use Rattle.sheet_text.specs.Text.{lf, digit, hex, bitsField}
-use Rattle.sheet_text.specs.Digit.{digitOf}
-use Rattle.sheet_text.specs.Parse.{found, lineEnd, hexDigits, bits}
+use Rattle.sheet_text.specs.inner.Digit.{digitOf}
+use Rattle.sheet_text.specs.inner.Parse.{found, lineEnd, hexDigits, bits}
 use Rattle.sheet_text.proofs.Steps.{hex-byte, hex-other, line-ends, line-goes-on}
 use Rattle.sheet_text.proofs.PlaceLaws.{lt-or-ge}
 use Rattle.sheet_text.proofs.DigitLaws.{digit-value, digit-back}

@@ -10,11 +10,11 @@ use lib.Dec.{eqb}
 use lib.ListN.{length, drop}
 use lib.Seq.{drop-append-seam}
 use Rattle.sheet_text.specs.Text.{bytes, tab, lf, field, bitsField, numberLine, entryLine}
-use Rattle.sheet_text.specs.Digit.{digitOf}
+use Rattle.sheet_text.specs.inner.Digit.{digitOf}
 use Rattle.sheet_text.specs.declared.line.Entry.{Entry}
 use Rattle.sheet_text.specs.declared.place.Place.{Place}
-use Rattle.sheet_text.specs.Parse.{Parse, found, missing, startsWith, number, bits, numberAfter, afterColumn, afterRow, entry}
-use Rattle.sheet_text.specs.Read.{entryAt}
+use Rattle.sheet_text.specs.inner.Parse.{Parse, found, missing, startsWith, number, bits, numberAfter, afterColumn, afterRow, entry}
+use Rattle.sheet_text.specs.inner.Read.{entryAt}
 use Rattle.sheet_text.proofs.Steps.{and-left, and-right, false-is-not-true, after-word, no-word}
 use Rattle.sheet_text.proofs.EntrySteps.{column-bits, column-no-bits, row-column, row-no-column, entry-row, entry-no-row, entry-no-word, place-missing, other-row, other-column, in-place}
 use Rattle.sheet_text.proofs.NumberLaws.{eq-or-ne, Spelled, not-missing, number-found, number-sound}

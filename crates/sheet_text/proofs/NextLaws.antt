@@ -11,9 +11,9 @@ use Rattle.sheet_text.specs.declared.line.Entry.{Entry}
 use Rattle.sheet_text.specs.declared.line.EntryLine.the-variants as E
 use Rattle.sheet_text.specs.declared.place.Place.{Place}
 use Rattle.sheet_text.specs.Text.{field, bitsField, numberLine, entryLine}
-use Rattle.sheet_text.specs.Parse.{Parse, found, missing, number, bits, numberAfter, entry}
-use Rattle.sheet_text.specs.Line.{restAt, numberIn, bitsIn, entryIn}
-use Rattle.sheet_text.specs.Read.{entryAt}
+use Rattle.sheet_text.specs.inner.Parse.{Parse, found, missing, number, bits, numberAfter, entry}
+use Rattle.sheet_text.specs.inner.Line.{restAt, numberIn, bitsIn, entryIn}
+use Rattle.sheet_text.specs.inner.Read.{entryAt}
 use Rattle.sheet_text.proofs.NumberLaws.{number-sound}
 use Rattle.sheet_text.proofs.HexLaws.{bits-sound}
 use Rattle.sheet_text.proofs.LineLaws.{line-sound, entry-sound, place-sound}

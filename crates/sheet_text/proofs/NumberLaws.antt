@@ -9,8 +9,8 @@ use native.Mathlib.Omega.{arith}
 use borrow.Author.Tests.{lt-ltb, le-ltb, eqb-true, eqb-false}
 use lib.Dec.{eqb}
 use Rattle.sheet_text.specs.Text.{digit, decimalIn, decimal, field}
-use Rattle.sheet_text.specs.Digit.{digitOf}
-use Rattle.sheet_text.specs.Parse.{found, missing, digits, number}
+use Rattle.sheet_text.specs.inner.Digit.{digitOf}
+use Rattle.sheet_text.specs.inner.Parse.{found, missing, digits, number}
 use Rattle.sheet_text.proofs.Steps.{digits-stop, digits-zero, digits-long, digits-other, digits-more, number-other, number-first}
 use Rattle.sheet_text.proofs.PlaceLaws.{lt-or-ge}
 use Rattle.sheet_text.proofs.DigitLaws.{digit-value, digit-back}

@@ -12,7 +12,8 @@ use lib.Dec.{ltb}
 use lib.ListN.{length, length-append}
 use Rattle.matrix.proofs.Places.{digits-within}
 use Rattle.sheet_text.specs.declared.place.Place.{Place}
-use Rattle.sheet_text.specs.Place.{rows, columns, places, nextPlace, cell}
+use Rattle.sheet_text.specs.Place.{rows, columns, places, cell}
+use Rattle.sheet_text.specs.inner.Next.{nextPlace}
 
 abbrev pub at : ℕ → ℕ → Place
 at i j = record { row = i; column = j }

@@ -10,9 +10,10 @@ use lib.ListN.{length, drop, set, drop-of-length-le}
 use Rattle.sheet_text.specs.declared.place.Place.{Place}
 use Rattle.sheet_text.specs.declared.reader.Sheet.{Sheet}
 use Rattle.sheet_text.specs.Text.{bytes}
-use Rattle.sheet_text.specs.Parse.{Parse, found, missing, numberAfter}
+use Rattle.sheet_text.specs.inner.Parse.{Parse, found, missing, numberAfter}
 use Rattle.sheet_text.specs.Place.{places, cell}
-use Rattle.sheet_text.specs.Read.{entryAt, Taken, takeEntries, wrongAt, rightAt, closed, verdict, outcome, afterEntries, afterOrder, readOf}
+use Rattle.sheet_text.specs.inner.Read.{entryAt, Taken, takeEntries, closed, verdict, outcome, afterEntries, afterOrder, readOf}
+use Rattle.sheet_text.specs.Sheet.{wrongAt, rightAt}
 use Rattle.sheet_text.proofs.Steps.{cons-at}
 use Rattle.sheet_text.proofs.EntrySteps.{entries-stop, entries-more}
 use Rattle.sheet_text.proofs.PlaceLaws.{length-places}

@@ -13,8 +13,8 @@ use Rattle.sheet_text.specs.declared.place.Place.{Place}
 use Rattle.sheet_text.specs.declared.reader.Sheet.{Sheet}
 use Rattle.sheet_text.specs.Text.{bytes, numberLine, entryLine}
 use Rattle.sheet_text.specs.Place.{places}
-use Rattle.sheet_text.specs.Read.{taken, takeEntries, rightAt, atTheEnd, closed, verdict, outcome, afterEntries, readOf}
-use Rattle.sheet_text.specs.Sheet.{entryLines, sheetLines, join, sheetOf, IsSheet, stored}
+use Rattle.sheet_text.specs.inner.Read.{taken, takeEntries, atTheEnd, closed, verdict, outcome, afterEntries, readOf}
+use Rattle.sheet_text.specs.Sheet.{rightAt, entryLines, sheetLines, join, sheetOf, IsSheet, stored}
 use Rattle.sheet_text.proofs.PlaceLaws.{length-places}
 use Rattle.sheet_text.proofs.ReadSteps.{end-line, order-right, read-order}
 use Rattle.sheet_text.proofs.LineLaws.{line-found}

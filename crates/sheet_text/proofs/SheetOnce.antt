@@ -9,8 +9,8 @@ use lib.ListN.{take, drop, take-append-drop}
 use lib.Seq.{take-take}
 use Rattle.sheet_text.specs.declared.reader.Sheet.{Sheet}
 use Rattle.sheet_text.specs.Place.{places}
-use Rattle.sheet_text.specs.Read.{wrongAt, outcome, readOf}
-use Rattle.sheet_text.specs.Sheet.{sheetLines, join, Begins, FirstWrong, stored, Reads, right, wrong}
+use Rattle.sheet_text.specs.Sheet.{wrongAt, sheetLines, join, Begins, FirstWrong, stored, Reads, right, wrong}
+use Rattle.sheet_text.specs.inner.Read.{outcome, readOf}
 use Rattle.sheet_text.proofs.PlaceLaws.{lt-or-ge}
 use Rattle.sheet_text.proofs.SheetLaws.{join-both, complete}
 use Rattle.sheet_text.proofs.SheetSound.{after, sound}

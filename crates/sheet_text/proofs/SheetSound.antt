@@ -13,10 +13,10 @@ use Rattle.answer.specs.Number.{codeOf, placeOf}
 use Rattle.sheet_text.specs.declared.place.Place.{Place}
 use Rattle.sheet_text.specs.declared.reader.Sheet.{Sheet}
 use Rattle.sheet_text.specs.Text.{bytes, numberLine}
-use Rattle.sheet_text.specs.Parse.{Parse, found, missing, numberAfter}
+use Rattle.sheet_text.specs.inner.Parse.{Parse, found, missing, numberAfter}
 use Rattle.sheet_text.specs.Place.{rows, columns, places}
-use Rattle.sheet_text.specs.Read.{Taken, takeEntries, rightAt, wrongAt, atTheEnd, closed, verdict, Outcome, outcome, afterEntries, afterOrder, readOf}
-use Rattle.sheet_text.specs.Sheet.{entryLines, sheetLines, join, sheetOf, IsSheet, BeginsAs, stored, Reads, right, wrong}
+use Rattle.sheet_text.specs.inner.Read.{Taken, takeEntries, atTheEnd, closed, verdict, Outcome, outcome, afterEntries, afterOrder, readOf}
+use Rattle.sheet_text.specs.Sheet.{rightAt, wrongAt, entryLines, sheetLines, join, sheetOf, IsSheet, BeginsAs, stored, Reads, right, wrong}
 use Rattle.sheet_text.proofs.PlaceLaws.{lt-or-ge}
 use Rattle.sheet_text.proofs.ReadSteps.{other-count, end-line, no-end-line, not-whole, order-zero, order-large, order-right, read-order, read-no-order}
 use Rattle.sheet_text.proofs.NumberLaws.{eq-or-ne}

@@ -11,8 +11,8 @@ use borrow.Author.Tests.{lt-ltb, le-ltb, eq-eqb, ne-eqb}
 use lib.ListN.{length, getD, drop, length-drop, drop-of-length-le}
 use lib.Seq.{drop-cons, drop-drop}
 use Rattle.sheet_text.specs.Text.{lf}
-use Rattle.sheet_text.specs.Digit.{digitOf}
-use Rattle.sheet_text.specs.Parse.{found, missing, startsWith, digits, number, hexDigits, lineEnd, numberAfter}
+use Rattle.sheet_text.specs.inner.Digit.{digitOf}
+use Rattle.sheet_text.specs.inner.Parse.{found, missing, startsWith, digits, number, hexDigits, lineEnd, numberAfter}
 
 pub cons-at : (s : List ℕ) (i : ℕ) → i < length s → drop i s ≡ getD s i 0 ∷ drop (i + 1) s
 cons-at s i h = rw (add-one, drop-cons s i 0)

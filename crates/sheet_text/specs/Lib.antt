@@ -1,7 +1,4 @@
 pub mod Text
-pub mod Digit
-pub mod Parse
-pub mod Line
 pub mod Place
-pub mod Read
 pub mod Sheet
+pub mod inner

@@ -1,8 +1,6 @@
 -- The places of the lower triangle of order n, column by column.
 use Prim.Native.Nat.{ℕ, zero, suc, _+_, _*_}
-use mathlib.Core.Bool.{cond}
 use mathlib.Core.List.{List, [], _∷_, _++_}
-use lib.Dec.{ltb}
 use Rattle.sheet_text.specs.declared.place.Place.{Place}
 
 -- m places of column j, from row i down
@@ -17,12 +15,6 @@ columns (suc m) j = rows (suc m) j j ++ columns m (suc j)
 
 unfoldable pub places : ℕ → List Place
 places n = columns n 0
-
-abbrev pub nextPlace : ℕ → Place → Place
-nextPlace n p =
-    cond (ltb (p .row + 1) n)
-    (record { row = p .row + 1; column = p .column })
-    (record { row = p .column + 1; column = p .column + 1 })
 
 -- where an entry stands among n columns of n numbers
 abbrev pub cell : ℕ → Place → ℕ

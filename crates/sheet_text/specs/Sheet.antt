@@ -4,11 +4,11 @@ use mathlib.Core.List.{List, [], _∷_, _++_}
 use Prim.Native.Nat.{ℕ, _-_, _^_, _<_, _≤_}
 use lib.Ieee.{Float, binary64, ofBits}
 use lib.ListN.{length, getD, take, set}
+use Rattle.answer.specs.declared.Answer.the-variants.{Done, BadLine}
 use Rattle.sheet_text.specs.declared.place.Place.{Place}
 use Rattle.sheet_text.specs.declared.reader.Sheet.{Sheet}
 use Rattle.sheet_text.specs.Text.{bytes, numberLine, entryLine}
 use Rattle.sheet_text.specs.Place.{places, cell}
-use Rattle.sheet_text.specs.Read.{rightAt, wrongAt}
 
 -- the entry lines of these places, with these bits
 unfoldable pub entryLines : List Place → List ℕ → List (List ℕ)
@@ -60,6 +60,13 @@ unfoldable pub stored : ℕ → List Place → List ℕ → List Float → List 
 stored n [] bits a = a
 stored n (p ∷ ps) [] a = a
 stored n (p ∷ ps) (b ∷ bits) a = stored n ps bits (set a (cell n p) (ofBits binary64 b))
+
+-- what the reader answers of a sheet of order n, and of another text
+abbrev pub rightAt : ℕ → Sheet
+rightAt n = record { answer = Done; order = n }
+
+abbrev pub wrongAt : ℕ → Sheet
+wrongAt line = record { answer = BadLine line; order = 0 }
 
 -- a sheet is accepted and its entries are stored; of any other text the first wrong line is named, and the entries before it are stored
 pub data Reads (s : List ℕ) (a : List Float) (r : Sheet) (a′ : List Float) : Type 0 where

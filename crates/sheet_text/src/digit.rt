@@ -1,6 +1,6 @@
 // Hexadecimal digits, lower case.
 ghost use mathlib.Core.Path.{_≡_};
-ghost use Rattle.sheet_text.specs.Digit.{digitOf};
+ghost use Rattle.sheet_text.specs.inner.Digit.{digitOf};
 
 // What each byte is worth as a digit; 255 for no digit.
 const DIGITS: [u8; 256] = [

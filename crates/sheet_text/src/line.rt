@@ -3,8 +3,8 @@ use crate::digit::digit_value;
 ghost use mathlib.Core.Path.{_≡_};
 ghost use Prim.Native.Nat.{_<_};
 ghost use lib.ListN.{drop};
-ghost use Rattle.sheet_text.specs.Parse.{startsWith, number, digits, bits, numberAfter, entry, afterRow, afterColumn};
-ghost use Rattle.sheet_text.specs.Line.{numberIn, bitsIn, entryIn};
+ghost use Rattle.sheet_text.specs.inner.Parse.{startsWith, number, digits, bits, numberAfter, entry, afterRow, afterColumn};
+ghost use Rattle.sheet_text.specs.inner.Line.{numberIn, bitsIn, entryIn};
 
 // A number below 10,000 and where the reading goes on.
 pub enum Number {

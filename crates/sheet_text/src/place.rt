@@ -1,7 +1,7 @@
 // The places of a sheet's entries, in the order of its lines.
 ghost use mathlib.Core.Path.{_≡_};
 ghost use Prim.Native.Nat.{_<_};
-ghost use Rattle.sheet_text.specs.Place.{nextPlace};
+ghost use Rattle.sheet_text.specs.inner.Next.{nextPlace};
 
 pub struct Place {
     pub row: usize,

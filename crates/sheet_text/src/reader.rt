@@ -10,10 +10,10 @@ ghost use mathlib.Core.Path.{_≡_};
 ghost use Prim.Native.Nat.{_≤_};
 ghost use lib.ListN.{drop, set};
 ghost use lib.Ieee.{binary64, ofBits};
-ghost use Rattle.sheet_text.specs.Line.{bitsIn};
+ghost use Rattle.sheet_text.specs.inner.Line.{bitsIn};
 ghost use Rattle.sheet_text.specs.Place.{places};
-ghost use Rattle.sheet_text.specs.Read.{entryAt, takeEntries, takenBy, wrongAt, closed, verdict, outcome, afterOrder};
-ghost use Rattle.sheet_text.specs.Sheet.{Reads};
+ghost use Rattle.sheet_text.specs.inner.Read.{entryAt, takeEntries, takenBy, closed, verdict, outcome, afterOrder};
+ghost use Rattle.sheet_text.specs.Sheet.{wrongAt, Reads};
 
 // How far the entries went: all of them or not, how many, and where the reading goes on.
 pub struct Reached {

@@ -25,7 +25,7 @@ use Rattle.leaf.proofs.Values.{counts-units}
 use Rattle.cholesky.specs.Crate.{crateRule}
 use Rattle.twin_laws.proofs.Cholesky.{remainder}
 use Rattle.twin_laws.proofs.Exact.{own-round}
-use Rattle.twin_laws.proofs.Rounding.{Near, Half, round-off, round-near, kept-most, signed-round, product-of, quotient-of, distance, difference-of, exact-difference, round-abs}
+use Rattle.leaf.proofs.Fractions.{Near, WithinHalf, round-off, round-near, kept-most, signed-round, product-of, quotient-of, distance, difference-of, exact-difference, round-abs}
 
 -- ---- the root
 
@@ -164,7 +164,7 @@ off-by zero v h = omega arith
 off-by (suc zero) v h = omega arith
 off-by (suc (suc c)) v h = omega arith
 
-taken-whole : (q t v u : ℕ) → 0 < u → Near (2 ^ 51 - 1) (q * q) (v * u) → Half (q * q * u) (u * u) t → Near (2 ^ 50) t v
+taken-whole : (q t v u : ℕ) → 0 < u → Near (2 ^ 51 - 1) (q * q) (v * u) → WithinHalf (q * q * u) (u * u) t → Near (2 ^ 50) t v
 taken-whole q t v u some square product =
     let more : 2 * (t * u) ≤ 2 * (q * q) + u = le-of-mul-le-mul-right {k = u} (omega (arith, product .above)) some in
     let less : 2 * (q * q) ≤ 2 * (t * u) + u = le-of-mul-le-mul-right {k = u} (omega (arith, product .under)) some in

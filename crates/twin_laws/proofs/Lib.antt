@@ -2,7 +2,6 @@ pub mod Exact
 pub mod Share
 pub mod Udu
 pub mod UduLastTwo
-pub mod Rounding
 pub mod Cholesky
 pub mod Crumb
 pub mod Across

@@ -5,7 +5,6 @@ use mathlib.Core.List.{List}
 use Prim.Native.Nat.{ℕ, _≤_, _<_}
 use native.Mathlib.Decide.{decLe, decLt}
 use native.Mathlib.Omega.{arith}
-use lib.ListN.{length}
 use lib.Ieee.{Float}
 use Rattle.answer.specs.Number.{isDone}
 use Rattle.answer.proofs.Done.{done-or-refused}
@@ -14,8 +13,7 @@ use Rattle.matrix.proofs.Places.{lower-across}
 use Rattle.twins.specs.declared.Twin.{Twin}
 use Rattle.twins.specs.declared.Twin.the-variants.{Nothing, Refused}
 use Rattle.twins.specs.Twins.{symmetric, Twins}
-use Rattle.twins.specs.Sizes.{sizes}
-use Rattle.twins.specs.First.{NoneBetween, First, none, pair, rowsIn, FirstTwinSince, FirstTwin}
+use Rattle.twins.specs.First.{NoneBetween, First, none, pair, rowsIn, sizeAnswer, FirstTwinSince, FirstTwin}
 use Rattle.twins.specs.Batches as batches
 use Rattle.twins.specs.Batches.{Clear, ToldOf}
 use Rattle.twins.proofs.Clauses.{at-lower, at-upper}
@@ -40,11 +38,11 @@ fewer-twins room n k l p q fewer below below' twins c within =
 
 -- ---- the answer of one batch
 
-accepted : (l : List Float) (room m n : ℕ) → FirstTwinSince l room m n Nothing → isDone (sizes room m n (length l)) ≡ true
+accepted : (l : List Float) (room m n : ℕ) → FirstTwinSince l room m n Nothing → isDone (sizeAnswer l room m n) ≡ true
 accepted l room m n call =
-    done-or-refused (sizes room m n (length l)) (λ done. done)
+    done-or-refused (sizeAnswer l room m n) (λ done. done)
     (λ wrong.
-    let is : Nothing ≡ Refused (sizes room m n (length l)) = call .refused wrong in
+    let is : Nothing ≡ Refused (sizeAnswer l room m n) = call .refused wrong in
     let never : _≡_ {A = ℕ} 0 1 = cc in
     absurd (omega arith))
 
@@ -68,14 +66,14 @@ clear-none (batches.more {room} {m} {l} {room'} {n} {l'} before rising kept call
     clear-more room' m n l' rising (subst (λ (M : Matrix). NoneBetween m M 0 m) (sym kept) (clear-none before)) call
 
 -- and `first_twin` on the whole answers none
-pub clear-first : {room n : ℕ} {l : List Float} → Clear room n l → isDone (sizes room 0 n (length l)) ≡ true → FirstTwin l room n Nothing
+pub clear-first : {room n : ℕ} {l : List Float} → Clear room n l → isDone (sizeAnswer l room 0 n) ≡ true → FirstTwin l room n Nothing
 clear-first clear fits = record { refused = λ e. absurd (true≢false (sym fits ∙ e)); found = λ e. none (clear-none clear) }
 
 -- ---- the batch that brings the second
 
 module _ (room n : ℕ) (l : List Float) (p q : ℕ) (apart : p < q) (twins : Twins n (rowsIn room n l) p q) where
   -- rows p and q of n rows are twins: the batch of rows m to k that brought row q is told, whatever comes after it
-  pub told : {room' m k : ℕ} {l' : List Float} {r : Twin} → FirstTwinSince l' room' m k r → isDone (sizes room' m k (length l')) ≡ true
+  pub told : {room' m k : ℕ} {l' : List Float} {r : Twin} → FirstTwinSince l' room' m k r → isDone (sizeAnswer l' room' m k) ≡ true
       → rowsIn room' k l' ≡ rowsIn room k l → k ≤ n → m ≤ q → q < k → ToldOf m p q r
   told {room'} {m} {k} {l'} call fits kept upto since within = by (call .found fits)
     where

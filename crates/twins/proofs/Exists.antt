@@ -11,14 +11,12 @@ use native.Mathlib.Omega.{arith}
 use borrow.Author.Count.{below-none, below-more}
 use lib.Ieee.{Float, nan, inf, fin}
 use lib.IntN.{ℤ-discrete}
-use lib.ListN.{length}
 use Rattle.answer.proofs.Done.{done-or-refused}
 use Rattle.matrix.specs.Matrix.{Matrix}
 use Rattle.twins.specs.declared.Twin.{Twin}
 use Rattle.twins.specs.declared.Twin.the-variants.{Nothing, Pair, Refused}
 use Rattle.twins.specs.Twins.{symmetric, Twins}
-use Rattle.twins.specs.Sizes.{sizes}
-use Rattle.twins.specs.First.{First, FirstTwinSince, rowsIn, none, pair}
+use Rattle.twins.specs.First.{First, FirstTwinSince, rowsIn, sizeAnswer, none, pair}
 
 -- ---- floats are equal or not
 
@@ -102,6 +100,6 @@ module _ (n : ℕ) (M : Matrix) (m : ℕ) where
 
 pub some-first-twin-since : (l : List Float) (room m n : ℕ) → (t : Twin) × FirstTwinSince l room m n t
 some-first-twin-since l room m n =
-    done-or-refused (sizes room m n (length l))
+    done-or-refused (sizeAnswer l room m n)
     (λ fits. let some = some-first n (rowsIn room n l) m in (some .0, record { refused = λ e. absurd (true≢false (sym fits ∙ e)); found = λ e. some .1 }))
-    (λ wrong. (Refused (sizes room m n (length l)), record { refused = λ e. refl; found = λ e. absurd (true≢false (sym e ∙ wrong)) }))
+    (λ wrong. (Refused (sizeAnswer l room m n), record { refused = λ e. refl; found = λ e. absurd (true≢false (sym e ∙ wrong)) }))

@@ -1,8 +1,8 @@
 pub mod Clauses
 pub mod Rows
-pub mod Marks
+pub mod Fingerprints
 pub mod Search
-pub mod Sizes
+pub mod Answered
 pub mod Unique
 pub mod Batches
 pub mod Exists

@@ -13,7 +13,7 @@ use borrow.Author.Count.{below-none, below-more}
 use Rattle.matrix.specs.Matrix.{Matrix}
 use Rattle.matrix.specs.Grid.{Grid, load}
 use Rattle.twins.specs.Twins.{symmetric}
-use Rattle.twins.specs.First.{Told}
+use Rattle.twins.specs.inner.Search.{Told}
 
 -- floats of one format with the same bits are equal
 pub same-bits : (x y : Float) → T (fits binary64 x) → T (fits binary64 y) → toBits binary64 x ≡ toBits binary64 y → x ≡ y

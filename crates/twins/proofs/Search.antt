@@ -10,20 +10,21 @@ use borrow.Author.Count.{below-more}
 use Rattle.matrix.specs.Matrix.{Matrix}
 use Rattle.twins.specs.declared.Twin.the-variants.{Nothing, Pair}
 use Rattle.twins.specs.Twins.{Twins}
-use Rattle.twins.specs.Mark.{Marked, Passed}
-use Rattle.twins.specs.First.{NoneBefore, NoneBetween, FirstBefore, First, Told, none, pair}
-use Rattle.twins.proofs.Marks.{marks-differ}
+use Rattle.twins.specs.inner.Fingerprints.{Fingerprinted, OthersPassed}
+use Rattle.twins.specs.First.{NoneBefore, NoneBetween, First, none, pair}
+use Rattle.twins.specs.inner.Search.{Told, FirstBefore}
+use Rattle.twins.proofs.Fingerprints.{fingerprints-differ}
 
 -- no row before p is q's twin
 pub record Before (n : ℕ) (M : Matrix) (q p : ℕ) : Type 0 where
   pub upto : p ≤ q
   pub nearest : NoneBefore n M p q
 
--- rows with other marks are passed
-pub before-passed : {n : ℕ} {M : Matrix} {marks : List ℕ} {q p : ℕ} → Marked n M marks → q < n → Passed marks q p → Before n M q p
-before-passed {n} {M} {marks} {q} {p} marked within passed =
+-- rows with other fingerprints are passed
+pub before-passed : {n : ℕ} {M : Matrix} {fingerprints : List ℕ} {q p : ℕ} → Fingerprinted n M fingerprints → q < n → OthersPassed fingerprints q p → Before n M q p
+before-passed {n} {M} {fingerprints} {q} {p} printed within passed =
     let upto : p ≤ q = passed .upto in
-    record { upto = upto; nearest = λ r h. marks-differ marked (omega arith, within) (passed .apart .each r (omega arith) h) .no refl }
+    record { upto = upto; nearest = λ r h. fingerprints-differ printed (omega arith, within) (passed .apart .each r (omega arith) h) .no refl }
 
 pub before-more : {n : ℕ} {M : Matrix} {q p : ℕ} {r : Bool} → Before n M q p → p < q → Told n M p q r → r ≡ false → Before n M q (p + 1)
 before-more {n} {M} {q} {p} b below told is-no =

@@ -5,7 +5,6 @@ use mathlib.Core.List.{List}
 use Prim.Native.Nat.{ℕ, _+_, _/_, _%_, _<_}
 use native.Mathlib.Omega.{arith}
 use borrow.Author.Tests.{eqb-false}
-use lib.ListN.{length}
 use lib.Ieee.{Float}
 use Rattle.answer.specs.declared.Answer.{Answer}
 use Rattle.answer.specs.Number.{codeOf, isDone, placeOf, numberOf}
@@ -13,8 +12,7 @@ use Rattle.answer.proofs.Done.{done-or-refused}
 use Rattle.matrix.specs.Matrix.{Matrix}
 use Rattle.twins.specs.declared.Twin.{Twin}
 use Rattle.twins.specs.declared.Twin.the-variants.{Nothing, Pair, Refused}
-use Rattle.twins.specs.Sizes.{sizes}
-use Rattle.twins.specs.First.{FirstPair, First, FirstTwinSince, FirstTwin, none, pair}
+use Rattle.twins.specs.First.{FirstPair, First, sizeAnswer, FirstTwinSince, FirstTwin, none, pair}
 use Rattle.twins.specs.Number.{twinNumber}
 
 -- no later second row, and no later first row of one second row
@@ -48,7 +46,7 @@ first-unique {n} {M} {m} (pair {p} {q} f) (pair {p = r} {q = s} g) =
 -- two answers that meet the promise are equal
 pub first-twin-since-unique : (l : List Float) (room m n : ℕ) {t u : Twin} → FirstTwinSince l room m n t → FirstTwinSince l room m n u → t ≡ u
 first-twin-since-unique l room m n a b =
-    done-or-refused (sizes room m n (length l))
+    done-or-refused (sizeAnswer l room m n)
     (λ fits. first-unique (a .found fits) (b .found fits))
     (λ wrong. a .refused wrong ∙ sym (b .refused wrong))
 

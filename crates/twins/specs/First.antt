@@ -1,19 +1,21 @@
 -- What `first_twin_since` answers: of the pairs of twin rows p < q with q at or after m, the one with the least q and then the least p.
 use mathlib.Core.Path.{_≡_}
-use mathlib.Core.Bool.{Bool, true, false}
+use mathlib.Core.Bool.{true, false}
 use mathlib.Core.List.{List}
 use Prim.Native.Nat.{ℕ, _≤_, _<_}
 use lib.ListN.{length}
 use lib.Ieee.{Float}
+use Rattle.answer.specs.declared.Answer.{Answer}
+use Rattle.answer.specs.declared.Answer.the-variants.{Done}
 use Rattle.answer.specs.Number.{isDone}
-use Rattle.matrix.specs.declared.Layout.{Layout}
+use Rattle.answer.specs.Refusals.{tested}
 use Rattle.matrix.specs.Matrix.{Matrix}
 use Rattle.matrix.specs.Grid.{load}
-use Rattle.matrix.specs.Layouts.{lower}
+use Rattle.matrix.specs.Layouts.{inRoom, lower}
+use Rattle.matrix.specs.Sizes.{sizeTests}
 use Rattle.twins.specs.declared.Twin.{Twin}
 use Rattle.twins.specs.declared.Twin.the-variants.{Nothing, Pair, Refused}
 use Rattle.twins.specs.Twins.{Twins}
-use Rattle.twins.specs.Sizes.{sizes}
 
 -- none of the rows from m to before q is the twin of a row before it
 abbrev pub NoneBetween : ℕ → Matrix → ℕ → ℕ → Type 0
@@ -35,28 +37,18 @@ pub data First (n : ℕ) (M : Matrix) (m : ℕ) : Twin → Type 0 where
   none : NoneBetween n M m n → First n M m Nothing
   pair : {p q : ℕ} → FirstPair n M m p q → First n M m (Pair p q)
 
--- whether rows p and q are twins
-pub record Told (n : ℕ) (M : Matrix) (p q : ℕ) (r : Bool) : Type 0 where
-  pub yes : r ≡ true → Twins n M p q
-  pub no : r ≡ false → Twins n M p q → ⊥
-
--- r is the first row before q that is its twin, or q where there is none
-pub record FirstBefore (n : ℕ) (M : Matrix) (q r : ℕ) : Type 0 where
-  pub upto : r ≤ q
-  pub twins : r < q → Twins n M r q
-  pub nearest : NoneBefore n M r q
-
-abbrev pub layoutOf : ℕ → ℕ → Layout
-layoutOf room n = record { order = n; room = room }
-
 -- the matrix of the first n rows in a room
 abbrev pub rowsIn : ℕ → ℕ → List Float → Matrix
-rowsIn room n l = load (lower (layoutOf room n)) l
+rowsIn room n l = load (lower (inRoom n room)) l
+
+-- the refusal by size, or done
+abbrev pub sizeAnswer : List Float → ℕ → ℕ → ℕ → Answer
+sizeAnswer l room m n = tested (sizeTests (inRoom n room) m (length l)) Done
 
 -- a refusal by size, or the first pair of the lower triangle whose second row is at or after m
 pub record FirstTwinSince (l : List Float) (room m n : ℕ) (r : Twin) : Type 0 where
-  pub refused : isDone (sizes room m n (length l)) ≡ false → r ≡ Refused (sizes room m n (length l))
-  pub found : isDone (sizes room m n (length l)) ≡ true → First n (rowsIn room n l) m r
+  pub refused : isDone (sizeAnswer l room m n) ≡ false → r ≡ Refused (sizeAnswer l room m n)
+  pub found : isDone (sizeAnswer l room m n) ≡ true → First n (rowsIn room n l) m r
 
 -- `first_twin` looks from row 0 on
 abbrev pub FirstTwin : List Float → ℕ → ℕ → Twin → Type 0

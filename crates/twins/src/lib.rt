@@ -4,12 +4,13 @@ ghost use mathlib.Core.Bool.{true, false};
 ghost use Prim.Native.Nat.{_+_, _≤_, _<_};
 ghost use lib.ListN.{length};
 ghost use lib.Ieee.{binary64, toBits};
-ghost use Rattle.matrix.specs.Grid.{Sound, load};
-ghost use Rattle.matrix.specs.Layouts.{Roomy, lower};
+ghost use Rattle.matrix.specs.Grid.{load};
+ghost use Rattle.matrix.specs.Layouts.{lower, Laid};
 ghost use Rattle.twins.specs.Twins.{symmetric};
-ghost use Rattle.twins.specs.First.{First, FirstBefore, FirstTwinSince, FirstTwin, Told};
+ghost use Rattle.twins.specs.First.{First, FirstTwinSince, FirstTwin};
+ghost use Rattle.twins.specs.inner.Search.{Told, FirstBefore};
 ghost use Rattle.twins.specs.Number.{twinNumber};
-ghost use Rattle.twins.specs.Mark.{mixed, Marked, Brought, Cleared, Apart, Passed};
+ghost use Rattle.twins.specs.inner.Fingerprints.{mixed, Fingerprinted, Brought, Cleared, Apart, OthersPassed};
 use answer::Answer;
 use matrix::Layout;
 
@@ -33,8 +34,7 @@ impl Twin {
 }
 
 fn lower_bits(y: Layout, a: &[f64], i: usize, j: usize) -> u64
-    requires { ⌜ Roomy y ⌝ }
-    requires { ⌜ Sound (lower y) (now a) ⌝ }
+    requires { ⌜ Laid y (now a) ⌝ }
     requires { ⌜ j ≤ i ⌝ }
     requires { ⌜ i < y .order ⌝ }
     ensures { λ r. ⌜ r ≡ toBits binary64 (load (lower y) (now (a .entry)) i j) ⌝ }
@@ -43,8 +43,7 @@ fn lower_bits(y: Layout, a: &[f64], i: usize, j: usize) -> u64
 }
 
 fn entry_bits(y: Layout, a: &[f64], i: usize, j: usize) -> u64
-    requires { ⌜ Roomy y ⌝ }
-    requires { ⌜ Sound (lower y) (now a) ⌝ }
+    requires { ⌜ Laid y (now a) ⌝ }
     requires { ⌜ i < y .order ⌝ }
     requires { ⌜ j < y .order ⌝ }
     ensures { λ r. ⌜ r ≡ toBits binary64 (symmetric (load (lower y) (now (a .entry))) i j) ⌝ }
@@ -55,54 +54,51 @@ fn entry_bits(y: Layout, a: &[f64], i: usize, j: usize) -> u64
     lower_bits(y, a, j, i)
 }
 
-fn mix(mark: u64, bits: u64) -> u64
-    ensures { λ r. ⌜ r ≡ mixed mark bits ⌝ }
+fn mix(fingerprint: u64, bits: u64) -> u64
+    ensures { λ r. ⌜ r ≡ mixed fingerprint bits ⌝ }
 {
-    let twice = std::num::wrapping_add_u64(mark, mark);
-    let thrice = std::num::wrapping_add_u64(twice, mark);
+    let twice = std::num::wrapping_add_u64(fingerprint, fingerprint);
+    let thrice = std::num::wrapping_add_u64(twice, fingerprint);
     let turned = thrice % 0x200_0000_0000 * 0x80_0000 + thrice / 0x200_0000_0000;
     std::num::wrapping_add_u64(turned, bits)
 }
 
 // Column c brings entry (i, c) to row i at its place c and to row c at its place i. The rows before c are whole.
-fn mark_column(y: Layout, a: &[f64], marks: &mut [u64], c: usize)
-    requires { ⌜ Roomy y ⌝ }
-    requires { ⌜ Sound (lower y) (now a) ⌝ }
-    requires { ⌜ y .order ≤ length (now marks) ⌝ }
+fn bring_column(y: Layout, a: &[f64], fingerprints: &mut [u64], c: usize)
+    requires { ⌜ Laid y (now a) ⌝ }
+    requires { ⌜ y .order ≤ length (now fingerprints) ⌝ }
     requires { ⌜ c < y .order ⌝ }
-    requires { ⌜ Brought (y .order) (load (lower y) (now a)) c (now marks) ⌝ }
-    ensures { λ _. ⌜ Brought (y .order) (load (lower y) (now (a .entry))) (c + 1) (now (marks .exit)) ⌝ }
+    requires { ⌜ Brought (y .order) (load (lower y) (now a)) c (now fingerprints) ⌝ }
+    ensures { λ _. ⌜ Brought (y .order) (load (lower y) (now (a .entry))) (c + 1) (now (fingerprints .exit)) ⌝ }
 {
     let n = y.order;
-    let mut own = mix(marks[c], lower_bits(y, a, c, c));
+    let mut own = mix(fingerprints[c], lower_bits(y, a, c, c));
     let mut i = c + 1;
     while i < n {
         let bits = lower_bits(y, a, i, c);
-        marks[i] = mix(marks[i], bits);
+        fingerprints[i] = mix(fingerprints[i], bits);
         own = mix(own, bits);
         i += 1;
     }
-    marks[c] = own;
+    fingerprints[c] = own;
 }
 
-fn mark_rows(y: Layout, a: &[f64], marks: &mut [u64])
-    requires { ⌜ Roomy y ⌝ }
-    requires { ⌜ Sound (lower y) (now a) ⌝ }
-    requires { ⌜ y .order ≤ length (now marks) ⌝ }
-    requires { ⌜ Cleared (y .order) (now marks) ⌝ }
-    ensures { λ _. ⌜ Marked (y .order) (load (lower y) (now (a .entry))) (now (marks .exit)) ⌝ }
+fn fingerprint_rows(y: Layout, a: &[f64], fingerprints: &mut [u64])
+    requires { ⌜ Laid y (now a) ⌝ }
+    requires { ⌜ y .order ≤ length (now fingerprints) ⌝ }
+    requires { ⌜ Cleared (y .order) (now fingerprints) ⌝ }
+    ensures { λ _. ⌜ Fingerprinted (y .order) (load (lower y) (now (a .entry))) (now (fingerprints .exit)) ⌝ }
 {
     let n = y.order;
     let mut c = 0;
     while c < n {
-        mark_column(y, a, marks, c);
+        bring_column(y, a, fingerprints, c);
         c += 1;
     }
 }
 
 fn same_rows(y: Layout, a: &[f64], p: usize, q: usize) -> bool
-    requires { ⌜ Roomy y ⌝ }
-    requires { ⌜ Sound (lower y) (now a) ⌝ }
+    requires { ⌜ Laid y (now a) ⌝ }
     requires { ⌜ p < y .order ⌝ }
     requires { ⌜ q < y .order ⌝ }
     ensures { λ r. ⌜ Told (y .order) (load (lower y) (now (a .entry))) p q r ⌝ }
@@ -118,47 +114,46 @@ fn same_rows(y: Layout, a: &[f64], p: usize, q: usize) -> bool
     true
 }
 
-// The marks are compared first, so that rows are read again only where they may be twins.
-fn twins(y: Layout, a: &[f64], marks: &[u64], p: usize, q: usize) -> bool
-    requires { ⌜ Roomy y ⌝ }
-    requires { ⌜ Sound (lower y) (now a) ⌝ }
-    requires { ⌜ y .order ≤ length (now marks) ⌝ }
-    requires { ⌜ Marked (y .order) (load (lower y) (now a)) (now marks) ⌝ }
+// The fingerprints are compared first, so that rows are read again only where they may be twins.
+fn twins(y: Layout, a: &[f64], fingerprints: &[u64], p: usize, q: usize) -> bool
+    requires { ⌜ Laid y (now a) ⌝ }
+    requires { ⌜ y .order ≤ length (now fingerprints) ⌝ }
+    requires { ⌜ Fingerprinted (y .order) (load (lower y) (now a)) (now fingerprints) ⌝ }
     requires { ⌜ (p < y .order) × (q < y .order) ⌝ }
     ensures { λ r. ⌜ Told (y .order) (load (lower y) (now (a .entry))) p q r ⌝ }
 {
-    if marks[p] != marks[q] {
+    if fingerprints[p] != fingerprints[q] {
         return false;
     }
     same_rows(y, a, p, q)
 }
 
-// Whether one of the four marks from p on is this one.
-fn among_four(marks: &[u64], p: usize, mark: u64) -> bool
-    requires { ⌜ p + 4 ≤ length (now marks) ⌝ }
-    ensures { λ r. ⌜ (r ≡ false → Apart (now (marks .entry)) mark p (p + 4)) ⌝ }
+// Whether one of the four fingerprints from p on is this one.
+fn among_four(fingerprints: &[u64], p: usize, fingerprint: u64) -> bool
+    requires { ⌜ p + 4 ≤ length (now fingerprints) ⌝ }
+    ensures { λ r. ⌜ (r ≡ false → Apart (now (fingerprints .entry)) fingerprint p (p + 4)) ⌝ }
 {
-    if marks[p] == mark {
+    if fingerprints[p] == fingerprint {
         return true;
     }
-    if marks[p + 1] == mark {
+    if fingerprints[p + 1] == fingerprint {
         return true;
     }
-    if marks[p + 2] == mark {
+    if fingerprints[p + 2] == fingerprint {
         return true;
     }
-    marks[p + 3] == mark
+    fingerprints[p + 3] == fingerprint
 }
 
-// Passes rows that have other marks than row q, four at a time.
-fn pass_fours(marks: &[u64], q: usize) -> usize
-    requires { ⌜ q < length (now marks) ⌝ }
-    ensures { λ r. ⌜ Passed (now (marks .entry)) q r ⌝ }
+// Passes rows that have other fingerprints than row q, four at a time.
+fn pass_fours(fingerprints: &[u64], q: usize) -> usize
+    requires { ⌜ q < length (now fingerprints) ⌝ }
+    ensures { λ r. ⌜ OthersPassed (now (fingerprints .entry)) q r ⌝ }
 {
-    let mark = marks[q];
+    let fingerprint = fingerprints[q];
     let mut p = 0;
     while p + 4 <= q {
-        if among_four(marks, p, mark) {
+        if among_four(fingerprints, p, fingerprint) {
             return p;
         }
         p += 4;
@@ -166,17 +161,16 @@ fn pass_fours(marks: &[u64], q: usize) -> usize
     p
 }
 
-fn first_before(y: Layout, a: &[f64], marks: &[u64], q: usize) -> usize
-    requires { ⌜ Roomy y ⌝ }
-    requires { ⌜ Sound (lower y) (now a) ⌝ }
-    requires { ⌜ y .order ≤ length (now marks) ⌝ }
-    requires { ⌜ Marked (y .order) (load (lower y) (now a)) (now marks) ⌝ }
+fn first_before(y: Layout, a: &[f64], fingerprints: &[u64], q: usize) -> usize
+    requires { ⌜ Laid y (now a) ⌝ }
+    requires { ⌜ y .order ≤ length (now fingerprints) ⌝ }
+    requires { ⌜ Fingerprinted (y .order) (load (lower y) (now a)) (now fingerprints) ⌝ }
     requires { ⌜ q < y .order ⌝ }
     ensures { λ r. ⌜ FirstBefore (y .order) (load (lower y) (now (a .entry))) q r ⌝ }
 {
-    let mut p = pass_fours(marks, q);
+    let mut p = pass_fours(fingerprints, q);
     while p < q {
-        if twins(y, a, marks, p, q) {
+        if twins(y, a, fingerprints, p, q) {
             return p;
         }
         p += 1;
@@ -184,19 +178,18 @@ fn first_before(y: Layout, a: &[f64], marks: &[u64], q: usize) -> usize
     p
 }
 
-fn first_pair(y: Layout, a: &[f64], marks: &mut [u64], earlier: usize) -> Twin
-    requires { ⌜ Roomy y ⌝ }
-    requires { ⌜ Sound (lower y) (now a) ⌝ }
-    requires { ⌜ y .order ≤ length (now marks) ⌝ }
-    requires { ⌜ Cleared (y .order) (now marks) ⌝ }
+fn first_pair(y: Layout, a: &[f64], fingerprints: &mut [u64], earlier: usize) -> Twin
+    requires { ⌜ Laid y (now a) ⌝ }
+    requires { ⌜ y .order ≤ length (now fingerprints) ⌝ }
+    requires { ⌜ Cleared (y .order) (now fingerprints) ⌝ }
     requires { ⌜ earlier ≤ y .order ⌝ }
     ensures { λ r. ⌜ First (y .order) (load (lower y) (now (a .entry))) earlier r ⌝ }
 {
-    mark_rows(y, a, marks);
+    fingerprint_rows(y, a, fingerprints);
     let n = y.order;
     let mut q = earlier;
     while q < n {
-        let p = first_before(y, a, marks, q);
+        let p = first_before(y, a, fingerprints, q);
         if p < q {
             return Twin::Pair(p as u32, q as u32);
         }
@@ -206,50 +199,34 @@ fn first_pair(y: Layout, a: &[f64], marks: &mut [u64], earlier: usize) -> Twin
 }
 
 fn first_of_few(y: Layout, a: &[f64], earlier: usize) -> Twin
-    requires { ⌜ Roomy y ⌝ }
-    requires { ⌜ Sound (lower y) (now a) ⌝ }
+    requires { ⌜ Laid y (now a) ⌝ }
     requires { ⌜ y .order ≤ 32 ⌝ }
     requires { ⌜ earlier ≤ y .order ⌝ }
     ensures { λ r. ⌜ First (y .order) (load (lower y) (now (a .entry))) earlier r ⌝ }
 {
-    let mut marks = [0u64; 32];
-    first_pair(y, a, &mut marks, earlier)
+    let mut fingerprints = [0u64; 32];
+    first_pair(y, a, &mut fingerprints, earlier)
 }
 
 fn first_of_many(y: Layout, a: &[f64], earlier: usize) -> Twin
-    requires { ⌜ Roomy y ⌝ }
-    requires { ⌜ Sound (lower y) (now a) ⌝ }
+    requires { ⌜ Laid y (now a) ⌝ }
     requires { ⌜ earlier ≤ y .order ⌝ }
     ensures { λ r. ⌜ First (y .order) (load (lower y) (now (a .entry))) earlier r ⌝ }
 {
-    let mut marks = [0u64; 1024];
-    first_pair(y, a, &mut marks, earlier)
+    let mut fingerprints = [0u64; 1024];
+    first_pair(y, a, &mut fingerprints, earlier)
 }
 
 // The first pair of twin rows, the second of them at or after `earlier`, of the symmetric matrix of order n whose lower part stands in the room.
 pub fn first_twin_since(a: &[f64], room: usize, earlier: usize, n: usize) -> Twin
     ensures { λ r. ⌜ FirstTwinSince (now (a .entry)) room earlier n r ⌝ }
 {
-    if room > 1024 {
-        return Twin::Refused(Answer::OutOfRange);
+    let y = Layout::in_room(n, room);
+    let answer = y.check(earlier, a.len());
+    if answer.code() != 0 {
+        return Twin::Refused(answer);
     }
-    if n > 1024 {
-        return Twin::Refused(Answer::OutOfRange);
-    }
-    if earlier > 1024 {
-        return Twin::Refused(Answer::OutOfRange);
-    }
-    if n > room {
-        return Twin::Refused(Answer::OrderAboveRoom);
-    }
-    if earlier > n {
-        return Twin::Refused(Answer::OrderAboveRoom);
-    }
-    if a.len() != room * room {
-        return Twin::Refused(Answer::MatrixLength);
-    }
-    let y = Layout { order: n, room };
-    if n <= 32 {
+    if y.order <= 32 {
         return first_of_few(y, a, earlier);
     }
     first_of_many(y, a, earlier)

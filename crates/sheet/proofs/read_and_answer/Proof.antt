@@ -1,6 +1,6 @@
 use borrow.Author.Needs.{needs}
 use mathlib.Core.Path.{sym, _∙_}
-use Prim.Native.Nat.{_+_, _*_}
+use Prim.Native.Nat.{_*_}
 use native.Mathlib.Omega.{arith}
 use denote.Ref.{now}
 use lib.Seq.{length-front}
@@ -29,38 +29,40 @@ returns c = refuses-it (c .before .before .before .before .before .before .befor
 mul-cells : tie.Need-mul-cells
 mul-cells c = omega (arith, square-small (c .before .before .before .before .read-sheet .result .order) (order-small (c .before .before .before .before .read-sheet .ensures)))
 
-mul-count : tie.Need-mul-count
-mul-count c = omega (arith, order-small (c .before .before .before .before .read-sheet .ensures))
-
-add-count : tie.Need-add-count
-add-count c = omega (arith, order-small (c .before .before .before .before .read-sheet .ensures))
+words-requires : tie.Need-words-requires
+words-requires c κs = omega (arith, order-small (c .before .before .before .before .read-sheet .ensures))
 
 slice-relend-prefix-factor-and-write : tie.Need-slice-relend-prefix-factor-and-write
-slice-relend-prefix-factor-and-write c = omega (arith, square-small (c .before .before .before .before .read-sheet .result .order) (order-small (c .before .before .before .before .read-sheet .ensures)), c .before .before .before .before .read-sheet .kept .1 .0, room-length _ _ (c .before .before .before .before .before .before .before .before .before .before .pre))
+slice-relend-prefix-factor-and-write c =
+    omega (arith, square-small (c .before .before .before .before .before .read-sheet .result .order) (order-small (c .before .before .before .before .before .read-sheet .ensures)), c .before .before .before .before .before .read-sheet .kept .1 .0, room-length _ _ (c .before .before .before .before .before .before .before .before .before .before .before .pre))
 
 slice-aggregate-factor-and-write : tie.Need-slice-aggregate-factor-and-write
-slice-aggregate-factor-and-write c = sym (parts (c .before .before .before .before .before .read-sheet .ensures) _ (c .before .before .before .before .before .before .before .before .before .before .before .pre) (c .before .before .before .before .before .read-sheet .kept .1 .0) .long)
+slice-aggregate-factor-and-write c = sym (parts (c .before .before .before .before .before .before .read-sheet .ensures) _ (c .before .words .ensures) (c .before .before .before .before .before .before .before .before .before .before .before .before .pre) (c .before .before .before .before .before .before .read-sheet .kept .1 .0) .long)
 
 slice-relend-prefix-factor-and-write-2 : tie.Need-slice-relend-prefix-factor-and-write-2
-slice-relend-prefix-factor-and-write-2 c = omega (arith, order-small (c .before .before .before .before .before .read-sheet .ensures), words-length _ _ (c .before .before .before .before .before .before .before .before .before .before .before .pre))
+slice-relend-prefix-factor-and-write-2 c = omega (arith, c .before .words .ensures, order-small (c .before .before .before .before .before .before .read-sheet .ensures), words-length _ _ (c .before .before .before .before .before .before .before .before .before .before .before .before .pre))
 
 slice-aggregate-factor-and-write-2 : tie.Need-slice-aggregate-factor-and-write-2
-slice-aggregate-factor-and-write-2 c = sym (parts (c .before .before .before .before .before .before .read-sheet .ensures) _ (c .before .before .before .before .before .before .before .before .before .before .before .before .pre) (c .before .before .before .before .before .before .read-sheet .kept .1 .0) .sized)
+slice-aggregate-factor-and-write-2 c =
+    let square = parts (c .before .before .before .before .before .before .before .read-sheet .ensures) _ (c .before .before .words .ensures) (c .before .before .before .before .before .before .before .before .before .before .before .before .before .pre) (c .before .before .before .before .before .before .before .read-sheet .kept .1 .0) in
+    c .before .before .words .ensures ∙ sym (square .sized)
 
 factor-and-write-requires : tie.Need-factor-and-write-requires
-factor-and-write-requires c κs = parts (c .before .before .before .before .before .before .before .read-sheet .ensures) _ (c .before .before .before .before .before .before .before .before .before .before .before .before .before .pre) (c .before .before .before .before .before .before .before .read-sheet .kept .1 .0)
+factor-and-write-requires c κs = parts (c .before .before .before .before .before .before .before .before .read-sheet .ensures) _ (c .before .before .before .words .ensures) (c .before .before .before .before .before .before .before .before .before .before .before .before .before .before .pre) (c .before .before .before .before .before .before .before .before .read-sheet .kept .1 .0)
 
 same-length-3 : tie.Need-same-length-3
-same-length-3 c = length-front (c .before .before .before .before .before .before .before .before .before .before .before .before .before .before .read-sheet .last .1 .0) (c .before .before .before .before .before .before .factor-and-write .last .0) (c .before .before .before .before .before .before .before .before .before .before .before .before .before .before .read-sheet .result .order * c .before .before .before .before .before .before .before .before .before .before .before .before .before .before .read-sheet .result .order) (c .before .before .before .before .before .before .factor-and-write .kept .0) ∙ c .before .before .before .before .before .before .before .before .before .before .before .before .before .before .read-sheet .kept .1 .0
+same-length-3 c =
+    let n = c .before .before .before .before .before .before .before .before .before .before .before .before .before .before .before .read-sheet .result .order in
+    length-front (c .before .before .before .before .before .before .before .before .before .before .before .before .before .before .before .read-sheet .last .1 .0) (c .before .before .before .before .before .before .factor-and-write .last .0) (n * n) (c .before .before .before .before .before .before .factor-and-write .kept .0) ∙ c .before .before .before .before .before .before .before .before .before .before .before .before .before .before .before .read-sheet .kept .1 .0
 
 same-length-4 : tie.Need-same-length-4
-same-length-4 c = length-front (now (c .before .before .before .before .before .before .before .before .before .before .before .before .before .before .before .before .before .before .before .before .args .words)) (c .before .before .before .before .before .before .factor-and-write .last .1 .0) (2 * c .before .before .before .before .before .before .before .before .before .before .before .before .before .before .read-sheet .result .order + 1) (c .before .before .before .before .before .before .factor-and-write .kept .1 .0)
+same-length-4 c = length-front (now (c .before .before .before .before .before .before .before .before .before .before .before .before .before .before .before .before .before .before .before .before .before .args .words)) (c .before .before .before .before .before .before .factor-and-write .last .1 .0) (c .before .before .before .before .before .before .before .before .before .before .words .result) (c .before .before .before .before .before .before .factor-and-write .kept .1 .0)
 
 same-length-5 : tie.Need-same-length-5
 same-length-5 c = c .before .before .before .before .before .before .factor-and-write .ensures .long
 
 returns-2 : tie.Need-returns-2
-returns-2 c = factors-it (c .before .before .before .before .before .before .before .before .before .before .before .before .before .before .read-sheet .ensures) _ (c .before .before .before .before .before .before .before .before .before .before .before .before .before .before .before .before .before .before .before .before .pre) (sym (c .before .before .before .before .before .before .before .before .before .before .before .code .ensures) ∙ c .before .before .before .before .before .before .before .before .before .before .if1 .left) (c .before .before .before .before .before .before .factor-and-write .ensures)
+returns-2 c = factors-it (c .before .before .before .before .before .before .before .before .before .before .before .before .before .before .before .read-sheet .ensures) _ (c .before .before .before .before .before .before .before .before .before .before .words .ensures) (c .before .before .before .before .before .before .before .before .before .before .before .before .before .before .before .before .before .before .before .before .before .pre) (sym (c .before .before .before .before .before .before .before .before .before .before .before .before .code .ensures) ∙ c .before .before .before .before .before .before .before .before .before .before .before .if1 .left) (c .before .before .before .before .before .before .factor-and-write .ensures)
 
 pub read-and-answer-spec : {M : Type 1} → statement M
 read-and-answer-spec =
@@ -73,8 +75,7 @@ read-and-answer-spec =
     same-length-2
     returns
     mul-cells
-    mul-count
-    add-count
+    words-requires
     slice-relend-prefix-factor-and-write
     slice-aggregate-factor-and-write
     slice-relend-prefix-factor-and-write-2

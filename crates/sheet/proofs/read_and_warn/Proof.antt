@@ -1,5 +1,5 @@
 use borrow.Author.Needs.{needs}
-use mathlib.Core.Path.{sym, ap}
+use mathlib.Core.Path.{refl, sym, ap}
 use Prim.Native.Nat.{zero-le}
 use native.Mathlib.Omega.{arith}
 use Rattle.sheet_page.proofs.PutLaws.{put-none, put-same}
@@ -17,7 +17,7 @@ slice-reshare-prefix-first-twin : tie.Need-slice-reshare-prefix-first-twin
 slice-reshare-prefix-first-twin c = omega (arith, square-small (c .before .before .read-sheet .result .order) (order-small (c .before .before .read-sheet .ensures)), c .before .before .read-sheet .kept .1 .0, room-length _ _ (lone-room (c .before .before .before .before .before .before .before .pre)))
 
 slice-aggregate-first-twin : tie.Need-slice-aggregate-first-twin
-slice-aggregate-first-twin c = sym (parts (c .before .before .before .read-sheet .ensures) _ (lone-room (c .before .before .before .before .before .before .before .before .pre)) (c .before .before .before .read-sheet .kept .1 .0) .long)
+slice-aggregate-first-twin c = sym (parts (c .before .before .before .read-sheet .ensures) _ refl (lone-room (c .before .before .before .before .before .before .before .before .pre)) (c .before .before .before .read-sheet .kept .1 .0) .long)
 
 first-twin-requires : tie.Need-first-twin-requires
 first-twin-requires c κs = search needs

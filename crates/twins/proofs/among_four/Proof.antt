@@ -2,7 +2,7 @@
 use mathlib.Core.Bool.{true≢false}
 use borrow.Author.Tests.{eqb-false}
 use denote.Ref.{now}
-use Rattle.twins.proofs.Marks.{apart-four}
+use Rattle.twins.proofs.Fingerprints.{apart-four}
 use borrow.Author.Needs.{needs}
 use Rattle.twins.proofs.among_four.Statement.{statement}
 use Rattle.twins.proofs.among_four.Tie as tie
@@ -50,7 +50,7 @@ shared-slice-read-result : tie.Need-shared-slice-read-result
 shared-slice-read-result c = search needs
 
 returns-4 : tie.Need-returns-4
-returns-4 c = λ e. apart-four (now (c .before .before .before .before .before .before .before .args .marks)) (c .before .before .before .before .before .before .before .args .mark) (c .before .before .before .before .before .before .before .args .p) (c .before .before .before .before .before .if1 .left) (c .before .before .before .if2 .left) (c .before .if3 .left) (eqb-false _ _ e)
+returns-4 c = λ e. apart-four (now (c .before .before .before .before .before .before .before .args .fingerprints)) (c .before .before .before .before .before .before .before .args .fingerprint) (c .before .before .before .before .before .before .before .args .p) (c .before .before .before .before .before .if1 .left) (c .before .before .before .if2 .left) (c .before .if3 .left) (eqb-false _ _ e)
 
 pub among-four-spec : {M : Type 1} → statement M
 among-four-spec =

@@ -14,7 +14,7 @@ returns : tie.Need-returns
 returns c = c .lower-bits .ensures ∙ ap (toBits binary64) (sym (at-lower _ _ _ (c .before .if1 .taken)))
 
 lower-bits-requires-2 : tie.Need-lower-bits-requires-2
-lower-bits-requires-2 c κs = (search needs, (search needs, (omega arith, search needs)))
+lower-bits-requires-2 c κs = (search needs, (omega arith, search needs))
 
 returns-2 : tie.Need-returns-2
 returns-2 c = c .lower-bits2 .ensures ∙ ap (toBits binary64) (sym (at-upper _ _ _ (c .before .if1 .left)))

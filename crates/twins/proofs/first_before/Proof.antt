@@ -9,19 +9,19 @@ use Rattle.twins.proofs.first_before.Statement.{statement}
 use Rattle.twins.proofs.first_before.Tie as tie
 
 abbrev Inv-loop : tie.InvT-loop
-Inv-loop y a marks q p₀ p = Before (y .order) (load (lower y) a) q p
+Inv-loop y a fingerprints q p₀ p = Before (y .order) (load (lower y) a) q p
 
 abbrev μ-loop : tie.MeasureT-loop
-μ-loop y a marks q p₀ p = q - p
+μ-loop y a fingerprints q p₀ p = q - p
 
 pass-fours-requires : tie.Need-pass-fours-requires Inv-loop μ-loop
 pass-fours-requires c κs = search needs
 
 loop-holds : tie.Need-loop-holds Inv-loop μ-loop
-loop-holds c = before-passed (c .before .before .before .pre .1 .1 .1 .0) (search needs) (c .pass-fours .ensures)
+loop-holds c = before-passed (c .before .before .before .pre .1 .1 .0) (search needs) (c .pass-fours .ensures)
 
 twins-requires : tie.Need-twins-requires Inv-loop μ-loop
-twins-requires c κs = (c .before .before .before .before .before .pre .0, (c .before .before .before .before .before .pre .1 .0, (search needs, (c .before .before .before .before .before .pre .1 .1 .1 .0, (omega arith, search needs)))))
+twins-requires c κs = (c .before .before .before .before .before .pre .0, (search needs, (c .before .before .before .before .before .pre .1 .1 .0, (omega arith, search needs))))
 
 returns : tie.Need-returns Inv-loop μ-loop
 returns c = before-found (c .before .before .before .loop .inv) (search needs) (c .before .twins .ensures) (c .if1 .taken)

@@ -1,6 +1,6 @@
 -- `first_of_many` meets its contract. Assumes nothing.
 use native.Mathlib.Omega.{arith}
-use Rattle.twins.proofs.Marks.{cleared}
+use Rattle.twins.proofs.Fingerprints.{cleared}
 use borrow.Author.Needs.{needs}
 use Rattle.twins.proofs.first_of_many.Statement.{statement}
 use Rattle.twins.proofs.first_of_many.Tie as tie
@@ -9,7 +9,10 @@ slice-aggregate-first-pair : tie.Need-slice-aggregate-first-pair
 slice-aggregate-first-pair c = search needs
 
 first-pair-requires : tie.Need-first-pair-requires
-first-pair-requires c κs = (c .before .before .pre .0, (c .before .before .pre .1 .0, (omega (arith, c .before .before .pre .0 .ordered, c .before .before .pre .0 .small), (cleared 1024 _ (omega (arith, c .before .before .pre .0 .ordered, c .before .before .pre .0 .small)), c .before .before .pre .1 .1))))
+first-pair-requires c κs =
+    let laid = c .before .before .pre .0 in
+    let roomy = laid .roomy in
+    (laid, (omega (arith, roomy .ordered, roomy .small), (cleared 1024 _ (omega (arith, roomy .ordered, roomy .small)), c .before .before .pre .1)))
 
 returns : tie.Need-returns
 returns c = search needs

@@ -9,19 +9,19 @@ use Rattle.twins.proofs.first_pair.Statement.{statement}
 use Rattle.twins.proofs.first_pair.Tie as tie
 
 abbrev Inv-loop : tie.InvT-loop
-Inv-loop y a marks earlier n q₀ q = Between (y .order) (load (lower y) a) earlier q
+Inv-loop y a fingerprints earlier n q₀ q = Between (y .order) (load (lower y) a) earlier q
 
 abbrev μ-loop : tie.MeasureT-loop
-μ-loop y a marks earlier n q₀ q = y .order - q
+μ-loop y a fingerprints earlier n q₀ q = y .order - q
 
-mark-rows-requires : tie.Need-mark-rows-requires Inv-loop μ-loop
-mark-rows-requires c κs = search needs
+fingerprint-rows-requires : tie.Need-fingerprint-rows-requires Inv-loop μ-loop
+fingerprint-rows-requires c κs = search needs
 
 loop-holds : tie.Need-loop-holds Inv-loop μ-loop
 loop-holds c = between-start (search needs)
 
 first-before-requires : tie.Need-first-before-requires Inv-loop μ-loop
-first-before-requires c κs = (c .before .before .before .before .before .before .before .before .before .pre .0, (c .before .before .before .before .before .before .before .before .before .pre .1 .0, (omega (arith, c .before .before .before .before .before .mark-rows .kept .1 .1 .0), (c .before .before .before .before .before .mark-rows .ensures, search needs))))
+first-before-requires c κs = (c .before .before .before .before .before .before .before .before .before .pre .0, (omega (arith, c .before .before .before .before .before .fingerprint-rows .kept .1 .1 .0), (c .before .before .before .before .before .fingerprint-rows .ensures, search needs)))
 
 cast-t14 : tie.Need-cast-t14 Inv-loop μ-loop
 cast-t14 c = search needs
@@ -56,7 +56,7 @@ first-pair-spec =
     (tie.spec
     Inv-loop
     μ-loop
-    mark-rows-requires
+    fingerprint-rows-requires
     loop-holds
     first-before-requires
     cast-t14

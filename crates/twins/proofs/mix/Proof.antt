@@ -3,7 +3,7 @@ use Prim.Native.Nat.{ℕ, _+_, _*_, _/_, _%_, _<_}
 use native.Mathlib.Nat.{mod-lt, div-lt-iff-lt-mul}
 use native.Mathlib.Omega.{arith}
 use lib.Dec.{lit<}
-use Rattle.twins.specs.Mark.{turned, mixed}
+use Rattle.twins.specs.inner.Fingerprints.{turned, mixed}
 use borrow.Author.Needs.{needs}
 use Rattle.twins.proofs.mix.Statement.{statement}
 use Rattle.twins.proofs.mix.Tie as tie
@@ -23,7 +23,7 @@ mul-turned c = search needs
 add-turned : tie.Need-add-turned
 add-turned c =
     let thrice = c .wrapping-add-u642 .result in
-    let small : thrice < 8388608 * 2199023255552 = rw (c .wrapping-add-u642 .ensures) (mod-lt (c .before .wrapping-add-u64 .result + c .before .before .args .mark) (lit< tt)) in
+    let small : thrice < 8388608 * 2199023255552 = rw (c .wrapping-add-u642 .ensures) (mod-lt (c .before .wrapping-add-u64 .result + c .before .before .args .fingerprint) (lit< tt)) in
     record {
       fits = halves (thrice % 2199023255552) (thrice / 2199023255552) (mod-lt thrice (lit< tt)) (div-lt-iff-lt-mul (lit< tt) .1 small);
     }

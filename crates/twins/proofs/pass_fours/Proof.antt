@@ -1,22 +1,22 @@
 -- `pass_fours` meets its contract. Assumes nothing.
 use Prim.Native.Nat.{_-_}
-use Rattle.twins.specs.Mark.{Passed}
-use Rattle.twins.proofs.Marks.{passed-none, passed-four}
+use Rattle.twins.specs.inner.Fingerprints.{OthersPassed}
+use Rattle.twins.proofs.Fingerprints.{passed-none, passed-four}
 use borrow.Author.Needs.{needs}
 use Rattle.twins.proofs.pass_fours.Statement.{statement}
 use Rattle.twins.proofs.pass_fours.Tie as tie
 
 abbrev Inv-loop : tie.InvT-loop
-Inv-loop marks q mark p₀ p = Passed marks q p
+Inv-loop fingerprints q fingerprint p₀ p = OthersPassed fingerprints q p
 
 abbrev μ-loop : tie.MeasureT-loop
-μ-loop marks q mark p₀ p = q - p
+μ-loop fingerprints q fingerprint p₀ p = q - p
 
-mul-mark : tie.Need-mul-mark Inv-loop μ-loop
-mul-mark c = search needs
+mul-fingerprint : tie.Need-mul-fingerprint Inv-loop μ-loop
+mul-fingerprint c = search needs
 
-shared-slice-read-mark : tie.Need-shared-slice-read-mark Inv-loop μ-loop
-shared-slice-read-mark c = search needs
+shared-slice-read-fingerprint : tie.Need-shared-slice-read-fingerprint Inv-loop μ-loop
+shared-slice-read-fingerprint c = search needs
 
 loop-holds : tie.Need-loop-holds Inv-loop μ-loop
 loop-holds c = passed-none
@@ -48,8 +48,8 @@ pass-fours-spec =
     (tie.spec
     Inv-loop
     μ-loop
-    mul-mark
-    shared-slice-read-mark
+    mul-fingerprint
+    shared-slice-read-fingerprint
     loop-holds
     add-loop
     among-four-requires

@@ -1,5 +1,5 @@
 -- `twins` meets its contract. Assumes nothing.
-use Rattle.twins.proofs.Marks.{marks-differ}
+use Rattle.twins.proofs.Fingerprints.{fingerprints-differ}
 use borrow.Author.Needs.{needs}
 use Rattle.twins.proofs.twins.Statement.{statement}
 use Rattle.twins.proofs.twins.Tie as tie
@@ -17,7 +17,7 @@ shared-slice-read-if1-2 : tie.Need-shared-slice-read-if1-2
 shared-slice-read-if1-2 c = search needs
 
 returns : tie.Need-returns
-returns c = marks-differ (c .before .before .before .before .before .pre .1 .1 .1 .0) (c .before .before .before .before .before .pre .1 .1 .1 .1) (c .if1 .taken)
+returns c = fingerprints-differ (c .before .before .before .before .before .pre .1 .1 .0) (c .before .before .before .before .before .pre .1 .1 .1) (c .if1 .taken)
 
 same-rows-requires : tie.Need-same-rows-requires
 same-rows-requires c κs = search needs

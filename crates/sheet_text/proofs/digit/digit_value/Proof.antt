@@ -3,7 +3,7 @@ use borrow.Author.Needs.{needs}
 use Prim.Native.Nat.{ℕ}
 use mathlib.Core.List.{List, [], _∷_}
 use native.Mathlib.Omega.{arith}
-use Rattle.sheet_text.specs.Digit.{digitOf}
+use Rattle.sheet_text.specs.inner.Digit.{digitOf}
 use Rattle.sheet_text.proofs.Table.{table-entry}
 use Rattle.sheet_text.proofs.digit.digit_value.Statement.{statement}
 use Rattle.sheet_text.proofs.digit.digit_value.Tie as tie

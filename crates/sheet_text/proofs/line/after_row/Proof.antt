@@ -1,7 +1,7 @@
 use borrow.Author.Needs.{needs}
 use mathlib.Core.Path.{sym, ap, _∙_}
 use denote.Ref.{now}
-use Rattle.sheet_text.specs.Line.{entryIn}
+use Rattle.sheet_text.specs.inner.Line.{entryIn}
 use Rattle.sheet_text.proofs.EntrySteps.{row-column, row-no-column}
 use Rattle.sheet_text.proofs.NextLaws.{number-next, number-not}
 use Rattle.sheet_text.proofs.line.after_row.Statement.{statement}

@@ -4,7 +4,7 @@ use Prim.Native.Nat.{_+_}
 use native.Mathlib.Omega.{arith}
 use denote.Ref.{now}
 use Rattle.sheet_text.specs.Text.{bytes}
-use Rattle.sheet_text.specs.Line.{entryIn}
+use Rattle.sheet_text.specs.inner.Line.{entryIn}
 use Rattle.sheet_text.proofs.Steps.{word-fits}
 use Rattle.sheet_text.proofs.EntrySteps.{entry-row, entry-no-row, entry-no-word}
 use Rattle.sheet_text.proofs.NextLaws.{number-next, number-not}

@@ -2,7 +2,7 @@ use borrow.Author.Needs.{needs}
 use mathlib.Core.Path.{sym, ap, _∙_}
 use native.Mathlib.Omega.{arith}
 use denote.Ref.{now}
-use Rattle.sheet_text.specs.Line.{numberIn}
+use Rattle.sheet_text.specs.inner.Line.{numberIn}
 use Rattle.sheet_text.proofs.Steps.{word-fits, number-after, no-word}
 use Rattle.sheet_text.proofs.line.number_line.Statement.{statement}
 use Rattle.sheet_text.proofs.line.number_line.Tie as tie

@@ -7,8 +7,8 @@ use mathlib.Core.List.{List}
 use lib.Dec.{lit≤}
 use lib.ListN.{drop}
 use denote.Ref.{now}
-use Rattle.sheet_text.specs.Parse.{bits, hexDigits}
-use Rattle.sheet_text.specs.Line.{bitsIn}
+use Rattle.sheet_text.specs.inner.Parse.{bits, hexDigits}
+use Rattle.sheet_text.specs.inner.Line.{bitsIn}
 use Rattle.sheet_text.proofs.Steps.{HexRoom, hex-fits, hex-room, hex-end, hex-other, hex-more, line-short, line-ends, line-goes-on}
 use Rattle.sheet_text.proofs.NextLaws.{bits-are}
 use Rattle.sheet_text.proofs.line.read_bits.Statement.{statement}

@@ -6,8 +6,8 @@ use Prim.Native.Nat.{ℕ, _-_, _<_}
 use mathlib.Core.List.{List}
 use lib.ListN.{length, drop}
 use denote.Ref.{now}
-use Rattle.sheet_text.specs.Parse.{digits}
-use Rattle.sheet_text.specs.Line.{numberIn}
+use Rattle.sheet_text.specs.inner.Parse.{digits}
+use Rattle.sheet_text.specs.inner.Line.{numberIn}
 use Rattle.sheet_text.proofs.Steps.{digits-end, digits-stop, digits-zero, digits-long, digits-other, digits-more}
 use Rattle.sheet_text.proofs.NextLaws.{number-is}
 use Rattle.sheet_text.proofs.line.read_digits.Statement.{statement}

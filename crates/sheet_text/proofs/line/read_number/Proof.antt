@@ -2,7 +2,7 @@ use borrow.Author.Needs.{needs}
 use mathlib.Core.Path.{sym, ap, _∙_}
 use native.Mathlib.Omega.{arith}
 use denote.Ref.{now}
-use Rattle.sheet_text.specs.Line.{numberIn}
+use Rattle.sheet_text.specs.inner.Line.{numberIn}
 use Rattle.sheet_text.proofs.Steps.{number-end, number-other, number-first}
 use Rattle.sheet_text.proofs.line.read_number.Statement.{statement}
 use Rattle.sheet_text.proofs.line.read_number.Tie as tie

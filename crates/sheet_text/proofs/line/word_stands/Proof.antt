@@ -4,7 +4,7 @@ use mathlib.Core.Path.{_≡_, refl, sym, _∙_}
 use Prim.Native.Nat.{_-_}
 use lib.ListN.{length, drop}
 use denote.Ref.{now}
-use Rattle.sheet_text.specs.Parse.{startsWith}
+use Rattle.sheet_text.specs.inner.Parse.{startsWith}
 use Rattle.sheet_text.proofs.Steps.{word-ends, word-differs, word-more, word-all}
 use Rattle.sheet_text.proofs.line.word_stands.Statement.{statement}
 use Rattle.sheet_text.proofs.line.word_stands.Tie as tie

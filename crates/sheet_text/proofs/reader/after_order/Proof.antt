@@ -4,7 +4,7 @@ use native.Mathlib.Omega.{arith}
 use lib.ListN.{drop}
 use denote.Ref.{now}
 use Rattle.sheet_text.specs.declared.reader.Sheet.{Sheet}
-use Rattle.sheet_text.specs.Read.{Taken, outcome}
+use Rattle.sheet_text.specs.inner.Read.{Taken, outcome}
 use Rattle.sheet_text.proofs.ReadSteps.{order-zero, order-large, order-right, after-entries, count-small}
 use Rattle.sheet_text.proofs.reader.after_order.Statement.{statement}
 use Rattle.sheet_text.proofs.reader.after_order.Tie as tie

@@ -1,7 +1,7 @@
 use borrow.Author.Needs.{needs}
 use mathlib.Core.Path.{sym, ap, _∙_}
 use denote.Ref.{now}
-use Rattle.sheet_text.specs.Line.{bitsIn}
+use Rattle.sheet_text.specs.inner.Line.{bitsIn}
 use Rattle.sheet_text.proofs.EntrySteps.{place-missing, other-row, other-column, in-place}
 use Rattle.sheet_text.proofs.NextLaws.{entry-next, entry-not, bits-are}
 use Rattle.sheet_text.proofs.reader.entry_at.Statement.{statement}

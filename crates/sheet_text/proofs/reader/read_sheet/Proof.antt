@@ -2,7 +2,7 @@ use borrow.Author.Needs.{needs}
 use mathlib.Core.Path.{sym, ap, _∙_}
 use denote.Ref.{now}
 use Rattle.sheet_text.specs.declared.reader.Sheet.{Sheet}
-use Rattle.sheet_text.specs.Read.{outcome}
+use Rattle.sheet_text.specs.inner.Read.{outcome}
 use Rattle.sheet_text.proofs.ReadSteps.{read-order, read-no-order}
 use Rattle.sheet_text.proofs.NextLaws.{line-next, number-not}
 use Rattle.sheet_text.proofs.SheetSound.{reads-by}

@@ -9,7 +9,7 @@ use Rattle.sheet_text.specs.declared.line.Bits.the-variants as B
 use Rattle.sheet_text.specs.declared.line.Entry.{Entry}
 use Rattle.sheet_text.specs.declared.line.EntryLine.{EntryLine}
 use Rattle.sheet_text.specs.declared.line.EntryLine.the-variants as E
-use Rattle.sheet_text.specs.Parse.{Parse, found, missing}
+use Rattle.sheet_text.specs.inner.Parse.{Parse, found, missing}
 
 -- the text that is left is the end of s
 abbrev pub restAt : List ℕ → List ℕ → ℕ

@@ -1,4 +1,4 @@
--- How far rounding moves a fraction, and the operations by fractions that their operands equal, over the format. Assumes nothing.
+-- Floats as fractions, over the format: how far rounding moves one, and the operations by fractions that their operands equal. Assumes nothing.
 use mathlib.Core.Path.{_≡_, refl, sym, ap, _∙_, subst}
 use mathlib.Core.Bool.{Bool, true, false, true≢false, not, cond}
 use mathlib.Core.Logic.{_⊎_, inl, inr, ⊎-elim}
@@ -27,28 +27,28 @@ pub record Near (d x y : ℕ) : Type 0 where
   pub under : d * y ≤ d * x + y
 
 -- n is a / b up to a half
-pub record Half (a b n : ℕ) : Type 0 where
+pub record WithinHalf (a b n : ℕ) : Type 0 where
   pub above : 2 * (n * b) ≤ 2 * a + b
   pub under : 2 * a ≤ 2 * (n * b) + b
 
-half-of : (a b q r n : ℕ) → q * b + r ≡ a → r < b → q ≤ n → n ≤ q + 1 → (n ≡ q → r * 2 ≤ b) → (n ≡ q + 1 → b ≤ r * 2) → Half a b n
+half-of : (a b q r n : ℕ) → q * b + r ≡ a → r < b → q ≤ n → n ≤ q + 1 → (n ≡ q → r * 2 ≤ b) → (n ≡ q + 1 → b ≤ r * 2) → WithinHalf a b n
 half-of a b q r n whole rest least most down up = go (eq-or-lt-of-le least)
   where
-    go : (q ≡ n) ⊎ (q < n) → Half a b n
-    go (inl e) = let s : r * 2 ≤ b = down (sym e) in subst (Half a b) e (record { above = omega arith; under = omega arith })
-    go (inr l) = let e : q + 1 ≡ n = omega arith in let s : b ≤ r * 2 = up (sym e) in subst (Half a b) e (record { above = omega arith; under = omega arith })
+    go : (q ≡ n) ⊎ (q < n) → WithinHalf a b n
+    go (inl e) = let s : r * 2 ≤ b = down (sym e) in subst (WithinHalf a b) e (record { above = omega arith; under = omega arith })
+    go (inr l) = let e : q + 1 ≡ n = omega arith in let s : b ≤ r * 2 = up (sym e) in subst (WithinHalf a b) e (record { above = omega arith; under = omega arith })
 
-closest-half : (a b : ℕ) → 0 < b → Half a b (closest a b)
+closest-half : (a b : ℕ) → 0 < b → WithinHalf a b (closest a b)
 closest-half a b B = go (compare (a % b * 2) b) (leb→le (a % b * 2) b) (nleb→lt (a % b * 2) b) (eqb→eq (a % b * 2) b)
   where
-    go : (o : Ordering) → (T (isLe o) → a % b * 2 ≤ b) → (T (not (isLe o)) → b < a % b * 2) → (T (isEq o) → a % b * 2 ≡ b) → Half a b (nearest (a / b) o)
+    go : (o : Ordering) → (T (isLe o) → a % b * 2 ≤ b) → (T (not (isLe o)) → b < a % b * 2) → (T (isEq o) → a % b * 2 ≡ b) → WithinHalf a b (nearest (a / b) o)
     go Ordering·lt small large tie = half-of a b (a / b) (a % b) (a / b) (div-add-mod' a b) (mod-lt a B) (omega arith) (omega arith) (λ e. small tt) (λ e. absurd (omega arith))
     go Ordering·eq small large tie =
         half-of a b (a / b) (a % b) (a / b + a / b % 2) (div-add-mod' a b) (mod-lt a B) (omega arith) (omega arith) (λ e. small tt) (λ e. le-of-eq (sym (tie tt)))
     go Ordering·gt small large tie =
         half-of a b (a / b) (a % b) (suc (a / b)) (div-add-mod' a b) (mod-lt a B) (omega arith) (omega arith) (λ e. absurd (omega arith)) (λ e. le-of-lt (large tt))
 
-near-of : (j q e n : ℕ) → Half n e q → j * e ≤ n → Near (j * 2) (q * e) n
+near-of : (j q e n : ℕ) → WithinHalf n e q → j * e ≤ n → Near (j * 2) (q * e) n
 near-of j q e n h small =
     let more : j * (2 * (q * e)) ≤ j * (2 * n + e) = mul-le-mul-left j (h .above) in
     let less : j * (2 * n) ≤ j * (2 * (q * e) + e) = mul-le-mul-left j (h .under) in
@@ -66,17 +66,17 @@ module _ (f : Format) (a c : ℕ) (C : 0 < c) where
   power = let p : suc (prec f - 1) ≡ prec f = omega (arith, two f) in sym (pow-suc 2 (prec f - 1)) ∙ ap (λ (i : ℕ). 2 ^ i) p
 
   -- to the nearest whole number, or moved by a share of 2 ^ -prec at most
-  pub round-off : Half n c (grid f a c) ⊎ Near (2 ^ prec f) (grid f a c * c) n
+  pub round-off : WithinHalf n c (grid f a c) ⊎ Near (2 ^ prec f) (grid f a c * c) n
   round-off = go (drop (prec f) n c) refl
     where
       at : ℕ → ℕ
       at k = closest n (c * 2 ^ k)
 
-      half-at : (k : ℕ) → Half n (c * 2 ^ k) (at k)
+      half-at : (k : ℕ) → WithinHalf n (c * 2 ^ k) (at k)
       half-at k = closest-half n (c * 2 ^ k) (mul-pos C (pow-pos k))
 
-      go : (k : ℕ) → drop (prec f) n c ≡ k → Half n c (grid f a c) ⊎ Near (2 ^ prec f) (grid f a c * c) n
-      go zero e = inl (subst (λ (k : ℕ). Half n c (at k * 2 ^ k)) (sym e) (subst (Half n c) (sym (mul-one (at 0))) (subst (λ (u : ℕ). Half n u (at 0)) (mul-one c) (half-at 0))))
+      go : (k : ℕ) → drop (prec f) n c ≡ k → WithinHalf n c (grid f a c) ⊎ Near (2 ^ prec f) (grid f a c * c) n
+      go zero e = inl (subst (λ (k : ℕ). WithinHalf n c (at k * 2 ^ k)) (sym e) (subst (WithinHalf n c) (sym (mul-one (at 0))) (subst (λ (u : ℕ). WithinHalf n u (at 0)) (mul-one c) (half-at 0))))
       go (suc k) e =
           let reach : 2 ^ (prec f - 1 + suc k) * c ≤ n = le-div-iff-mul-le C .0 (size-reaches (n / c) (prec f - 1 + suc k) (omega (arith, two f))) in
           let split : half * (c * 2 ^ suc k) ≡ 2 ^ (prec f - 1 + suc k) * c = mul-left-comm half c (2 ^ suc k) ∙ mul-comm c (half * 2 ^ suc k) ∙ ap (λ (x : ℕ). x * c) (sym (pow-add 2 (prec f - 1) (suc k))) in

@@ -9,9 +9,9 @@ use Rattle.sheet_text.specs.declared.line.Entry.{Entry}
 use Rattle.sheet_text.specs.declared.place.Place.{Place}
 use Rattle.sheet_text.specs.declared.reader.Reached.{Reached}
 use Rattle.sheet_text.specs.declared.reader.Sheet.{Sheet}
-use Rattle.answer.specs.declared.Answer.the-variants.{Done, BadLine}
 use Rattle.sheet_text.specs.Text.{bytes}
-use Rattle.sheet_text.specs.Parse.{Parse, found, missing, andThen, entry, numberAfter}
+use Rattle.sheet_text.specs.Sheet.{rightAt, wrongAt}
+use Rattle.sheet_text.specs.inner.Parse.{Parse, found, missing, andThen, entry, numberAfter}
 use Rattle.sheet_text.specs.Place.{cell, places}
 
 -- an entry that stands where it should
@@ -43,11 +43,6 @@ abbrev pub takenBy : List ℕ → Reached → List Float → Taken
 takenBy s r a = taken (r .whole) (r .count) (drop (r .next) s) a
 
 -- ---- what the reader answers
-abbrev pub wrongAt : ℕ → Sheet
-wrongAt line = record { answer = BadLine line; order = 0 }
-
-abbrev pub rightAt : ℕ → Sheet
-rightAt n = record { answer = Done; order = n }
 
 abbrev pub whenFound : {A : Type 0} → Parse ℕ → (ℕ → List ℕ → A) → A → A
 whenFound (found v rest) f other = f v rest

@@ -5,7 +5,7 @@ use mathlib.Core.List.{List, [], _∷_}
 use lib.Dec.{eqb, ltb}
 use lib.ListN.{length, drop}
 use Rattle.sheet_text.specs.Text.{bytes, tab, lf}
-use Rattle.sheet_text.specs.Digit.{digitOf}
+use Rattle.sheet_text.specs.inner.Digit.{digitOf}
 use Rattle.sheet_text.specs.declared.line.Entry.{Entry}
 
 pub data Parse (A : Type 0) : Type 0 where
