@@ -19,15 +19,15 @@ use Rattle.lblt.specs.Factor.{firstState, finalState, recorded}
 use Rattle.lblt.specs.Interchange.{interchange, brought1, brought2}
 use Rattle.lblt.specs.Step.{stepped, step, take, pivot1, pivot2, firstMark}
 use Rattle.lblt.specs.Update.{rank1At, rank1, scaleAt, eliminate1, update1, blockBy, blockAt, multiplier, work1, work2, rank2At, rank2By, rank2, update2}
-use Rattle.lblt_column.specs.Blocks.{bySize, rowsOf, blocksFrom, forwards, blocksTo, backwards}
-use Rattle.lblt_column.specs.Column.{swapRows, lessOne, lessTwo, eliminateOne, eliminateTwo, forwardBlock, divideOne, blockDeterminant, divideTwo, divideBlock, lessProduct, gatherRow, backwardBlock, solveColumn}
-use Rattle.lblt_sides.specs.Columns.{eachColumn}
-use Rattle.lblt_solve.specs.Calls.{lowerOf, readerAnswer, solveAnswer}
-use Rattle.lblt_solve.specs.Diagonal.{timesBlock, determinantOf}
+use Rattle.pivots.specs.Blocks.{bySize, rowsOf, blocksFrom, forwards, blocksTo, backwards}
+use Rattle.matrix.specs.Columns.{eachColumn}
+use Rattle.substitution_one.specs.Steps.{lessOne, lessTwo, eliminateOne, eliminateTwo, divideOne, lessProduct, gatherRow}
+use Rattle.lblt_solve_one.specs.Column.{swapRows, forwardBlock, blockDeterminant, divideTwo, divideBlock, backwardBlock, solveColumn}
+use Rattle.lblt_read.specs.Diagonal.{timesBlock, determinantOf}
 use Rattle.cholesky.specs.Crate.{positive}
 use Rattle.cholesky.specs.Run.{factorColumns}
 use Rattle.cholesky.specs.Solve.{solveSides}
-use Rattle.cholesky_column.specs.Triangles.{solveTriangles}
+use Rattle.cholesky_solve_one.specs.Triangles.{solveTriangles}
 use Rattle.udu.specs.Columns.{uduDiagonal, uduEntry, withDiagonal, withColumn, nothing}
 use Rattle.udu.specs.Promise.{uduOf}
 use Rattle.cases.specs.Calls.{floats, bitsOf, Gives, Case, Hold, none, more}
@@ -47,7 +47,7 @@ hold [] e = none
 hold (c ∷ cs) e = more c cs (subst (Gives (c .call)) (ap (λ (l : List (List (List ℕ))). getD l 0 []) e) (gives (c .call))) (hold cs (ap (drop 1) e))
 
 computed : map foundIn (table ++ twinTable) ≡ map numbersIn (table ++ twinTable)
-unfolding tested sizeOf ofBits toBits le sub mul div isNan absOf maximumOf rootOf exchange for falling load mask lower upper square paired marked blockOf faultFrom checked choose choiceBy contest rowMax alongRow downColumn columnMax greater firstState finalState recorded interchange brought1 brought2 stepped step take pivot1 pivot2 firstMark rank1At rank1 scaleAt eliminate1 update1 blockBy blockAt multiplier work1 work2 rank2At rank2By rank2 update2 bySize rowsOf blocksFrom forwards blocksTo backwards lowerOf readerAnswer solveAnswer swapRows lessOne lessTwo eliminateOne eliminateTwo forwardBlock divideOne blockDeterminant divideTwo divideBlock lessProduct gatherRow backwardBlock solveColumn eachColumn timesBlock determinantOf positive factorColumns solveSides solveTriangles uduDiagonal uduEntry withDiagonal withColumn nothing uduOf floats bitsOf listed overlay overlaid lbltWords lbltSlice determinantNumbers solveNumbers choleskyAnswer choleskySlice choleskySolveNumbers uduNumbers
+unfolding tested sizeOf ofBits toBits le sub mul div isNan absOf maximumOf rootOf exchange for falling load mask lower upper square paired marked blockOf faultFrom checked choose choiceBy contest rowMax alongRow downColumn columnMax greater firstState finalState recorded interchange brought1 brought2 stepped step take pivot1 pivot2 firstMark rank1At rank1 scaleAt eliminate1 update1 blockBy blockAt multiplier work1 work2 rank2At rank2By rank2 update2 bySize rowsOf blocksFrom forwards blocksTo backwards swapRows lessOne lessTwo eliminateOne eliminateTwo forwardBlock divideOne blockDeterminant divideTwo divideBlock lessProduct gatherRow backwardBlock solveColumn eachColumn timesBlock determinantOf positive factorColumns solveSides solveTriangles uduDiagonal uduEntry withDiagonal withColumn nothing uduOf floats bitsOf listed overlay overlaid lbltWords lbltSlice determinantNumbers solveNumbers choleskyAnswer choleskySlice choleskySolveNumbers uduNumbers
 computed = refl
 
 -- document 01's starred cases and those beside them, and twin rows

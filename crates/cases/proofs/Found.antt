@@ -20,10 +20,11 @@ use Rattle.matrix.proofs.Sizes.{done-fits}
 use Rattle.lblt.specs.Choice.{columnMax}
 use Rattle.lblt.specs.Factor.{factorTests, finalState, recorded, Factored}
 use Rattle.lblt.proofs.Done.{Same}
-use Rattle.lblt_column.specs.Column.{solveColumn}
-use Rattle.lblt_sides.specs.Columns.{eachColumn}
-use Rattle.lblt_solve.specs.Diagonal.{determinantOf}
-use Rattle.lblt_solve.specs.Calls.{lowerOf, readerAnswer, solveAnswer, Solved, Determined}
+use Rattle.matrix.specs.Columns.{eachColumn}
+use Rattle.lblt_solve_one.specs.Column.{solveColumn}
+use Rattle.lblt_read.specs.Diagonal.{determinantOf}
+use Rattle.lblt_read.specs.Calls.{readerTests, LbltDetermined}
+use Rattle.lblt_solve.specs.Solve.{solveTests, LbltSolved}
 use Rattle.cholesky.specs.Promise.{batch, Extended}
 use Rattle.cholesky.specs.Solve.{sidesTests, solveSides, CholeskySolved}
 use Rattle.udu.specs.Promise.{uduTests, uduOf, uduAnswer, factorsOf, UduFactored}
@@ -63,19 +64,19 @@ module _ (n : ℕ) (a : List Float) (words : List ℕ) where
 module _ (n : ℕ) (a : List Float) (words : List ℕ) where
   unfoldable pub determinantNumbers : List (List ℕ)
   determinantNumbers =
-      let r = readerAnswer n n a words a in
-      answered r ∷ (toBits binary64 (cond (isDone r) (determinantOf n (lowerOf n a) words) plusZero) ∷ []) ∷ []
+      let r = tested (readerTests (full n) a words) Done in
+      answered r ∷ (toBits binary64 (cond (isDone r) (determinantOf n (load (lower (full n)) a) words) plusZero) ∷ []) ∷ []
 
-  pub determines : {v : Valued} → Determined n a words v → (answered (v .answer) ∷ (toBits binary64 (v .value) ∷ []) ∷ []) ≡ determinantNumbers
+  pub determines : {v : Valued} → LbltDetermined (full n) a words v → (answered (v .answer) ∷ (toBits binary64 (v .value) ∷ []) ∷ []) ≡ determinantNumbers
   unfolding determinantNumbers
   determines d = rw (d .value, d .answer)
 
   unfoldable pub solveNumbers : List Float → List (List ℕ)
   solveNumbers b =
-      let r = solveAnswer n 1 a words b in
-      answered r ∷ bitsOf (cond (isDone r) (eachColumn n 1 (solveColumn n (lowerOf n a) words) b) b) ∷ []
+      let r = tested (solveTests (full n) 1 a words b) Done in
+      answered r ∷ bitsOf (cond (isDone r) (eachColumn n 1 (solveColumn n (load (lower (full n)) a) words) b) b) ∷ []
 
-  pub solves : {b b' : List Float} {r : Answer} → Solved n 1 a words b r b' → (answered r ∷ bitsOf b' ∷ []) ≡ solveNumbers b
+  pub solves : {b b' : List Float} {r : Answer} → LbltSolved (full n) 1 a words b r b' → (answered r ∷ bitsOf b' ∷ []) ≡ solveNumbers b
   unfolding solveNumbers
   solves s = rw (s .sides, s .answer)
 
@@ -154,11 +155,11 @@ pub gives : (c : Call) → Gives c (found c)
 gives (lbltFactor n a) = λ r a' words f. let g = factors n (floats a) (lentWords n) f in rw (g .answer, g .pivots, g .matrix)
 gives (lbltDeterminant n a) = λ r a' words v f d.
     let g = factors n (floats a) (lentWords n) f in
-    let by : Determined n (leftSlice n a) (leftWords n a) v = rw (g .matrix, g .pivots) at d in
+    let by : LbltDetermined (full n) (leftSlice n a) (leftWords n a) v = rw (g .matrix, g .pivots) at d in
     determines n (leftSlice n a) (leftWords n a) by
 gives (lbltSolve n a b) = λ r s a' b' words f d.
     let g = factors n (floats a) (lentWords n) f in
-    let by : Solved n 1 (leftSlice n a) (leftWords n a) (floats b) s b' = rw (g .matrix, g .pivots) at d in
+    let by : LbltSolved (full n) 1 (leftSlice n a) (leftWords n a) (floats b) s b' = rw (g .matrix, g .pivots) at d in
     solves n (leftSlice n a) (leftWords n a) by
 gives (lbltLargest n a k) = λ r e. rw e
 gives (choleskyFactor room n a) = λ r l f. let g = extends room n (floats a) f in rw (g .0, g .1)

@@ -15,7 +15,8 @@ use Rattle.pivots.specs.Words.{wordsOf}
 use Rattle.lblt.specs.declared.choice.Largest.{Largest}
 use Rattle.lblt.specs.Choice.{columnMax}
 use Rattle.lblt.specs.Factor.{Factored}
-use Rattle.lblt_solve.specs.Calls.{Solved, Determined}
+use Rattle.lblt_read.specs.Calls.{LbltDetermined}
+use Rattle.lblt_solve.specs.Solve.{LbltSolved}
 use Rattle.cholesky.specs.Promise.{Extended}
 use Rattle.cholesky.specs.Solve.{CholeskySolved}
 use Rattle.udu.specs.Promise.{UduFactored}
@@ -61,11 +62,11 @@ Gives (lbltFactor n a) numbers =
     → (answered r ∷ words ∷ bitsOf a' ∷ []) ≡ numbers
 -- by what the factor leaves: the answer, the value
 Gives (lbltDeterminant n a) numbers =
-    (r : Answer) (a' : List Float) (words : List ℕ) (v : Valued) → Factored (full n) (floats a) (lentWords n) r a' words → Determined n a' words v
+    (r : Answer) (a' : List Float) (words : List ℕ) (v : Valued) → Factored (full n) (floats a) (lentWords n) r a' words → LbltDetermined (full n) a' words v
     → (answered (v .answer) ∷ (toBits binary64 (v .value) ∷ []) ∷ []) ≡ numbers
 -- by what the factor leaves: the answer, the right-hand side
 Gives (lbltSolve n a b) numbers =
-    (r s : Answer) (a' b' : List Float) (words : List ℕ) → Factored (full n) (floats a) (lentWords n) r a' words → Solved n 1 a' words (floats b) s b'
+    (r s : Answer) (a' b' : List Float) (words : List ℕ) → Factored (full n) (floats a) (lentWords n) r a' words → LbltSolved (full n) 1 a' words (floats b) s b'
     → (answered s ∷ bitsOf b' ∷ []) ≡ numbers
 -- the row imax of column k
 Gives (lbltLargest n a k) numbers = (r : Largest) → r ≡ columnMax n (load (lower (full n)) (floats a)) k → ((r .imax ∷ []) ∷ []) ≡ numbers

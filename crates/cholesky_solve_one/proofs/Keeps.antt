@@ -1,9 +1,7 @@
 -- A column keeps its length through every step of `solveTriangles`.
-use mathlib.Core.List.{List}
-use mathlib.Core.Path.{_≡_, _∙_}
+use mathlib.Core.Path.{_∙_}
 use Prim.Native.Nat.{ℕ, _+_}
-use lib.Ieee.{Float}
-use lib.ListN.{length, length-set}
+use lib.ListN.{length-set}
 use Rattle.matrix.specs.Matrix.{Matrix}
 use Rattle.substitution_one.specs.Steps.{lessOne}
 use Rattle.matrix.proofs.ColumnsLoops.{Keeping, Keeps, sinking, falling-uniform, loop-keeps, for-long}

@@ -134,3 +134,12 @@ columns-done y columns a words b done =
 -- no test of a reader answers that all is done
 pub columns-refuse : (y : Layout) (columns : ℕ) (a : List Float) (words : List ℕ) (b : List Float) → Refusals (columnTests y columns a words b)
 columns-refuse y columns a words b = (refl, (refl, (refl, (refl, (refl, (refl, (refl, (refl, (refl, (refl, (refl, tt)))))))))))
+
+-- and the other way
+pub reads-done : (y : Layout) (a : List Float) (words : List ℕ) → Fits y 0 (length a) → Accepted (y .order) words → isDone (tested (readerTests y a words) Done) ≡ true
+reads-done y a words fits accepted =
+    ap isDone
+    (tested-join (sizeTests y 0 (length a)) (wordTests (y .order) words) Done
+    ∙ fits-pass y 0 (length a) fits (tested (wordTests (y .order) words) Done)
+    ∙ sym (record-long (y .order) words (accepted .sized .total)))
+    ∙ accepted .done

@@ -1,7 +1,7 @@
 -- What the readers of an LBLT factor answer and leave behind, refused ones too. a is to be a slice of the layout y, `words` the record of its order;
 -- the calls' layout is `full n`.
 use mathlib.Core.Bool.{cond}
-use mathlib.Core.List.{List, [], _∷_, _++_}
+use mathlib.Core.List.{List, _∷_, _++_}
 use mathlib.Core.Path.{_≡_}
 use Prim.Native.Nat.{ℕ, _*_}
 use lib.Dec.{eqb, leb}

@@ -21,9 +21,9 @@ use Rattle.pivots.specs.Rule.{checked}
 use Rattle.lblt.specs.Factor.{factorTests, finalState, recorded, Stored}
 use Rattle.lblt.proofs.Done.{all-right}
 use Rattle.lblt.proofs.Accepted.{accepted}
-use Rattle.lblt_read.specs.Calls.{wordTests, readerTests, LbltDetermined}
+use Rattle.lblt_read.specs.Calls.{readerTests, LbltDetermined}
 use Rattle.lblt_read.specs.Diagonal.{determinantOf}
-use Rattle.lblt_read.proofs.Admitted.{record-long}
+use Rattle.lblt_read.proofs.Admitted.{reads-done}
 use Rattle.sheet_text.specs.Place.{places}
 use Rattle.sheet_text.proofs.EachPlace.{each-same, each-place}
 use Rattle.sheet_page.specs.Page.{matrixIn, bitsAt, bitsOf, pageLines, pageOf}
@@ -54,11 +54,11 @@ module _ (n : ℕ) (a : List Float) (words : List ℕ) (q : Square n a words) wh
     record-accepted = ap (λ (w : List ℕ). isDone (checked n w)) (s .pivots) ∙ accepted n (load (lower (full n)) a) words words-sized .done
 
     reader-done : isDone (tested (readerTests (full n) a′ words′) Done) ≡ true
+    unfolding sizeOf
     reader-done =
-        ap isDone
-        (fits-then (full n) 0 (length a′) (full-fits n (length a′) (omega (arith, q .small)) (long ∙ q .long)) (wordTests n words′) Done
-        ∙ sym (record-long n words′ (sized ∙ q .sized)))
-        ∙ record-accepted
+        reads-done (full n) a′ words′
+        (record { roomy = full-roomy n (omega (arith, q .small)); rising = omega arith; long = long ∙ q .long })
+        (record { sized = record { order = omega (arith, q .small); total = sized ∙ q .sized }; done = record-accepted })
 
     determinant-is : (v : Valued) → LbltDetermined (full n) a′ words′ v → v .value ≡ determinantOf n (finalState n (load (lower (full n)) a) words .matrix) (recorded n (load (lower (full n)) a) words)
     determinant-is v d =

@@ -1,62 +1,91 @@
 -- The places that the readers of an LBLT factor answer. Assumes nothing.
-use mathlib.Core.Bool.{true, false, _&&_, _||_}
-use mathlib.Core.List.{List}
-use mathlib.Core.Path.{_≡_, sym, subst}
+use mathlib.Core.Bool.{Bool, true, false}
+use mathlib.Core.List.{List, [], _∷_}
+use mathlib.Core.Path.{_≡_, refl, sym, subst}
 use Prim.Native.Nat.{ℕ, _-_, _*_, _≤_, _<_}
 use native.Mathlib.Omega.{arith}
-use borrow.Author.Tests.{ltb-true, ltb-false, eqb-false}
-use lib.Dec.{ltb, eqb}
+use borrow.Author.Tests.{leb-false, eqb-false}
+use lib.Dec.{leb, eqb}
 use lib.ListN.{length}
 use lib.Ieee.{Float}
 use Rattle.answer.specs.declared.Answer.{Answer}
-use Rattle.answer.specs.declared.Answer.the-variants.{Done, MatrixLength, SliceLength, BadRecord, ZeroMark}
+use Rattle.answer.specs.declared.Answer.the-variants.{Done, OutOfRange, SliceLength, BadRecord, ZeroMark}
 use Rattle.answer.specs.declared.Valued.{Valued}
 use Rattle.answer.specs.Number.{isDone}
+use Rattle.answer.specs.Refusals.{Test, _otherwise_, tested}
+use Rattle.answer.proofs.Tested.{tested-join, tested-all, tested-fixed, all-hold}
+use Rattle.answer.proofs.Within.{Within, within-none, within-test}
+use Rattle.matrix.specs.declared.Layout.{Layout}
 use Rattle.matrix.specs.Matrix.{Matrix}
+use Rattle.matrix.specs.Sizes.{sizeTests}
+use Rattle.matrix.proofs.Sizes.{sizes-within}
 use Rattle.pivots.specs.Words.{markAt, wordsOf}
-use Rattle.pivots.specs.Rule.{faultOf, soundMark, checked}
+use Rattle.pivots.specs.Rule.{faultOf, soundMark}
 use Rattle.pivots.proofs.Boundaries.{mark-row}
-use Rattle.lblt_solve.proofs.Admitted.{admitted}
-use Rattle.lblt_solve.specs.Calls.{readerAnswer, solveAnswer, Solved, Determined, Filled}
-use Rattle.urgyelpat.proofs.Within.{Within, within-none, within-test, left-false}
+use Rattle.lblt_read.specs.Calls.{wordTests, readerTests, columnTests, LbltDetermined, LbltFilled}
+use Rattle.lblt_read.proofs.Admitted.{columns-done, columns-refuse}
+use Rattle.lblt_solve.specs.Solve.{solveTests, LbltSolved}
 
-record-within : (n : ℕ) (words : List ℕ) → Within n (checked n words)
-unfolding checked
+-- the record's tests answer a row, or the order
+record-within : (n : ℕ) (words : List ℕ) → Within n (tested (wordTests n words) Done)
+unfolding tested
 record-within n words =
-    within-test n (ltb (faultOf n words) n) _ _ (λ e. let below : faultOf n words < n = ltb-true _ _ e in omega (arith, below))
-    (λ e. within-test n (soundMark n words) Done (BadRecord n) (λ f. within-none n) (λ f. omega arith))
+    within-test n (eqb (length words) (wordsOf n)) _ SliceLength
+    (λ e.
+    within-test n (leb n (faultOf n words)) _ (BadRecord (faultOf n words))
+    (λ f. within-test n (soundMark n words) Done (BadRecord n) (λ g. within-none n) (λ g. omega arith))
+    (λ f. let below : faultOf n words < n = leb-false _ _ f in omega (arith, below)))
+    (λ e. within-none n)
 
-order-small : (n columns : ℕ) → (ltb 1024 n || ltb 1024 columns) ≡ false → n ≤ 1024
-order-small n columns e = ltb-false 1024 n (left-false (ltb 1024 n) (ltb 1024 columns) e)
+reader-within : (y : Layout) (a : List Float) (words : List ℕ) → Within 1024 (tested (readerTests y a words) Done)
+reader-within y a words =
+    subst (Within 1024) (sym (tested-join (sizeTests y 0 (length a)) (wordTests (y .order) words) Done))
+    (sizes-within y 0 (length a) (tested (wordTests (y .order) words) Done) (record-within (y .order) words))
 
-reader-within : (n columns : ℕ) (a : List Float) (words : List ℕ) (other : List Float) → Within 1024 (readerAnswer n columns a words other)
-unfolding readerAnswer
-reader-within n columns a words other =
-    within-test 1024 (ltb 1024 n || ltb 1024 columns) _ _ (λ e. within-none 1024)
-    (λ e. within-test 1024 (eqb (length a) (n * n)) _ MatrixLength (λ f. within-test 1024 (eqb (length words) (wordsOf n) && eqb (length other) (n * columns)) (checked n words) SliceLength (λ g. of-record (order-small n columns e)) (λ g. within-none 1024)) (λ f. within-none 1024))
-  where
-    of-record : n ≤ 1024 → Within 1024 (checked n words)
-    of-record small = let at : Within n (checked n words) = record-within n words in omega (arith, at, small)
+module _ (y : Layout) (columns : ℕ) (a : List Float) (words : List ℕ) (b : List Float) where
+  sides-within : Within (y .order) (tested ((eqb (length b) (y .order * columns) otherwise SliceLength) ∷ wordTests (y .order) words) Done)
+  unfolding tested
+  sides-within =
+      within-test (y .order) (eqb (length b) (y .order * columns)) _ SliceLength (λ e. record-within (y .order) words) (λ e. within-none (y .order))
 
-solve-within : (n columns : ℕ) (a : List Float) (words : List ℕ) (b : List Float) → Within 1024 (solveAnswer n columns a words b)
-unfolding solveAnswer
-solve-within n columns a words b =
-    within-test 1024 (isDone (readerAnswer n columns a words b)) _ _
-    (λ e. within-test 1024 (eqb (markAt n words) 0) Done (ZeroMark (markAt n words - 1)) (λ f. within-none 1024) (λ f. marked e f))
-    (λ e. reader-within n columns a words b)
-  where
-    marked : isDone (readerAnswer n columns a words b) ≡ true → eqb (markAt n words) 0 ≡ false → Within 1024 (ZeroMark (markAt n words - 1))
-    marked e f =
-        let m = admitted n columns a words b e in
-        let row : markAt n words ≤ n = mark-row (m .accepted) (eqb-false _ _ f) .row in
-        let small : n ≤ 1024 = m .order in
-        omega (arith, row, small)
+  columns-within : Within 1024 (tested (columnTests y columns a words b) Done)
+  unfolding tested
+  columns-within =
+      within-test 1024 (leb columns 1024) _ OutOfRange
+      (λ e.
+      subst (Within 1024) (sym (tested-join (sizeTests y 0 (length a)) ((eqb (length b) (y .order * columns) otherwise SliceLength) ∷ wordTests (y .order) words) Done))
+      (sizes-within y 0 (length a) _ sides-within))
+      (λ e. within-none 1024)
 
-pub solved-within : {n columns : ℕ} {a : List Float} {words : List ℕ} {b b' : List Float} {r : Answer} → Solved n columns a words b r b' → Within 1024 r
-solved-within {n} {columns} {a} {words} {b} x = subst (Within 1024) (sym (x .answer)) (solve-within n columns a words b)
+  mark : Test
+  mark = eqb (markAt (y .order) words) 0 otherwise ZeroMark (markAt (y .order) words - 1)
 
-pub determined-within : {n : ℕ} {a : List Float} {words : List ℕ} {r : Valued} → Determined n a words r → Within 1024 (r .answer)
-determined-within {n} {a} {words} x = subst (Within 1024) (sym (x .answer)) (reader-within n n a words a)
+  mark-within : isDone (tested (columnTests y columns a words b) Done) ≡ true → Within 1024 (tested (mark ∷ []) Done)
+  unfolding tested mark
+  mark-within done =
+      within-test 1024 (eqb (markAt (y .order) words) 0) Done (ZeroMark (markAt (y .order) words - 1)) (λ e. within-none 1024)
+      (λ e.
+      let known = columns-done y columns a words b done in
+      let row : markAt (y .order) words ≤ y .order = mark-row (known .readable .accepted) (eqb-false _ _ e) .row in
+      let small : y .order ≤ 1024 = known .readable .accepted .sized .order in
+      omega (arith, row, small))
 
-pub filled-within : {n : ℕ} {a : List Float} {words : List ℕ} {M : Matrix} {l l' : List Float} {r : Answer} → Filled n a words M l r l' → Within 1024 r
-filled-within {n} {a} {words} {l = l} x = subst (Within 1024) (sym (x .answer)) (reader-within n n a words l)
+  solve-within : Within 1024 (tested (solveTests y columns a words b) Done)
+  unfolding mark
+  solve-within = subst (Within 1024) (sym (tested-join (columnTests y columns a words b) (mark ∷ []) Done)) (by (isDone (tested (columnTests y columns a words b) Done)) refl)
+    where
+      by : (t : Bool) → isDone (tested (columnTests y columns a words b) Done) ≡ t → Within 1024 (tested (columnTests y columns a words b) (tested (mark ∷ []) Done))
+      by true e =
+          subst (Within 1024)
+          (sym (tested-all (columnTests y columns a words b) (tested (mark ∷ []) Done) (all-hold (columnTests y columns a words b) Done (columns-refuse y columns a words b) e .0)))
+          (mark-within e)
+      by false e = subst (Within 1024) (sym (tested-fixed (columnTests y columns a words b) (tested (mark ∷ []) Done) e)) columns-within
+
+pub solved-within : {y : Layout} {columns : ℕ} {a : List Float} {words : List ℕ} {b b' : List Float} {r : Answer} → LbltSolved y columns a words b r b' → Within 1024 r
+solved-within {y} {columns} {a} {words} {b} x = subst (Within 1024) (sym (x .answer)) (solve-within y columns a words b)
+
+pub determined-within : {y : Layout} {a : List Float} {words : List ℕ} {r : Valued} → LbltDetermined y a words r → Within 1024 (r .answer)
+determined-within {y} {a} {words} x = subst (Within 1024) (sym (x .answer)) (reader-within y a words)
+
+pub filled-within : {y : Layout} {a : List Float} {words : List ℕ} {M : Matrix} {l l' : List Float} {r : Answer} → LbltFilled y a words M l r l' → Within 1024 r
+filled-within {y} {a} {words} {l = l} x = subst (Within 1024) (sym (x .answer)) (columns-within y (y .order) a words l)

@@ -6,7 +6,8 @@ use lib.Ieee.{Float}
 use Rattle.answer.specs.declared.Answer.{Answer}
 use Rattle.answer.specs.declared.Valued.{Valued}
 use Rattle.lblt.proofs.Done as lblt
-use Rattle.lblt_solve.proofs.Once.{solved-once, determined-once, filled-once}
+use Rattle.lblt_read.proofs.Once.{determined-once, filled-once}
+use Rattle.lblt_solve.proofs.Once.{solved-once}
 use Rattle.cholesky.proofs.Promises.{extended-unique}
 use Rattle.cholesky.proofs.SolvePromises.{solved-unique}
 use Rattle.cholesky.proofs.ReaderPromises.{determined-unique, copied-unique, unpacked-unique}

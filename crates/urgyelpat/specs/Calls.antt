@@ -4,11 +4,13 @@ use Prim.Native.Nat.{ℕ}
 use lib.Ieee.{Float}
 use Rattle.answer.specs.declared.Answer.{Answer}
 use Rattle.answer.specs.Number.{numberOf}
-use Rattle.matrix.specs.Layouts.{full, inRoom}
+use Rattle.matrix.specs.Grid.{load}
+use Rattle.matrix.specs.Layouts.{full, inRoom, lower}
 use Rattle.lblt.specs.Factor as lblt
-use Rattle.lblt_solve.specs.Calls as readers
-use Rattle.lblt_solve.specs.Diagonal.{dOf}
-use Rattle.lblt_solve.specs.Permuted.{lPermutedOf}
+use Rattle.lblt_read.specs.Calls.{LbltDetermined, LbltFilled}
+use Rattle.lblt_read.specs.Diagonal.{dOf}
+use Rattle.lblt_read.specs.Permuted.{lPermutedOf}
+use Rattle.lblt_solve.specs.Solve.{LbltSolved}
 use Rattle.cholesky.specs.Promise.{Extended}
 use Rattle.cholesky.specs.Readers.{Copied, Unpacked, CholeskyDetermined}
 use Rattle.cholesky.specs.Solve.{CholeskySolved}
@@ -24,16 +26,16 @@ abbrev pub LbltFactor : ℕ → List Float → List ℕ → ℕ → List Float �
 LbltFactor n a words r a' words' = Passed numberOf (λ (answer : Answer). lblt.Factored (full n) a words answer a' words') r
 
 abbrev pub LbltSolve : ℕ → ℕ → List Float → List ℕ → List Float → ℕ → List Float → Type 0
-LbltSolve n columns a words b r b' = Passed numberOf (λ (answer : Answer). readers.Solved n columns a words b answer b') r
+LbltSolve n columns a words b r b' = Passed numberOf (λ (answer : Answer). LbltSolved (full n) columns a words b answer b') r
 
 abbrev pub LbltDeterminant : ℕ → List Float → List ℕ → Determined → Type 0
-LbltDeterminant n a words r = Passed determinedOf (readers.Determined n a words) r
+LbltDeterminant n a words r = Passed determinedOf (LbltDetermined (full n) a words) r
 
 abbrev pub LbltD : ℕ → List Float → List ℕ → List Float → ℕ → List Float → Type 0
-LbltD n a words d r d' = Passed numberOf (λ (answer : Answer). readers.Filled n a words (dOf n (readers.lowerOf n a) words) d answer d') r
+LbltD n a words d r d' = Passed numberOf (λ (answer : Answer). LbltFilled (full n) a words (dOf n (load (lower (full n)) a) words) d answer d') r
 
 abbrev pub LbltLPermuted : ℕ → List Float → List ℕ → List Float → ℕ → List Float → Type 0
-LbltLPermuted n a words l r l' = Passed numberOf (λ (answer : Answer). readers.Filled n a words (lPermutedOf n (readers.lowerOf n a) words) l answer l') r
+LbltLPermuted n a words l r l' = Passed numberOf (λ (answer : Answer). LbltFilled (full n) a words (lPermutedOf n (load (lower (full n)) a) words) l answer l') r
 
 -- ---- Cholesky
 

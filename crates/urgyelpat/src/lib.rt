@@ -47,14 +47,14 @@ pub extern "C" fn urgyelpat_lblt_solve(
 pub extern "C" fn urgyelpat_lblt_determinant(a: &[f64], record: &[u32], n: usize) -> Determined
     ensures { λ r. ⌜ LbltDeterminant n (now (a .entry)) (now («record» .entry)) r ⌝ }
 {
-    numbered(lblt_solve::determinant(a, record, n))
+    numbered(lblt_read::determinant(a, record, n))
 }
 
 #[no_mangle]
 pub extern "C" fn urgyelpat_lblt_d(a: &[f64], record: &[u32], d: &mut [f64], n: usize) -> u64
     ensures { λ r. ⌜ LbltD n (now (a .entry)) (now («record» .entry)) (now (d .entry)) r (now (d .exit)) ⌝ }
 {
-    lblt_solve::d(a, record, d, n).number()
+    lblt_read::d(a, record, d, n).number()
 }
 
 #[no_mangle]
@@ -66,7 +66,7 @@ pub extern "C" fn urgyelpat_lblt_l_permuted(
 ) -> u64
     ensures { λ r. ⌜ LbltLPermuted n (now (a .entry)) (now («record» .entry)) (now (l .entry)) r (now (l .exit)) ⌝ }
 {
-    lblt_solve::l_permuted(a, record, l, n).number()
+    lblt_read::l_permuted(a, record, l, n).number()
 }
 
 #[no_mangle]
