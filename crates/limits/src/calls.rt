@@ -21,7 +21,8 @@ pub enum Call {
 }
 
 impl Call {
-    pub fn print_name(self) {
+    // Whether it could be written.
+    pub fn print_name(self) -> bool {
         match self {
             Call::LbltFactor => io::write_all(1, b"lblt_factor"),
             Call::LbltSolve => io::write_all(1, b"lblt_solve"),
@@ -37,7 +38,7 @@ impl Call {
             Call::UduFactor => io::write_all(1, b"udu_factor"),
             Call::FirstTwin => io::write_all(1, b"first_twin"),
             Call::FirstTwinSince => io::write_all(1, b"first_twin_since"),
-        };
+        }
     }
 
     // The code that the call answers, by those of these sizes that it takes.

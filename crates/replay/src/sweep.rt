@@ -21,9 +21,6 @@ const CALLS_OF_CHOLESKY: [u64; 5] = [7, 6, 10, 8, 9];
 
 const CALLS_OF_TWINS: [u64; 5] = [12, 13, 0, 0, 0];
 
-// No register.
-const NONE: u64 = 4;
-
 // What stands at first where a call only writes.
 const FILLED: u64 = 0x5a5a_0000_0000_0000;
 
@@ -186,37 +183,19 @@ fn given(
 }
 
 fn given_a(held: usize, which: u64, x: u64, y: u64, z: u64, a: &mut [f64]) -> usize {
-    if which == 11 {
-        return four(a, x, FILLED + 1, y, z);
-    }
-    if takes_lower(which) {
-        return four(a, x, y, FILLED + 2, z);
-    }
-    held
-}
-
-fn takes_lower(which: u64) -> bool {
     match which {
-        1 | 6 | 7 | 12 | 14 => true,
-        _ => false,
-    }
-}
-
-fn given_b(held: usize, which: u64, x: u64, y: u64, z: u64, b: &mut [f64]) -> usize {
-    if fills_b(which) {
-        return four(b, FILLED, FILLED + 1, FILLED + 2, FILLED + 3);
-    }
-    match which {
-        2 => two(b, y, z),
-        14 => four_times(b, x, y, z),
+        1 | 6 | 7 | 12 | 14 => four(a, x, y, FILLED + 2, z),
+        11 => four(a, x, FILLED + 1, y, z),
         _ => held,
     }
 }
 
-fn fills_b(which: u64) -> bool {
+fn given_b(held: usize, which: u64, x: u64, y: u64, z: u64, b: &mut [f64]) -> usize {
     match which {
-        4 | 5 | 8 | 11 => true,
-        _ => false,
+        2 => two(b, y, z),
+        4 | 5 | 8 | 11 => four(b, FILLED, FILLED + 1, FILLED + 2, FILLED + 3),
+        14 => four_times(b, x, y, z),
+        _ => held,
     }
 }
 
@@ -311,30 +290,16 @@ fn further(which: u64) -> usize {
 
 // The registers that a call may write go into the digest.
 fn left(s: State, which: u64, a: &[f64], b: &[f64], c: &[f64], r: &[u32]) -> State {
-    let t = digested(s, first_written(which), a, b, c, r);
-    digested(t, second_written(which), a, b, c, r)
-}
-
-fn first_written(which: u64) -> u64 {
     match which {
-        1 | 6 | 7 | 9 => A,
-        2 | 4 | 5 | 8 | 11 | 14 => B,
-        _ => NONE,
-    }
-}
-
-fn second_written(which: u64) -> u64 {
-    match which {
-        1 => R,
-        11 => C,
-        _ => NONE,
+        1 => digested(digested(s, A, a, b, c, r), R, a, b, c, r),
+        11 => digested(digested(s, B, a, b, c, r), C, a, b, c, r),
+        6 | 7 | 9 => digested(s, A, a, b, c, r),
+        2 | 4 | 5 | 8 | 14 => digested(s, B, a, b, c, r),
+        _ => s,
     }
 }
 
 fn digested(s: State, which: u64, a: &[f64], b: &[f64], c: &[f64], r: &[u32]) -> State {
-    if which == NONE {
-        return s;
-    }
     let mut s = s;
     let h = digest(s.digest, s.held(which), which, a, b, c, r);
     s.digest = h;

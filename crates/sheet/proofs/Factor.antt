@@ -14,7 +14,7 @@ use Rattle.matrix.specs.Matrix.{Matrix}
 use Rattle.matrix.specs.Grid.{load}
 use Rattle.matrix.specs.Layouts.{full, startOf, lower}
 use Rattle.matrix.proofs.Places.{lower-at}
-use Rattle.matrix.proofs.Sizes.{fits-then, full-fits}
+use Rattle.matrix.proofs.Sizes.{full-fits}
 use Rattle.matrix.specs.Rounded.{plusZero}
 use Rattle.pivots.specs.Words.{Sized}
 use Rattle.pivots.specs.Rule.{checked}
@@ -54,10 +54,8 @@ module _ (n : ℕ) (a : List Float) (words : List ℕ) (q : Square n a words) wh
     record-accepted = ap (λ (w : List ℕ). isDone (checked n w)) (s .pivots) ∙ accepted n (load (lower (full n)) a) words words-sized .done
 
     reader-done : isDone (tested (readerTests (full n) a′ words′) Done) ≡ true
-    unfolding sizeOf
     reader-done =
-        reads-done (full n) a′ words′
-        (record { roomy = full-roomy n (omega (arith, q .small)); rising = omega arith; long = long ∙ q .long })
+        reads-done (full n) a′ words′ (full-fits n (length a′) (omega (arith, q .small)) (long ∙ q .long))
         (record { sized = record { order = omega (arith, q .small); total = sized ∙ q .sized }; done = record-accepted })
 
     determinant-is : (v : Valued) → LbltDetermined (full n) a′ words′ v → v .value ≡ determinantOf n (finalState n (load (lower (full n)) a) words .matrix) (recorded n (load (lower (full n)) a) words)
