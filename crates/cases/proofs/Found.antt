@@ -126,9 +126,9 @@ module _ (n : ℕ) (p u₀ d₀ : List Float) where
   unfolding uduNumbers
   factors-udu {u} {d} f =
       let g : (u ≡ uduUpper) × (d ≡ uduDiagonals) = done-or-refused uduSizes
-          (λ e. let held = f .slices .done e in
-          (rw e (fills-listed (held .upper)), rw e (is-listed d (factorsOf (uduOf n p) .d) n (held .diagonal .long) (held .diagonal .cells))))
-          (λ e. let kept = f .slices .refused e in (rw e (kept .upper), rw e (kept .diagonal))) in
+      (λ e. let held = f .slices .done e in
+      (rw e (fills-listed (held .upper)), rw e (is-listed d (factorsOf (uduOf n p) .d) n (held .diagonal .long) (held .diagonal .cells))))
+      (λ e. let kept = f .slices .refused e in (rw e (kept .upper), rw e (kept .diagonal))) in
       rw (f .answer, g .0, g .1)
 
 -- ---- what each call gives

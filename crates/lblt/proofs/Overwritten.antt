@@ -10,6 +10,7 @@ use lib.Seq.{getD-set-same, getD-set-other, ext-getD}
 use borrow.Author.Tests.{ltb-true, ltb-false, eqb-true, eqb-false}
 use Rattle.matrix.specs.Matrix.{Matrix}
 use Rattle.pivots.specs.Words.{wordsOf, Sized, paired, marked}
+use Rattle.pivots.proofs.Written.{paired-length}
 use Rattle.lblt.specs.Choice.{choose}
 use Rattle.lblt.specs.Step.{State, take, step, stepped}
 use Rattle.lblt.specs.Factor.{firstState, finalState, recorded}
@@ -61,15 +62,11 @@ take-over n S words ZeroColumn = refl
 take-over n S words (One p) = refl
 take-over n S words (Two p) = refl
 
-paired-long : (words : List ℕ) (row index size : ℕ) → length (paired words row index size) ≡ length words
-unfolding paired
-paired-long words row index size = simp length-set
-
 noted-long : (S : State) (c : Choice) (words : List ℕ) → length (noted S c words) ≡ length words
 unfolding noted
-noted-long S ZeroColumn words = paired-long words (S .row) (S .row) 1
-noted-long S (One p) words = paired-long words (S .row) p 1
-noted-long S (Two p) words = paired-long (paired words (S .row) p 2) (S .row + 1) p 2 ∙ paired-long words (S .row) p 2
+noted-long S ZeroColumn words = paired-length words (S .row) (S .row) 1
+noted-long S (One p) words = paired-length words (S .row) p 1
+noted-long S (Two p) words = paired-length (paired words (S .row) p 2) (S .row + 1) p 2 ∙ paired-length words (S .row) p 2
 
 module _ (n : ℕ) (S : State) (words words' : List ℕ) (long : length words ≡ wordsOf n) (more : S .row < n) (a : Alike (2 * S .row) words words') where
   alike-noted : (c : Choice) → Within n (S .row) c → Alike (2 * take n S c .row) (noted S c words) (noted S c words')
@@ -78,7 +75,7 @@ module _ (n : ℕ) (S : State) (words words' : List ℕ) (long : length words �
   alike-noted (One p) range = alike-paired (S .row) p 1 (omega arith) a
   alike-noted (Two p) range =
       alike-less (omega arith)
-      (alike-paired (S .row + 1) p 2 (omega (arith, paired-long words (S .row) p 2, range .0, range .1)) (alike-paired (S .row) p 2 (omega arith) a))
+      (alike-paired (S .row + 1) p 2 (omega (arith, paired-length words (S .row) p 2, range .0, range .1)) (alike-paired (S .row) p 2 (omega arith) a))
 
   alike-step : Alike (2 * step n S .row) (noted S (choose n (S .matrix) (S .row)) words) (noted S (choose n (S .matrix) (S .row)) words')
   unfolding step

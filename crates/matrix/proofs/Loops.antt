@@ -126,13 +126,10 @@ ran-more {lo = lo} {f = f} {s₀ = s₀} {i = i} r below e =
 pub ran-all : {S : Type 0} {lo hi : ℕ} {f : ℕ → S → S} {s₀ : S} {i : ℕ} {s : S} → Ran lo hi f s₀ i s → hi ≤ i → s ≡ for lo hi f s₀
 ran-all {lo = lo} {f = f} {s₀ = s₀} r past = r .is ∙ ap (λ (k : ℕ). for lo k f s₀) (omega arith)
 
--- c turns more, and two
+-- c turns more
 pub ran-on : {S : Type 0} {lo hi : ℕ} {f : ℕ → S → S} {s₀ : S} {i : ℕ} {s s' : S} (c : ℕ) → Ran lo hi f s₀ i s → i + c ≤ hi → s' ≡ for i (i + c) f s → Ran lo hi f s₀ (i + c) s'
 ran-on {lo = lo} {f = f} {s₀ = s₀} {i = i} c r below e =
     record { from = omega (arith, r .from); upto = below; is = e ∙ ap (for i (i + c) f) (r .is) ∙ for-join lo i (i + c) f s₀ (r .from) (omega arith) }
-
-pub ran-two : {S : Type 0} {lo hi : ℕ} {f : ℕ → S → S} {s₀ : S} {i : ℕ} {s s' : S} → Ran lo hi f s₀ i s → i + 1 < hi → s' ≡ f (i + 1) (f i s) → Ran lo hi f s₀ (i + 2) s'
-ran-two {f = f} {i = i} {s = s} r below e = ran-on 2 r (omega arith) (e ∙ sym (for-two i f s))
 
 -- ---- loops that fall
 
@@ -143,10 +140,6 @@ unfolding falling
 falling-related R zero f g s x start each = start
 falling-related R (suc i) f g s x start each =
     falling-related R i f g (f i s) (g i x) (each i s x (omega arith) start) (λ j t y below is. each j t y (omega arith) is)
-
--- what no turn changes
-pub falling-still : {S X : Type 0} (see : S → X) (n : ℕ) (f : ℕ → S → S) (s : S) → ((i : ℕ) (x : S) → i < n → see (f i x) ≡ see x) → see (falling n f s) ≡ see s
-falling-still {S} see n f s each = falling-related {X = S} (λ x y. see x ≡ see s) n f f s s refl (λ i x y below is. each i x below ∙ is)
 
 pub record Fell {S : Type 0} (n : ℕ) (f : ℕ → S → S) (s₀ : S) (i : ℕ) (s : S) : Type 0 where
   pub upto : i ≤ n

@@ -4,18 +4,16 @@
 --     exchange-first  exchange-second  exchange-skip       what an exchange leaves
 --     swaps-skip  swaps-first  swaps-second                a loop of exchanges at places that do not meet
 --     column-other  row-other  row-here                    a loop over rows that stores in its own row of column j
---     rows-each                                            a loop whose turn r changes row r alone, by what stands in it
 use mathlib.Core.Path.{_≡_, refl, sym, _∙_, ap, subst, fun-ext}
 use mathlib.Core.Bool.{Bool, true, false, cond, _&&_}
 use Prim.Native.Nat.{ℕ, _+_, _≤_, _<_}
 use native.Mathlib.Omega.{arith}
-use lib.Dec.{T, eqb, ltb, eqb→eq}
+use lib.Dec.{T, eqb, eqb→eq}
 use lib.Ieee.{Float}
 use lib.Ieee.Fits.{and-r}
-use borrow.Author.Tests.{eq-eqb, ne-eqb, eqb-true, ltb-true, ltb-false}
+use borrow.Author.Tests.{eq-eqb, ne-eqb, eqb-true}
 use Rattle.matrix.specs.Matrix.{Matrix, entry, exchange}
 use Rattle.matrix.specs.Loop.{for}
-use Rattle.matrix.proofs.Tests.{either}
 use Rattle.matrix.proofs.Loops.{for-still, for-at}
 
 -- ---- one entry stored
@@ -129,22 +127,3 @@ module _ (j : ℕ) (new : ℕ → Matrix → Float) where
       ap (λ (N : Matrix). N r j) (for-at lo hi r stores M from upto)
       ∙ row-other (r + 1) hi (stores r (for lo r stores M)) r j (omega arith)
       ∙ entry-here (for lo r stores M) r j (new r (for lo r stores M))
-
--- ---- a loop whose turn r changes row r alone, by what stands in it
-
-pub rows-each : (n : ℕ) (f : ℕ → Matrix → Matrix) (M : Matrix)
-    → ((r i : ℕ) (L : Matrix) → (i ≡ r → ⊥) → f r L i ≡ L i) → ((r : ℕ) (L N : Matrix) → L r ≡ N r → f r L r ≡ f r N r)
-    → (i : ℕ) → for 0 n f M i ≡ cond (ltb i n) (f i M i) (M i)
-rows-each n f M others own i = either (λ (row : ℕ → Float). for 0 n f M i ≡ row) (ltb i n) (λ t. inside (ltb-true i n t)) (λ t. outside (ltb-false i n t))
-  where
-    skips : (lo hi : ℕ) (L : Matrix) → ((r : ℕ) → lo ≤ r → r < hi → i ≡ r → ⊥) → for lo hi f L i ≡ L i
-    skips lo hi L apart = for-still (λ (N : Matrix). N i) lo hi f L (λ r N from upto. others r i N (apart r from upto))
-
-    inside : i < n → for 0 n f M i ≡ f i M i
-    inside below =
-        ap (λ (N : Matrix). N i) (for-at 0 n i f M (omega arith) below)
-        ∙ skips (i + 1) n (f i (for 0 i f M)) (omega arith)
-        ∙ own i (for 0 i f M) M (skips 0 i M (omega arith))
-
-    outside : n ≤ i → for 0 n f M i ≡ M i
-    outside past = skips 0 n M (omega arith)

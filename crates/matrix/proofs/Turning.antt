@@ -4,7 +4,7 @@ use mathlib.Core.Path.{_≡_, refl, _∙_}
 use Prim.Native.Nat.{ℕ, _+_, _≤_, _<_}
 use lib.ListN.{length}
 use Rattle.matrix.specs.Loop.{for}
-use Rattle.matrix.proofs.Loops.{Ran, ran-none, ran-more, ran-on, ran-two, ran-all}
+use Rattle.matrix.proofs.Loops.{Ran, ran-none, ran-more, ran-on, ran-all}
 
 pub record Turning {A : Type 0} (lo hi : ℕ) (f : ℕ → List A → List A) (b₀ : List A) (i : ℕ) (b : List A) : Type 0 where
   pub ran : Ran lo hi f b₀ i b
@@ -18,10 +18,7 @@ module _ {A : Type 0} {lo hi : ℕ} {f : ℕ → List A → List A} where
     pub turning-more : {b' : List A} → i < hi → b' ≡ f i b → length b' ≡ length b → Turning lo hi f b₀ (i + 1) b'
     turning-more below step long = record { ran = ran-more (t .ran) below step; long = long ∙ t .long }
 
-    -- two turns more, and c
-    pub turning-two : {b' : List A} → i + 1 < hi → b' ≡ f (i + 1) (f i b) → length b' ≡ length b → Turning lo hi f b₀ (i + 2) b'
-    turning-two below step long = record { ran = ran-two (t .ran) below step; long = long ∙ t .long }
-
+    -- c turns more
     pub turning-on : (c : ℕ) {b' : List A} → i + c ≤ hi → b' ≡ for i (i + c) f b → length b' ≡ length b → Turning lo hi f b₀ (i + c) b'
     turning-on c below step long = record { ran = ran-on c (t .ran) below step; long = long ∙ t .long }
 

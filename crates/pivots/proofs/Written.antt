@@ -72,7 +72,7 @@ kept-marks {m = m} s mk = record {
   index = s .index (m - 1) (omega (arith, mk .set, mk .passed)) ∙ mk .index;
 }
 
-paired-length : (words : List ℕ) (row index size : ℕ) → length (paired words row index size) ≡ length words
+pub paired-length : (words : List ℕ) (row index size : ℕ) → length (paired words row index size) ≡ length words
 unfolding paired
 paired-length words row index size = simp length-set
 

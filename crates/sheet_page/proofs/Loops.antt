@@ -1,7 +1,7 @@
 -- The loops over the pivot lines and the entry lines: what is known at each turn, and how a turn keeps it.
 use mathlib.Core.Path.{_≡_, refl, ap, _∙_}
 use mathlib.Core.List.{List, [], _∷_, _++_, map}
-use Prim.Native.Nat.{ℕ, suc, _+_, _*_, _-_, _<_, _≤_}
+use Prim.Native.Nat.{ℕ, suc, _+_, _-_, _<_, _≤_}
 use native.Mathlib.Numerals.{add-one}
 use native.Mathlib.Omega.{arith}
 use lib.Ieee.{Float}
@@ -9,7 +9,7 @@ use lib.ListN.{length}
 use Rattle.pivots.specs.Words.{indexAt, sizeAt}
 use Rattle.sheet_text.specs.declared.place.Place.{Place}
 use Rattle.sheet_text.specs.Text.{entryLine}
-use Rattle.sheet_text.specs.Place.{places, cell}
+use Rattle.sheet_text.specs.Place.{places}
 use Rattle.sheet_text.specs.inner.Next.{nextPlace}
 use Rattle.sheet_text.specs.Sheet.{entryLines, join}
 use Rattle.sheet_text.proofs.PlaceLaws.{at as place, Inside, restFrom, rest-all, rest-none, rest-more, next-inside}

@@ -9,7 +9,7 @@ use native.Mathlib.Omega.{arith}
 use lib.IntN.{pos}
 use lib.Dec.{T, ltb, lit<, lit≤}
 use lib.Pow.{pow-add, pow-pos, pow-mono}
-use lib.Ieee.{Float, nan, inf, fin, binary64, low, up, down, minus, size, nearest, units, round, neg, mul, div, le, fits}
+use lib.Ieee.{Float, nan, inf, fin, binary64, low, up, down, minus, size, units, round, neg, mul, div, le, fits}
 use lib.Ieee.Digits.{size-lt, size-reaches}
 use lib.Ieee.Exact.{HasValue, units-val}
 use lib.Ieee.Order.{drop, round-mono}

@@ -1,6 +1,6 @@
 -- LBLT of [x / x x], for every f64 x: the whole answer. Assumes nothing.
 use mathlib.Core.Path.{_≡_, refl, _∙_, ap}
-use mathlib.Core.Bool.{Bool, true, false, cond, not, _&&_, true≢false}
+use mathlib.Core.Bool.{Bool, true, false, cond, _&&_, true≢false}
 use mathlib.Core.List.{List, [], _∷_}
 use Prim.Native.Nat.{ℕ, zero, suc, _+_, _*_}
 use native.Mathlib.Nat.{zero-mul}
@@ -23,6 +23,7 @@ use Rattle.lblt.specs.Step.{State, firstMark, pivot1, take, step, stepped}
 use Rattle.lblt.specs.Update.{update1, eliminate1}
 use Rattle.lblt.specs.Factor.{firstState, finalState, recorded}
 use Rattle.lblt.proofs.Entries.{updated1}
+use Rattle.lblt.proofs.Range.{never-below}
 use Rattle.twin_laws.proofs.Share.{share-not-above}
 use Rattle.twin_laws.proofs.Lblt.{trail, in-place1}
 
@@ -61,13 +62,6 @@ not-below-share (fin true zero e) held other = absurd (true≢false (simp zero-m
 not-below-share (fin false zero e) held other = absurd (true≢false (simp zero-mul at other))
 not-below-share (fin s (suc m) e) held other = share-not-above m e (same-fits s m e held)
 
--- no size is below α times nothing
-not-below-nothing : (y : Float) → lt (absOf y) (α ⊗ plusZero) ≡ false
-unfolding absOf lt mul ofBits
-not-below-nothing nan = refl
-not-below-nothing (inf s) = refl
-not-below-nothing (fin s m e) = rw (zero-mul (down e)) (le-ltb (m * up e * 1) 0 (omega arith))
-
 -- ---- the two choices
 
 -- what is taken for nothing: zero or NaN
@@ -103,7 +97,7 @@ first-choice M x held corner side =
 last-choice : (N : Matrix) → choose 2 N 1 ≡ cond (gone (N 1 1)) ZeroColumn (One 1)
 unfolding choose choiceBy columnMax gone
 last-choice N =
-    ap (λ (b : Bool). cond (eq (maximumOf (absOf (N 1 1)) plusZero) plusZero) ZeroColumn (cond b (contest N 1 (record { imax = 0; colmax = plusZero }) (rowMax 2 N 1 0)) (One 1))) (not-below-nothing (N 1 1))
+    ap (λ (b : Bool). cond (eq (maximumOf (absOf (N 1 1)) plusZero) plusZero) ZeroColumn (cond b (contest N 1 (record { imax = 0; colmax = plusZero }) (rowMax 2 N 1 0)) (One 1))) (never-below (N 1 1))
 
 -- ---- the whole answer
 

@@ -7,7 +7,7 @@
 use mathlib.Core.Bool.{Bool, true, false, cond}
 use mathlib.Core.List.{List}
 use mathlib.Core.Path.{_≡_, refl, sym, _∙_, ap, ap₂, subst}
-use Prim.Native.Nat.{ℕ, zero, suc, _+_, _-_, _*_, _≤_, _<_}
+use Prim.Native.Nat.{ℕ, zero, suc, _+_, _-_, _<_}
 use native.Mathlib.Omega.{arith}
 use lib.Dec.{eqb}
 use lib.ListN.{set}
@@ -15,12 +15,11 @@ use lib.Seq.{ext-getD}
 use lib.Ieee.{Float, nan, eq}
 use Rattle.answer.specs.declared.Answer.the-variants.{Done, ZeroDiagonal}
 use Rattle.matrix.specs.Matrix.{Matrix}
-use Rattle.matrix.specs.Loop.{for, falling}
+use Rattle.matrix.specs.Loop.{falling}
 use Rattle.matrix.specs.Grid.{load}
 use Rattle.matrix.specs.Layouts.{upper}
 use Rattle.matrix.specs.Rounded.{_⊕_, _⊖_, _⊗_, _⊘_, plusZero, one}
-use Rattle.matrix.proofs.Loops.{for-same, Fell, fell-none, fell-more, fell-all}
-use Rattle.strips.specs.Strip.{Strip}
+use Rattle.matrix.proofs.Loops.{for-same, Fell, fell-none, fell-more}
 use Rattle.strips.proofs.Strips.{strip-as}
 use Rattle.udu.specs.Columns.{Factors, UduRun, accepted, refused, nothing, plusSquare, plusCross, squareSum, crossSum, uduDiagonal, lastEntry, furtherEntry, uduEntry, withDiagonal, withColumn, columnBy, uduColumn, uduColumns}
 use Rattle.udu.specs.Promise.{Holding, uduOf, uduAnswer, factorsOf}

@@ -7,7 +7,7 @@ use lib.Ieee.{Float, nan}
 use Rattle.answer.specs.declared.Answer.{Answer}
 use Rattle.answer.proofs.Tested.{leaving-alike}
 use Rattle.matrix.proofs.Squares.{fills-unique}
-use Rattle.udu.specs.Promise.{Lists, Holding, Unwritten, UduFactored}
+use Rattle.udu.specs.Promise.{Lists, UduFactored}
 
 lists-unique : {n : ℕ} {l l' : List Float} {f : ℕ → Float} → Lists n l f → Lists n l' f → l ≡ l'
 lists-unique {n} {l} {l'} a b =
@@ -16,7 +16,7 @@ lists-unique {n} {l} {l'} a b =
 pub factored-unique : {p u₀ d₀ u u' d d' : List Float} {n : ℕ} {r r' : Answer} → UduFactored p u₀ d₀ n r u d → UduFactored p u₀ d₀ n r' u' d' → (r ≡ r') × (u ≡ u') × (d ≡ d')
 factored-unique {u = u} {u' = u'} {d = d} {d' = d'} a b =
     let same : (u ≡ u') × (d ≡ d') =
-        leaving-alike refl (a .slices) (b .slices)
-        (λ x y. (fills-unique (x .upper) (y .upper), lists-unique (x .diagonal) (y .diagonal)))
-        (λ x y. (x .upper ∙ sym (y .upper), x .diagonal ∙ sym (y .diagonal))) in
+    leaving-alike refl (a .slices) (b .slices)
+    (λ x y. (fills-unique (x .upper) (y .upper), lists-unique (x .diagonal) (y .diagonal)))
+    (λ x y. (x .upper ∙ sym (y .upper), x .diagonal ∙ sym (y .diagonal))) in
     (a .answer ∙ sym (b .answer), same .0, same .1)

@@ -8,6 +8,7 @@ use lib.Ieee.{Float}
 use Rattle.answer.specs.declared.Answer.{Answer}
 use Rattle.answer.specs.Number.{codeOf, placeOf, numberOf}
 use Rattle.answer.proofs.Back.{code-back, place-back}
+use Rattle.answer.proofs.Within.{Within}
 use Rattle.twins.specs.declared.Twin.{Twin}
 use Rattle.twins.specs.declared.Twin.the-variants.{Nothing, Pair, Refused}
 use Rattle.twins.specs.Number.{twinNumber}
@@ -15,7 +16,6 @@ use Rattle.urgyelpat.specs.declared.Determined.{Determined}
 use Rattle.urgyelpat.specs.Calls.{LbltFactor, LbltSolve, LbltDeterminant, LbltD, LbltLPermuted}
 use Rattle.urgyelpat.specs.Calls.{CholeskyExtend, CholeskySolve, CholeskyL, CholeskyUnpack, CholeskyDeterminant}
 use Rattle.urgyelpat.specs.Calls.{UduFactor, FirstTwinPair}
-use Rattle.urgyelpat.proofs.Within.{Within}
 use Rattle.urgyelpat.proofs.FactorPlaces as lblt
 use Rattle.urgyelpat.proofs.ReaderPlaces as readers
 use Rattle.urgyelpat.proofs.CholeskyPlaces as cholesky

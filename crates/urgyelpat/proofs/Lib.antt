@@ -1,5 +1,4 @@
 pub mod Unique
-pub mod Within
 pub mod FactorPlaces
 pub mod ReaderPlaces
 pub mod CholeskyPlaces

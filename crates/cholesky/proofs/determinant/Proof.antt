@@ -21,12 +21,16 @@ returns : tie.Need-returns
 returns c = determined-at (c .before .before .before .in-room .ensures) (determined-unfit (c .before .before .check .ensures) (code-refused (c .before .before .check .result) (c .before .code .ensures) (c .if1 .taken)))
 
 diagonal-requires : tie.Need-diagonal-requires
-diagonal-requires c κs = laid-fits (code-fits (c .before .before .before .in-room .result) 0 (length (now (c .before .before .before .before .before .args .a))) (c .before .before .check .ensures) (c .before .code .ensures) (c .if1 .left))
+diagonal-requires c κs =
+    let given = c .before .before .before .before .before in
+    laid-fits (code-fits (c .before .before .before .in-room .result) 0 (length (now (given .args .a))) (c .before .before .check .ensures) (c .before .code .ensures) (c .if1 .left))
 
 returns-2 : tie.Need-returns-2
 returns-2 c =
-    let f = code-fits (c .before .before .before .before .in-room .result) 0 (length (now (c .before .before .before .before .before .before .args .a))) (c .before .before .before .check .ensures) (c .before .before .code .ensures) (c .before .if1 .left) in
-    determined-at (c .before .before .before .before .in-room .ensures) (determined-fit f (c .diagonal .ensures))
+    let given = c .before .before .before .before .before .before in
+    let in-room = c .before .before .before .before .in-room in
+    let f = code-fits (in-room .result) 0 (length (now (given .args .a))) (c .before .before .before .check .ensures) (c .before .before .code .ensures) (c .before .if1 .left) in
+    determined-at (in-room .ensures) (determined-fit f (c .diagonal .ensures))
 
 pub determinant-spec : {M : Type 1} → statement M
 determinant-spec =

@@ -22,7 +22,9 @@ returns c = extended-at (c .before .before .before .in-room .ensures) (extended-
 
 run-requires : tie.Need-run-requires
 run-requires c κs =
-    let f = code-fits (c .before .before .before .before .in-room .result) (c .before .before .before .before .before .before .args .earlier) (length (now (c .before .before .before .before .before .before .args .a))) (c .before .before .before .check .ensures) (c .before .before .code .ensures) (c .before .if1 .left) in
+    let given = c .before .before .before .before .before .before in
+    let in-room = c .before .before .before .before .in-room in
+    let f = code-fits (in-room .result) (given .args .earlier) (length (now (given .args .a))) (c .before .before .before .check .ensures) (c .before .before .code .ensures) (c .before .if1 .left) in
     (laid-fits f, f .rising)
 
 same-length : tie.Need-same-length
@@ -30,8 +32,13 @@ same-length c = search needs
 
 returns-2 : tie.Need-returns-2
 returns-2 c =
-    let f = code-fits (c .before .before .before .before .before .before .before .in-room .result) (c .before .before .before .before .before .before .before .before .before .args .earlier) (length (now (c .before .before .before .before .before .before .before .before .before .args .a))) (c .before .before .before .before .before .before .check .ensures) (c .before .before .before .before .before .code .ensures) (c .before .before .before .before .if1 .left) in
-    extended-at (c .before .before .before .before .before .before .before .in-room .ensures) (extended-fit f (c .before .before .run .ensures))
+    let given = c .before .before .before .before .before .before .before .before .before in
+    let in-room = c .before .before .before .before .before .before .before .in-room in
+    let check = c .before .before .before .before .before .before .check in
+    let code = c .before .before .before .before .before .code in
+    let if1 = c .before .before .before .before .if1 in
+    let f = code-fits (in-room .result) (given .args .earlier) (length (now (given .args .a))) (check .ensures) (code .ensures) (if1 .left) in
+    extended-at (in-room .ensures) (extended-fit f (c .before .before .run .ensures))
 
 pub extend-spec : {M : Type 1} → statement M
 extend-spec =

@@ -24,24 +24,40 @@ returns c = copied-at (c .before .before .before .in-room .ensures) (copied-unfi
 
 mul-if2 : tie.Need-mul-if2
 mul-if2 c =
-    let roomy = code-fits (c .before .before .before .before .in-room .result) 0 (length (now (c .before .before .before .before .before .before .before .args .a))) (c .before .before .before .check .ensures) (c .before .before .code .ensures) (c .before .if1 .left) .roomy in
-    omega (arith, product-small (c .before .before .before .before .in-room .result .order) (c .before .before .before .before .in-room .result .order) (omega arith) (omega arith))
+    let given = c .before .before .before .before .before .before .before in
+    let in-room = c .before .before .before .before .in-room in
+    let roomy = code-fits (in-room .result) 0 (length (now (given .args .a))) (c .before .before .before .check .ensures) (c .before .before .code .ensures) (c .before .if1 .left) .roomy in
+    omega (arith, product-small (in-room .result .order) (in-room .result .order) (omega arith) (omega arith))
 
 returns-2 : tie.Need-returns-2
 returns-2 c =
-    let f = code-fits (c .before .before .before .before .before .in-room .result) 0 (length (now (c .before .before .before .before .before .before .before .before .args .a))) (c .before .before .before .before .check .ensures) (c .before .before .before .code .ensures) (c .before .before .if1 .left) in
-    copied-at (c .before .before .before .before .before .in-room .ensures) (copied-short f (c .if2 .taken))
+    let given = c .before .before .before .before .before .before .before .before in
+    let in-room = c .before .before .before .before .before .in-room in
+    let check = c .before .before .before .before .check in
+    let f = code-fits (in-room .result) 0 (length (now (given .args .a))) (check .ensures) (c .before .before .before .code .ensures) (c .before .before .if1 .left) in
+    copied-at (in-room .ensures) (copied-short f (c .if2 .taken))
 
 copy-requires : tie.Need-copy-requires
-copy-requires c κs = (laid-fits (code-fits (c .before .before .before .before .before .before .in-room .result) 0 (length (now (c .before .before .before .before .before .before .before .before .before .args .a))) (c .before .before .before .before .before .check .ensures) (c .before .before .before .before .code .ensures) (c .before .before .before .if1 .left)), c .before .if2 .left)
+copy-requires c κs =
+    let given = c .before .before .before .before .before .before .before .before .before in
+    let in-room = c .before .before .before .before .before .before .in-room in
+    let check = c .before .before .before .before .before .check in
+    let code = c .before .before .before .before .code in
+    (laid-fits (code-fits (in-room .result) 0 (length (now (given .args .a))) (check .ensures) (code .ensures) (c .before .before .before .if1 .left)), c .before .if2 .left)
 
 same-length : tie.Need-same-length
 same-length c = search needs
 
 returns-3 : tie.Need-returns-3
 returns-3 c =
-    let f = code-fits (c .before .before .before .before .before .before .before .before .before .in-room .result) 0 (length (now (c .before .before .before .before .before .before .before .before .before .before .before .before .args .a))) (c .before .before .before .before .before .before .before .before .check .ensures) (c .before .before .before .before .before .before .before .code .ensures) (c .before .before .before .before .before .before .if1 .left) in
-    copied-at (c .before .before .before .before .before .before .before .before .before .in-room .ensures) (copied-fit f (c .before .before .before .before .if2 .left) (c .before .before .copy .ensures))
+    let given = c .before .before .before .before .before .before .before .before .before .before .before .before in
+    let in-room = c .before .before .before .before .before .before .before .before .before .in-room in
+    let check = c .before .before .before .before .before .before .before .before .check in
+    let code = c .before .before .before .before .before .before .before .code in
+    let if1 = c .before .before .before .before .before .before .if1 in
+    let if2 = c .before .before .before .before .if2 in
+    let f = code-fits (in-room .result) 0 (length (now (given .args .a))) (check .ensures) (code .ensures) (if1 .left) in
+    copied-at (in-room .ensures) (copied-fit f (if2 .left) (c .before .before .copy .ensures))
 
 pub l-spec : {M : Type 1} → statement M
 l-spec =

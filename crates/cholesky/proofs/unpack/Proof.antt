@@ -21,15 +21,23 @@ returns : tie.Need-returns
 returns c = unpacked-at (c .before .before .before .in-room .ensures) (unpacked-unfit (c .before .before .check .ensures) (code-refused (c .before .before .check .result) (c .before .code .ensures) (c .if1 .taken)))
 
 clear-above-requires : tie.Need-clear-above-requires
-clear-above-requires c κs = laid-fits (code-fits (c .before .before .before .before .in-room .result) 0 (length (now (c .before .before .before .before .before .before .args .a))) (c .before .before .before .check .ensures) (c .before .before .code .ensures) (c .before .if1 .left))
+clear-above-requires c κs =
+    let given = c .before .before .before .before .before .before in
+    let in-room = c .before .before .before .before .in-room in
+    laid-fits (code-fits (in-room .result) 0 (length (now (given .args .a))) (c .before .before .before .check .ensures) (c .before .before .code .ensures) (c .before .if1 .left))
 
 same-length : tie.Need-same-length
 same-length c = search needs
 
 returns-2 : tie.Need-returns-2
 returns-2 c =
-    let f = code-fits (c .before .before .before .before .before .before .before .in-room .result) 0 (length (now (c .before .before .before .before .before .before .before .before .before .args .a))) (c .before .before .before .before .before .before .check .ensures) (c .before .before .before .before .before .code .ensures) (c .before .before .before .before .if1 .left) in
-    unpacked-at (c .before .before .before .before .before .before .before .in-room .ensures) (unpacked-fit f (c .before .before .clear-above .ensures))
+    let given = c .before .before .before .before .before .before .before .before .before in
+    let in-room = c .before .before .before .before .before .before .before .in-room in
+    let check = c .before .before .before .before .before .before .check in
+    let code = c .before .before .before .before .before .code in
+    let if1 = c .before .before .before .before .if1 in
+    let f = code-fits (in-room .result) 0 (length (now (given .args .a))) (check .ensures) (code .ensures) (if1 .left) in
+    unpacked-at (in-room .ensures) (unpacked-fit f (c .before .before .clear-above .ensures))
 
 pub unpack-spec : {M : Type 1} → statement M
 unpack-spec =

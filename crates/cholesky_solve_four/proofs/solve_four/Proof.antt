@@ -10,7 +10,8 @@ solve-lower-requires c κs = search needs
 
 solve-transposed-requires : tie.Need-solve-transposed-requires
 solve-transposed-requires c κs =
-    let pre = c .before .before .before .before .before .before .before .pre in
+    let given = c .before .before .before .before .before .before .before in
+    let pre = given .pre in
     let solve-lower = c .before .before .before .solve-lower in
     record { factor = pre .factor; long = solve-lower .kept .1 .1 .0 ∙ pre .long }
 
@@ -19,8 +20,10 @@ same-length c = search needs
 
 returns : tie.Need-returns
 returns c =
-    let pre = c .before .before .before .before .before .before .before .before .before .before .pre in
-    let solve-lower = c .before .before .before .before .before .before .solve-lower in
+    let given = c .before .before .before .before .before .before .before .before .before .before in
+    let solve-lower-step = c .before .before .before .before .before .before .solve-lower in
+    let pre = given .pre in
+    let solve-lower = solve-lower-step in
     solved _ _ _ (pre .long) (solve-lower .ensures) (c .before .before .solve-transposed .ensures)
 
 pub solve-four-spec : {M : Type 1} → statement M

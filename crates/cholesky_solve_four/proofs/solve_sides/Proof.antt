@@ -28,7 +28,8 @@ abbrev μ-loop2 : tie.MeasureT-loop2
 
 solve-at-requires : tie.Need-solve-at-requires Inv-loop μ-loop Inv-loop2 μ-loop2
 solve-at-requires c κs =
-    let pre = c .before .before .before .before .pre in
+    let given = c .before .before .before .before in
+    let pre = given .pre in
     (pre .0, (pre .1, omega (arith, c .before .if1 .taken)))
 
 same-length : tie.Need-same-length Inv-loop μ-loop Inv-loop2 μ-loop2
@@ -36,7 +37,8 @@ same-length c = search needs
 
 returns : tie.Need-returns Inv-loop μ-loop Inv-loop2 μ-loop2
 returns c =
-    let if1 = c .before .before .before .before .if1 in
+    let if1-step = c .before .before .before .before .if1 in
+    let if1 = if1-step in
     one-column _ _ _ (if1 .taken) (c .before .before .solve-at .ensures)
 
 loop-holds : tie.Need-loop-holds Inv-loop μ-loop Inv-loop2 μ-loop2
@@ -44,18 +46,22 @@ loop-holds c = turning-none (omega arith)
 
 add-loop : tie.Need-add-loop Inv-loop μ-loop Inv-loop2 μ-loop2
 add-loop c =
-    let pre = c .before .before .before .before .pre in
+    let given = c .before .before .before .before in
+    let pre = given .pre in
     omega (arith, c .loop .inv .ran .upto, pre .1 .few)
 
 solve-group-requires : tie.Need-solve-group-requires Inv-loop μ-loop Inv-loop2 μ-loop2
 solve-group-requires c κs =
-    let pre = c .before .before .before .before .before .before .pre in
+    let given = c .before .before .before .before .before .before in
+    let pre = given .pre in
     (pre .0, (record { few = pre .1 .few; long = c .before .before .loop .inv .long ∙ pre .1 .long }, c .before .loop-test .taken))
 
 add-j : tie.Need-add-j Inv-loop μ-loop Inv-loop2 μ-loop2
 add-j c =
-    let loop-test = c .before .before .before .before .loop-test in
-    let pre = c .before .before .before .before .before .before .before .before .before .pre in
+    let given = c .before .before .before .before .before .before .before .before .before in
+    let loop-test-step = c .before .before .before .before .loop-test in
+    let loop-test = loop-test-step in
+    let pre = given .pre in
     omega (arith, loop-test .taken, pre .1 .few)
 
 loop-less : tie.Need-loop-less Inv-loop μ-loop Inv-loop2 μ-loop2
@@ -63,8 +69,10 @@ loop-less c = search needs
 
 loop-again : tie.Need-loop-again Inv-loop μ-loop Inv-loop2 μ-loop2
 loop-again c =
-    let loop = c .before .before .before .before .before .loop in
-    let loop-test = c .before .before .before .before .loop-test in
+    let loop-step = c .before .before .before .before .before .loop in
+    let loop-test-step = c .before .before .before .before .loop-test in
+    let loop = loop-step in
+    let loop-test = loop-test-step in
     let solve-group = c .before .before .solve-group in
     turning-on (loop .inv) 4 (loop-test .taken) (solve-group .ensures) (solve-group .kept .1 .1 .0)
 
@@ -73,14 +81,18 @@ loop2-holds c = turning-none (c .before .loop .inv .ran .upto)
 
 solve-at-requires-2 : tie.Need-solve-at-requires-2 Inv-loop μ-loop Inv-loop2 μ-loop2
 solve-at-requires-2 c κs =
-    let pre = c .before .before .before .before .before .before .before .before .pre in
-    let loop = c .before .before .before .before .loop in
+    let given = c .before .before .before .before .before .before .before .before in
+    let loop-step = c .before .before .before .before .loop in
+    let pre = given .pre in
+    let loop = loop-step in
     (pre .0, (record { few = pre .1 .few; long = c .before .before .loop2 .inv .long ∙ loop .inv .long ∙ pre .1 .long }, c .before .loop2-test .taken))
 
 add-j-2 : tie.Need-add-j-2 Inv-loop μ-loop Inv-loop2 μ-loop2
 add-j-2 c =
-    let loop2-test = c .before .before .before .before .loop2-test in
-    let pre = c .before .before .before .before .before .before .before .before .before .before .before .pre in
+    let given = c .before .before .before .before .before .before .before .before .before .before .before in
+    let loop2-test-step = c .before .before .before .before .loop2-test in
+    let loop2-test = loop2-test-step in
+    let pre = given .pre in
     omega (arith, loop2-test .taken, pre .1 .few)
 
 loop2-less : tie.Need-loop2-less Inv-loop μ-loop Inv-loop2 μ-loop2
@@ -88,8 +100,10 @@ loop2-less c = search needs
 
 loop2-again : tie.Need-loop2-again Inv-loop μ-loop Inv-loop2 μ-loop2
 loop2-again c =
-    let loop2 = c .before .before .before .before .before .loop2 in
-    let loop2-test = c .before .before .before .before .loop2-test in
+    let loop2-step = c .before .before .before .before .before .loop2 in
+    let loop2-test-step = c .before .before .before .before .loop2-test in
+    let loop2 = loop2-step in
+    let loop2-test = loop2-test-step in
     let solve-at2 = c .before .before .solve-at2 in
     turning-more (loop2 .inv) (loop2-test .taken) (solve-at2 .ensures) (solve-at2 .kept .1 .1 .0)
 

@@ -28,7 +28,8 @@ sub-i c = search needs
 
 transposed-row-requires : tie.Need-transposed-row-requires Inv-loop μ-loop
 transposed-row-requires c κs =
-    let pre = c .before .before .before .before .before .pre in
+    let given = c .before .before .before .before .before in
+    let pre = given .pre in
     let loop = c .before .before .loop in
     (record { factor = pre .factor; long = loop .inv .1 ∙ pre .long }, omega (arith, loop .inv .0 .upto, c .before .loop-test .taken))
 
@@ -37,8 +38,10 @@ loop-less c = search needs
 
 loop-again : tie.Need-loop-again Inv-loop μ-loop
 loop-again c =
-    let loop = c .before .before .before .before .before .loop in
-    let loop-test = c .before .before .before .before .loop-test in
+    let loop-step = c .before .before .before .before .before .loop in
+    let loop-test-step = c .before .before .before .before .loop-test in
+    let loop = loop-step in
+    let loop-test = loop-test-step in
     let transposed-row = c .before .before .transposed-row in
     (fell-more (loop .inv .0) (loop-test .taken) (transposed-row .ensures), transposed-row .kept .1 .1 .0 ∙ loop .inv .1)
 
@@ -48,7 +51,8 @@ same-length c = c .before .loop .inv .1
 returns : tie.Need-returns Inv-loop μ-loop
 unfolding solveTransposed
 returns c =
-    let pre = c .before .before .before .before .pre in
+    let given = c .before .before .before .before in
+    let pre = given .pre in
     fell-all (c .before .loop .inv .0) (c .loop-test .left) ∙ each-loop _ _ (sinking _) (falling-uniform _) _ (transposed-row-keeps _ _) _ (pre .long)
 
 pub solve-transposed-spec : {M : Type 1} → statement M

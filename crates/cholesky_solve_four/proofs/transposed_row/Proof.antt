@@ -13,7 +13,8 @@ gather-row-requires c κs = search needs
 
 divide-one-requires : tie.Need-divide-one-requires
 divide-one-requires c κs =
-    let pre = c .before .before .before .before .before .before .before .pre in
+    let given = c .before .before .before .before .before .before .before in
+    let pre = given .pre in
     let gather-row = c .before .before .before .gather-row in
     (record { factor = pre .0 .factor; long = gather-row .kept .1 .1 .0 ∙ pre .0 .long }, pre .1)
 
@@ -22,8 +23,10 @@ same-length c = search needs
 
 returns : tie.Need-returns
 returns c =
-    let pre = c .before .before .before .before .before .before .before .before .before .before .pre in
-    let gather-row = c .before .before .before .before .before .before .gather-row in
+    let given = c .before .before .before .before .before .before .before .before .before .before in
+    let gather-row-step = c .before .before .before .before .before .before .gather-row in
+    let pre = given .pre in
+    let gather-row = gather-row-step in
     transposed _ _ _ (pre .0 .long) _ (gather-row .ensures) (c .before .before .divide-one .ensures)
 
 pub transposed-row-spec : {M : Type 1} → statement M

@@ -10,7 +10,8 @@ solve-lower-requires c κs = search needs
 
 solve-transposed-requires : tie.Need-solve-transposed-requires
 solve-transposed-requires c κs =
-    let pre = c .before .before .before .before .before .before .before .pre in
+    let given = c .before .before .before .before .before .before .before in
+    let pre = given .pre in
     let solve-lower = c .before .before .before .solve-lower in
     record { factor = pre .factor; long = solve-lower .kept .1 .1 .0 ∙ pre .long }
 
@@ -20,7 +21,8 @@ same-length c = search needs
 returns : tie.Need-returns
 unfolding solveTriangles
 returns c =
-    let solve-lower = c .before .before .before .before .before .before .solve-lower in
+    let solve-lower-step = c .before .before .before .before .before .before .solve-lower in
+    let solve-lower = solve-lower-step in
     c .before .before .solve-transposed .ensures ∙ ap (solveTransposed _ _) (solve-lower .ensures)
 
 pub solve-triangles-spec : {M : Type 1} → statement M

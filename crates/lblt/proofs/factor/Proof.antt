@@ -20,22 +20,33 @@ code-requires : tie.Need-code-requires
 code-requires c κs = search needs
 
 returns : tie.Need-returns
-returns c = wrong-size (full (c .before .before .before .before .before .before .args .n)) _ _ (rw (c .before .before .before .full .ensures) at (c .before .before .check .ensures)) (code-refused (c .before .before .check .result) (c .before .code .ensures) (c .if1 .taken))
+returns c =
+    let given = c .before .before .before .before .before .before in
+    wrong-size (full (given .args .n)) _ _ (rw (c .before .before .before .full .ensures) at (c .before .before .check .ensures)) (code-refused (c .before .before .check .result) (c .before .code .ensures) (c .if1 .taken))
 
 words-requires : tie.Need-words-requires
 words-requires c κs =
-    let fits = right-size (c .before .before .before .before .before .before .args .n) (now (c .before .before .before .before .before .before .args .a)) (c .before .before .check .result) (c .before .before .before .full .ensures) (c .before .before .check .ensures) (c .before .code .ensures) (c .if1 .left) in
+    let given = c .before .before .before .before .before .before in
+    let fits = right-size (given .args .n) (now (given .args .a)) (c .before .before .check .result) (c .before .before .before .full .ensures) (c .before .before .check .ensures) (c .before .code .ensures) (c .if1 .left) in
     fits .roomy .small
 
 returns-2 : tie.Need-returns-2
 returns-2 c =
-    let fits = right-size (c .before .before .before .before .before .before .before .before .args .n) (now (c .before .before .before .before .before .before .before .before .args .a)) (c .before .before .before .before .check .result) (c .before .before .before .before .before .full .ensures) (c .before .before .before .before .check .ensures) (c .before .before .before .code .ensures) (c .before .before .if1 .left) in
-    wrong-record (full (c .before .before .before .before .before .before .before .before .args .n)) _ _ fits (λ e. c .if2 .taken (e ∙ sym (c .before .words .ensures)))
+    let given = c .before .before .before .before .before .before .before .before in
+    let full-step = c .before .before .before .before .before .full in
+    let check = c .before .before .before .before .check in
+    let fits = right-size (given .args .n) (now (given .args .a)) (check .result) (full-step .ensures) (check .ensures) (c .before .before .before .code .ensures) (c .before .before .if1 .left) in
+    wrong-record (full (given .args .n)) _ _ fits (λ e. c .if2 .taken (e ∙ sym (c .before .words .ensures)))
 
 steps-requires : tie.Need-steps-requires
 steps-requires c κs =
-    let fits = right-size (c .before .before .before .before .before .before .before .before .before .before .args .n) (now (c .before .before .before .before .before .before .before .before .before .before .args .a)) (c .before .before .before .before .before .before .check .result) (c .before .before .before .before .before .before .before .full .ensures) (c .before .before .before .before .before .before .check .ensures) (c .before .before .before .before .before .code .ensures) (c .before .before .before .before .if1 .left) in
-    rw (c .before .before .before .before .before .before .before .full .ensures) (laid-fits fits, record { order = fits .roomy .small; total = c .before .before .if2 .left ∙ c .before .before .before .words .ensures })
+    let given = c .before .before .before .before .before .before .before .before .before .before in
+    let full = c .before .before .before .before .before .before .before .full in
+    let check = c .before .before .before .before .before .before .check in
+    let code = c .before .before .before .before .before .code in
+    let if1 = c .before .before .before .before .if1 in
+    let fits = right-size (given .args .n) (now (given .args .a)) (check .result) (full .ensures) (check .ensures) (code .ensures) (if1 .left) in
+    rw (full .ensures) (laid-fits fits, record { order = fits .roomy .small; total = c .before .before .if2 .left ∙ c .before .before .before .words .ensures })
 
 put-mark-requires : tie.Need-put-mark-requires
 put-mark-requires c κs = omega arith
@@ -48,8 +59,16 @@ same-length-2 c = search needs
 
 returns-3 : tie.Need-returns-3
 returns-3 c =
-    let fits = right-size (c .before .before .before .before .before .before .before .before .before .before .before .before .before .before .before .before .before .before .before .args .n) (now (c .before .before .before .before .before .before .before .before .before .before .before .before .before .before .before .before .before .before .before .args .a)) (c .before .before .before .before .before .before .before .before .before .before .before .before .before .before .before .check .result) (c .before .before .before .before .before .before .before .before .before .before .before .before .before .before .before .before .full .ensures) (c .before .before .before .before .before .before .before .before .before .before .before .before .before .before .before .check .ensures) (c .before .before .before .before .before .before .before .before .before .before .before .before .before .before .code .ensures) (c .before .before .before .before .before .before .before .before .before .before .before .before .before .if1 .left) in
-    finished (full (c .before .before .before .before .before .before .before .before .before .before .before .before .before .before .before .before .before .before .before .args .n)) _ _ fits (c .before .before .before .before .before .before .before .before .before .before .before .if2 .left ∙ c .before .before .before .before .before .before .before .before .before .before .before .before .words .ensures) (rw (c .before .before .before .before .before .before .before .before .before .before .before .before .before .before .before .before .full .ensures) at (c .before .before .before .before .before .before .before .before .steps .ensures)) (c .before .before .put-mark .ensures)
+    let given = c .before .before .before .before .before .before .before .before .before .before .before .before .before .before .before .before .before .before .before in
+    let full-step = c .before .before .before .before .before .before .before .before .before .before .before .before .before .before .before .before .full in
+    let check = c .before .before .before .before .before .before .before .before .before .before .before .before .before .before .before .check in
+    let code = c .before .before .before .before .before .before .before .before .before .before .before .before .before .before .code in
+    let if1 = c .before .before .before .before .before .before .before .before .before .before .before .before .before .if1 in
+    let words = c .before .before .before .before .before .before .before .before .before .before .before .before .words in
+    let if2 = c .before .before .before .before .before .before .before .before .before .before .before .if2 in
+    let steps = c .before .before .before .before .before .before .before .before .steps in
+    let fits = right-size (given .args .n) (now (given .args .a)) (check .result) (full-step .ensures) (check .ensures) (code .ensures) (if1 .left) in
+    finished (full (given .args .n)) _ _ fits (if2 .left ∙ words .ensures) (rw (full-step .ensures) at (steps .ensures)) (c .before .before .put-mark .ensures)
 
 pub factor-spec : {M : Type 1} → statement M
 factor-spec =

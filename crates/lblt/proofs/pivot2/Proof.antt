@@ -10,13 +10,17 @@ bring2-requires : tie.Need-bring2-requires
 bring2-requires c κs = (c .before .before .pre .0, (omega arith, omega arith))
 
 update2-requires : tie.Need-update2-requires
-update2-requires c κs = (laid-after (c .before .before .before .before .before .before .pre .0) (c .before .before .before .bring2 .ensures), omega arith)
+update2-requires c κs =
+    let given = c .before .before .before .before .before .before in
+    (laid-after (given .pre .0) (c .before .before .before .bring2 .ensures), omega arith)
 
 same-length : tie.Need-same-length
 same-length c = search needs
 
 returns : tie.Need-returns
-returns c = pivots2 _ _ _ (c .before .before .before .before .before .before .bring2 .ensures) (c .before .before .update2 .ensures)
+returns c =
+    let bring2 = c .before .before .before .before .before .before .bring2 in
+    pivots2 _ _ _ (bring2 .ensures) (c .before .before .update2 .ensures)
 
 pub pivot2-spec : {M : Type 1} → statement M
 pivot2-spec = tie.close (tie.spec bring2-requires update2-requires same-length returns)

@@ -17,19 +17,32 @@ loop-holds : tie.Need-loop-holds Inv-loop μ-loop
 loop-holds c = going-none (c .before .before .pre .0 .sound) (c .before .before .pre .1)
 
 step-requires : tie.Need-step-requires Inv-loop μ-loop
-step-requires c κs = (laid-after (c .before .before .before .before .before .before .before .pre .0) (c .before .before .before .before .loop .inv .holds), (c .before .before .before .before .loop .inv .sized, c .before .before .if1 .taken))
+step-requires c κs =
+    let given = c .before .before .before .before .before .before .before in
+    let loop = c .before .before .before .before .loop in
+    (laid-after (given .pre .0) (loop .inv .holds), (loop .inv .sized, c .before .before .if1 .taken))
 
 loop-less : tie.Need-loop-less Inv-loop μ-loop
-loop-less c = omega (arith, rises _ _ (c .before .before .before .before .step .ensures))
+loop-less c =
+    let step = c .before .before .before .before .step in
+    omega (arith, rises _ _ (step .ensures))
 
 loop-again : tie.Need-loop-again Inv-loop μ-loop
-loop-again c = going-more (c .before .before .before .before .before .before .before .before .before .loop .inv) (c .before .before .before .before .before .before .before .if1 .taken) (omega arith) (c .before .before .before .before .step .ensures)
+loop-again c =
+    let loop = c .before .before .before .before .before .before .before .before .before .loop in
+    let if1 = c .before .before .before .before .before .before .before .if1 in
+    let step = c .before .before .before .before .step in
+    going-more (loop .inv) (if1 .taken) (omega arith) (step .ensures)
 
 same-length : tie.Need-same-length Inv-loop μ-loop
-same-length c = c .before .before .loop .inv .holds .sound .long ∙ sym (c .before .before .before .before .before .pre .0 .sound .long)
+same-length c =
+    let given = c .before .before .before .before .before in
+    c .before .before .loop .inv .holds .sound .long ∙ sym (given .pre .0 .sound .long)
 
 same-length-2 : tie.Need-same-length-2 Inv-loop μ-loop
-same-length-2 c = c .before .before .loop .inv .sized .total ∙ sym (c .before .before .before .before .before .pre .1 .total)
+same-length-2 c =
+    let given = c .before .before .before .before .before in
+    c .before .before .loop .inv .sized .total ∙ sym (given .pre .1 .total)
 
 returns : tie.Need-returns Inv-loop μ-loop
 returns c = going-all (c .before .before .loop .inv) (c .if1 .left)

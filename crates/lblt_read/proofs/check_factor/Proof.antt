@@ -12,13 +12,19 @@ code-requires : tie.Need-code-requires
 code-requires c κs = search needs
 
 returns : tie.Need-returns
-returns c = factor-wrong (c .before .before .before .before .before .args .y) (c .before .before .before .before .before .args .a .now) (c .before .before .check .ensures) (c .before .before .before .before .before .args .words .now) (code-refused (c .before .before .check .result) (c .before .code .ensures) (c .if1 .taken))
+returns c =
+    let given = c .before .before .before .before .before in
+    factor-wrong (given .args .y) (given .args .a .now) (c .before .before .check .ensures) (given .args .words .now) (code-refused (c .before .before .check .result) (c .before .code .ensures) (c .if1 .taken))
 
 check-record-requires : tie.Need-check-record-requires
-check-record-requires c κs = order-small (c .before .before .before .before .before .args .y) (c .before .before .before .before .before .args .a .now) (c .before .before .check .ensures) (code-done (c .before .before .check .result) (c .before .code .ensures) (c .if1 .left))
+check-record-requires c κs =
+    let given = c .before .before .before .before .before in
+    order-small (given .args .y) (given .args .a .now) (c .before .before .check .ensures) (code-done (c .before .before .check .result) (c .before .code .ensures) (c .if1 .left))
 
 returns-2 : tie.Need-returns-2
-returns-2 c = factor-right (c .before .before .before .before .before .before .args .y) (c .before .before .before .before .before .before .args .a .now) (c .before .before .before .check .ensures) (c .before .before .before .before .before .before .args .words .now) (code-done (c .before .before .before .check .result) (c .before .before .code .ensures) (c .before .if1 .left)) (c .check-record .ensures)
+returns-2 c =
+    let given = c .before .before .before .before .before .before in
+    factor-right (given .args .y) (given .args .a .now) (c .before .before .before .check .ensures) (given .args .words .now) (code-done (c .before .before .before .check .result) (c .before .before .code .ensures) (c .before .if1 .left)) (c .check-record .ensures)
 
 pub check-factor-spec : {M : Type 1} → statement M
 check-factor-spec =

@@ -15,7 +15,9 @@ check-requires : tie.Need-check-requires
 check-requires c κs = search needs
 
 returns-2 : tie.Need-returns-2
-returns-2 c = c .check .ensures ∙ record-long (c .before .before .before .before .args .n) (c .before .before .before .before .args .words .now) (c .before .if1 .left ∙ c .before .before .words .ensures)
+returns-2 c =
+    let given = c .before .before .before .before in
+    c .check .ensures ∙ record-long (given .args .n) (given .args .words .now) (c .before .if1 .left ∙ c .before .before .words .ensures)
 
 pub check-record-spec : {M : Type 1} → statement M
 check-record-spec = tie.close (tie.spec words-requires returns check-requires returns-2)

@@ -22,18 +22,27 @@ same-length : tie.Need-same-length
 same-length c = search needs
 
 returns : tie.Need-returns
-returns c = record { answer = rw (c .before .before .before .before .full .ensures) at (c .before .before .check-columns .ensures); left = leaving-refused (code-refused (c .before .before .check-columns .result) (c .before .code .ensures) (c .if1 .taken)) refl }
+returns c =
+    let full = c .before .before .before .before .full in
+    record { answer = rw (full .ensures) at (c .before .before .check-columns .ensures); left = leaving-refused (code-refused (c .before .before .check-columns .result) (c .before .code .ensures) (c .if1 .taken)) refl }
 
 fill-requires : tie.Need-fill-requires
 fill-requires c κs =
-    let known = columns-done (full (c .before .before .before .before .before .before .before .before .before .args .n)) (c .before .before .before .before .before .before .before .before .before .args .n) (c .before .before .before .before .before .before .before .before .before .args .a .now) (c .before .before .before .before .before .before .before .before .before .args .words .now) (c .before .before .before .before .before .before .before .before .before .args .d .now) (ap isDone (sym (rw (c .before .before .before .before .before .full .ensures) at (c .before .before .before .check-columns .ensures))) ∙ code-done (c .before .before .before .check-columns .result) (c .before .before .code .ensures) (c .before .if1 .left)) in
-    rw (c .before .before .before .before .before .full .ensures) (known .readable, record { small = known .few; long = known .long })
+    let given = c .before .before .before .before .before .before .before .before .before in
+    let full-step = c .before .before .before .before .before .full in
+    let known = columns-done (full (given .args .n)) (given .args .n) (given .args .a .now) (given .args .words .now) (given .args .d .now) (ap isDone (sym (rw (full-step .ensures) at (c .before .before .before .check-columns .ensures))) ∙ code-done (c .before .before .before .check-columns .result) (c .before .before .code .ensures) (c .before .if1 .left)) in
+    rw (full-step .ensures) (known .readable, record { small = known .few; long = known .long })
 
 same-length-2 : tie.Need-same-length-2
 same-length-2 c = search needs
 
 returns-2 : tie.Need-returns-2
-returns-2 c = record { answer = rw (c .before .before .before .before .before .before .before .before .full .ensures) at (c .before .before .before .before .before .before .check-columns .ensures); left = leaving-done (code-done (c .before .before .before .before .before .before .check-columns .result) (c .before .before .before .before .before .code .ensures) (c .before .before .before .before .if1 .left)) (rw (c .before .before .before .before .before .before .before .before .full .ensures) at (c .before .before .fill .ensures)) }
+returns-2 c =
+    let full = c .before .before .before .before .before .before .before .before .full in
+    let check-columns = c .before .before .before .before .before .before .check-columns in
+    let code = c .before .before .before .before .before .code in
+    let if1 = c .before .before .before .before .if1 in
+    record { answer = rw (full .ensures) at (check-columns .ensures); left = leaving-done (code-done (check-columns .result) (code .ensures) (if1 .left)) (rw (full .ensures) at (c .before .before .fill .ensures)) }
 
 pub d-spec : {M : Type 1} → statement M
 d-spec =

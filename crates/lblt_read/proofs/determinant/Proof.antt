@@ -23,7 +23,9 @@ product-requires : tie.Need-product-requires
 product-requires c κs = read-done _ _ _ (ap isDone (sym (c .before .before .check-factor .ensures)) ∙ code-done (c .before .before .check-factor .result) (c .before .code .ensures) (c .if1 .left))
 
 returns-2 : tie.Need-returns-2
-returns-2 c = record { answer = rw (c .before .before .before .before .full .ensures) at (c .before .before .before .check-factor .ensures); value = rw (code-done (c .before .before .before .check-factor .result) (c .before .before .code .ensures) (c .before .if1 .left)) (rw (c .before .before .before .before .full .ensures) at (c .product .ensures)) }
+returns-2 c =
+    let full = c .before .before .before .before .full in
+    record { answer = rw (full .ensures) at (c .before .before .before .check-factor .ensures); value = rw (code-done (c .before .before .before .check-factor .result) (c .before .before .code .ensures) (c .before .if1 .left)) (rw (full .ensures) at (c .product .ensures)) }
 
 pub determinant-spec : {M : Type 1} → statement M
 determinant-spec =

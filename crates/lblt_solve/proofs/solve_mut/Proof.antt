@@ -19,18 +19,27 @@ same-length : tie.Need-same-length
 same-length c = search needs
 
 returns : tie.Need-returns
-returns c = record { answer = rw (c .before .before .before .before .full .ensures) at (c .before .before .check .ensures); sides = rw (code-refused (c .before .before .check .result) (c .before .code .ensures) (c .if1 .taken)) }
+returns c =
+    let full = c .before .before .before .before .full in
+    record { answer = rw (full .ensures) at (c .before .before .check .ensures); sides = rw (code-refused (c .before .before .check .result) (c .before .code .ensures) (c .if1 .taken)) }
 
 solve-requires : tie.Need-solve-requires
 solve-requires c κs =
-    let known = solver-admitted (full (c .before .before .before .before .before .before .before .before .before .args .n)) (c .before .before .before .before .before .before .before .before .before .args .columns) (c .before .before .before .before .before .before .before .before .before .args .a .now) (c .before .before .before .before .before .before .before .before .before .args .words .now) (c .before .before .before .before .before .before .before .before .before .args .b .now) (rw (c .before .before .before .before .before .full .ensures) at (c .before .before .before .check .ensures)) (code-done (c .before .before .before .check .result) (c .before .before .code .ensures) (c .before .if1 .left)) in
-    rw (c .before .before .before .before .before .full .ensures) (known .readable, record { few = known .few; long = known .long })
+    let given = c .before .before .before .before .before .before .before .before .before in
+    let full-step = c .before .before .before .before .before .full in
+    let known = solver-admitted (full (given .args .n)) (given .args .columns) (given .args .a .now) (given .args .words .now) (given .args .b .now) (rw (full-step .ensures) at (c .before .before .before .check .ensures)) (code-done (c .before .before .before .check .result) (c .before .before .code .ensures) (c .before .if1 .left)) in
+    rw (full-step .ensures) (known .readable, record { few = known .few; long = known .long })
 
 same-length-2 : tie.Need-same-length-2
 same-length-2 c = search needs
 
 returns-2 : tie.Need-returns-2
-returns-2 c = record { answer = rw (c .before .before .before .before .before .before .before .before .full .ensures) at (c .before .before .before .before .before .before .check .ensures); sides = rw (code-done (c .before .before .before .before .before .before .check .result) (c .before .before .before .before .before .code .ensures) (c .before .before .before .before .if1 .left)) (rw (c .before .before .before .before .before .before .before .before .full .ensures) at (c .before .before .solve .ensures)) }
+returns-2 c =
+    let full = c .before .before .before .before .before .before .before .before .full in
+    let check = c .before .before .before .before .before .before .check in
+    let code = c .before .before .before .before .before .code in
+    let if1 = c .before .before .before .before .if1 in
+    record { answer = rw (full .ensures) at (check .ensures); sides = rw (code-done (check .result) (code .ensures) (if1 .left)) (rw (full .ensures) at (c .before .before .solve .ensures)) }
 
 pub solve-mut-spec : {M : Type 1} → statement M
 solve-mut-spec =

@@ -27,12 +27,14 @@ add-get-3 c = search needs
 
 get-requires-3 : tie.Need-get-requires-3
 get-requires-3 c κs =
-    let pre = c .before .before .before .before .pre in
+    let given = c .before .before .before .before in
+    let pre = given .pre in
     (pre .0 .factor, (omega arith, omega (arith, pre .1)))
 
 row-requires : tie.Need-row-requires
 row-requires c κs =
-    let pre = c .before .before .before .before .before .before .pre in
+    let given = c .before .before .before .before .before .before in
+    let pre = given .pre in
     (pre .0 .long, omega (arith, pre .1))
 
 add-row : tie.Need-add-row
@@ -40,7 +42,8 @@ add-row c = search needs
 
 row-requires-2 : tie.Need-row-requires-2
 row-requires-2 c κs =
-    let pre = c .before .before .before .before .before .before .before .before .pre in
+    let given = c .before .before .before .before .before .before .before .before in
+    let pre = given .pre in
     (pre .0 .long, pre .1)
 
 cross-requires : tie.Need-cross-requires
@@ -51,12 +54,14 @@ over-requires c κs = search needs
 
 put-row-requires : tie.Need-put-row-requires
 put-row-requires c κs =
-    let pre = c .before .before .before .before .before .before .before .before .before .before .before .before .pre in
+    let given = c .before .before .before .before .before .before .before .before .before .before .before .before in
+    let pre = given .pre in
     (pre .0 .long, omega (arith, pre .1))
 
 add-put-row : tie.Need-add-put-row
 add-put-row c =
-    let pre = c .before .before .before .before .before .before .before .before .before .before .before .before .before .before .before .before .pre in
+    let given = c .before .before .before .before .before .before .before .before .before .before .before .before .before .before .before .before in
+    let pre = given .pre in
     omega (arith, pre .1, pre .0 .factor .roomy)
 
 cross-requires-2 : tie.Need-cross-requires-2
@@ -67,8 +72,10 @@ over-requires-2 c κs = search needs
 
 put-row-requires-2 : tie.Need-put-row-requires-2
 put-row-requires-2 c κs =
-    let put-row = c .before .before .before .before .before .put-row in
-    let pre = c .before .before .before .before .before .before .before .before .before .before .before .before .before .before .before .before .before .before .pre in
+    let given = c .before .before .before .before .before .before .before .before .before .before .before .before .before .before .before .before .before .before in
+    let put-row-step = c .before .before .before .before .before .put-row in
+    let put-row = put-row-step in
+    let pre = given .pre in
     (put-row .kept .0 ∙ pre .0 .long, pre .1)
 
 same-length : tie.Need-same-length
@@ -76,16 +83,26 @@ same-length c = search needs
 
 returns : tie.Need-returns
 returns c =
-    let pre = c .before .before .before .before .before .before .before .before .before .before .before .before .before .before .before .before .before .before .before .before .before .pre in
-    let get = c .before .before .before .before .before .before .before .before .before .before .before .before .before .before .before .before .before .before .get in
-    let get2 = c .before .before .before .before .before .before .before .before .before .before .before .before .before .before .before .before .before .get2 in
-    let get3 = c .before .before .before .before .before .before .before .before .before .before .before .before .before .before .before .before .get3 in
-    let row = c .before .before .before .before .before .before .before .before .before .before .before .before .before .before .row in
-    let row2 = c .before .before .before .before .before .before .before .before .before .before .before .before .row2 in
-    let cross = c .before .before .before .before .before .before .before .before .before .before .cross in
-    let over = c .before .before .before .before .before .before .before .before .before .over in
-    let put-row = c .before .before .before .before .before .before .before .before .put-row in
-    let cross2 = c .before .before .before .before .cross2 in
+    let given = c .before .before .before .before .before .before .before .before .before .before .before .before .before .before .before .before .before .before .before .before .before in
+    let get-step = c .before .before .before .before .before .before .before .before .before .before .before .before .before .before .before .before .before .before .get in
+    let get2-step = c .before .before .before .before .before .before .before .before .before .before .before .before .before .before .before .before .before .get2 in
+    let get3-step = c .before .before .before .before .before .before .before .before .before .before .before .before .before .before .before .before .get3 in
+    let row-step = c .before .before .before .before .before .before .before .before .before .before .before .before .before .before .row in
+    let row2-step = c .before .before .before .before .before .before .before .before .before .before .before .before .row2 in
+    let cross-step = c .before .before .before .before .before .before .before .before .before .before .cross in
+    let over-step = c .before .before .before .before .before .before .before .before .before .over in
+    let put-row-step = c .before .before .before .before .before .before .before .before .put-row in
+    let cross2-step = c .before .before .before .before .cross2 in
+    let pre = given .pre in
+    let get = get-step in
+    let get2 = get2-step in
+    let get3 = get3-step in
+    let row = row-step in
+    let row2 = row2-step in
+    let cross = cross-step in
+    let over = over-step in
+    let put-row = put-row-step in
+    let cross2 = cross2-step in
     let over2 = c .before .before .before .over2 in
     let put-row2 = c .before .before .put-row2 in
     divided-two _ _ (pre .0 .long) _ _ (pre .1) (get .ensures) (get2 .ensures) (get3 .ensures) (row .ensures) (row2 .ensures) (cross .ensures) (over .ensures) (put-row .ensures) (cross2 .ensures) (over2 .ensures) (put-row2 .ensures)

@@ -18,20 +18,24 @@ swap-rows-requires c κs = search needs
 
 eliminate-one-requires : tie.Need-eliminate-one-requires
 eliminate-one-requires c κs =
-    let pre = c .before .before .before .before .before .before .before .before .before .before .before .pre in
+    let given = c .before .before .before .before .before .before .before .before .before .before .before in
+    let pre = given .pre in
     let swap-rows = c .before .before .before .swap-rows in
     (record { factor = pre .0 .factor; long = swap-rows .kept .0 ∙ pre .0 .long }, pre .1 .inside)
 
 divide-one-requires : tie.Need-divide-one-requires
 divide-one-requires c κs =
-    let pre = c .before .before .before .before .before .before .before .before .before .before .before .before .before .before .before .pre in
+    let given = c .before .before .before .before .before .before .before .before .before .before .before .before .before .before .before in
+    let swap-rows-step = c .before .before .before .before .before .before .before .swap-rows in
+    let pre = given .pre in
     let eliminate-one = c .before .before .before .eliminate-one in
-    let swap-rows = c .before .before .before .before .before .before .before .swap-rows in
+    let swap-rows = swap-rows-step in
     (record { factor = pre .0 .factor; long = eliminate-one .kept .1 .1 .0 ∙ swap-rows .kept .0 ∙ pre .0 .long }, pre .1 .inside)
 
 add-result : tie.Need-add-result
 add-result c =
-    let pre = c .before .before .before .before .before .before .before .before .before .before .before .before .before .before .before .before .before .before .pre in
+    let given = c .before .before .before .before .before .before .before .before .before .before .before .before .before .before .before .before .before .before in
+    let pre = given .pre in
     omega (arith, pre .1 .inside, pre .0 .factor .roomy)
 
 same-length : tie.Need-same-length
@@ -39,12 +43,18 @@ same-length c = search needs
 
 returns : tie.Need-returns
 returns c =
-    let pre = c .before .before .before .before .before .before .before .before .before .before .before .before .before .before .before .before .before .before .pre in
-    let size = c .before .before .before .before .before .before .before .before .before .before .before .before .before .size in
-    let index = c .before .before .before .before .before .before .before .before .before .before .before .before .before .before .index in
-    let if1 = c .before .before .before .before .before .before .before .before .before .before .before .before .if1 in
-    let swap-rows = c .before .before .before .before .before .before .before .before .before .before .swap-rows in
-    let eliminate-one = c .before .before .before .before .before .before .eliminate-one in
+    let given = c .before .before .before .before .before .before .before .before .before .before .before .before .before .before .before .before .before .before in
+    let index-step = c .before .before .before .before .before .before .before .before .before .before .before .before .before .before .index in
+    let size-step = c .before .before .before .before .before .before .before .before .before .before .before .before .before .size in
+    let if1-step = c .before .before .before .before .before .before .before .before .before .before .before .before .if1 in
+    let swap-rows-step = c .before .before .before .before .before .before .before .before .before .before .swap-rows in
+    let eliminate-one-step = c .before .before .before .before .before .before .eliminate-one in
+    let pre = given .pre in
+    let size = size-step in
+    let index = index-step in
+    let if1 = if1-step in
+    let swap-rows = swap-rows-step in
+    let eliminate-one = eliminate-one-step in
     let divide-one = c .before .before .divide-one in
     columns-reduced-one _ _ _ (pre .0 .long) _ _ _ (size .ensures) (index .ensures) (if1 .taken) (swap-rows .ensures) (eliminate-one .ensures) (divide-one .ensures)
 
@@ -53,34 +63,43 @@ add-swap-rows c = search needs
 
 swap-rows-requires-2 : tie.Need-swap-rows-requires-2
 swap-rows-requires-2 c κs =
-    let pre = c .before .before .before .before .before .before .before .pre in
-    let args = c .before .before .before .before .before .before .before .args in
+    let given = c .before .before .before .before .before .before .before in
+    let pre = given .pre in
+    let args = given .args in
     let size = c .before .before .size in
     let index = c .before .before .before .index in
     (pre .0 .long, (omega (arith, pre .1 .rows, reads-two (args .words .now) (args .k) (size .ensures) (c .before .if1 .left)), omega (arith, pre .1 .index, index .ensures)))
 
 eliminate-two-requires : tie.Need-eliminate-two-requires
 eliminate-two-requires c κs =
-    let pre = c .before .before .before .before .before .before .before .before .before .before .before .pre in
+    let given = c .before .before .before .before .before .before .before .before .before .before .before in
+    let size-step = c .before .before .before .before .before .before .size in
+    let if1-step = c .before .before .before .before .before .if1 in
+    let pre = given .pre in
     let swap-rows2 = c .before .before .before .swap-rows2 in
-    let args = c .before .before .before .before .before .before .before .before .before .before .before .args in
-    let size = c .before .before .before .before .before .before .size in
-    let if1 = c .before .before .before .before .before .if1 in
+    let args = given .args in
+    let size = size-step in
+    let if1 = if1-step in
     (record { factor = pre .0 .factor; long = swap-rows2 .kept .0 ∙ pre .0 .long }, omega (arith, pre .1 .rows, reads-two (args .words .now) (args .k) (size .ensures) (if1 .left)))
 
 divide-two-requires : tie.Need-divide-two-requires
 divide-two-requires c κs =
-    let pre = c .before .before .before .before .before .before .before .before .before .before .before .before .before .before .before .pre in
+    let given = c .before .before .before .before .before .before .before .before .before .before .before .before .before .before .before in
+    let size-step = c .before .before .before .before .before .before .before .before .before .before .size in
+    let if1-step = c .before .before .before .before .before .before .before .before .before .if1 in
+    let swap-rows2-step = c .before .before .before .before .before .before .before .swap-rows2 in
+    let pre = given .pre in
     let eliminate-two = c .before .before .before .eliminate-two in
-    let swap-rows2 = c .before .before .before .before .before .before .before .swap-rows2 in
-    let args = c .before .before .before .before .before .before .before .before .before .before .before .before .before .before .before .args in
-    let size = c .before .before .before .before .before .before .before .before .before .before .size in
-    let if1 = c .before .before .before .before .before .before .before .before .before .if1 in
+    let swap-rows2 = swap-rows2-step in
+    let args = given .args in
+    let size = size-step in
+    let if1 = if1-step in
     (record { factor = pre .0 .factor; long = eliminate-two .kept .1 .1 .0 ∙ swap-rows2 .kept .0 ∙ pre .0 .long }, omega (arith, pre .1 .rows, reads-two (args .words .now) (args .k) (size .ensures) (if1 .left)))
 
 add-result-2 : tie.Need-add-result-2
 add-result-2 c =
-    let pre = c .before .before .before .before .before .before .before .before .before .before .before .before .before .before .before .before .before .before .pre in
+    let given = c .before .before .before .before .before .before .before .before .before .before .before .before .before .before .before .before .before .before in
+    let pre = given .pre in
     omega (arith, pre .1 .inside, pre .0 .factor .roomy)
 
 same-length-2 : tie.Need-same-length-2
@@ -88,12 +107,18 @@ same-length-2 c = search needs
 
 returns-2 : tie.Need-returns-2
 returns-2 c =
-    let pre = c .before .before .before .before .before .before .before .before .before .before .before .before .before .before .before .before .before .before .pre in
-    let size = c .before .before .before .before .before .before .before .before .before .before .before .before .before .size in
-    let index = c .before .before .before .before .before .before .before .before .before .before .before .before .before .before .index in
-    let if1 = c .before .before .before .before .before .before .before .before .before .before .before .before .if1 in
-    let swap-rows2 = c .before .before .before .before .before .before .before .before .before .before .swap-rows2 in
-    let eliminate-two = c .before .before .before .before .before .before .eliminate-two in
+    let given = c .before .before .before .before .before .before .before .before .before .before .before .before .before .before .before .before .before .before in
+    let index-step = c .before .before .before .before .before .before .before .before .before .before .before .before .before .before .index in
+    let size-step = c .before .before .before .before .before .before .before .before .before .before .before .before .before .size in
+    let if1-step = c .before .before .before .before .before .before .before .before .before .before .before .before .if1 in
+    let swap-rows2-step = c .before .before .before .before .before .before .before .before .before .before .swap-rows2 in
+    let eliminate-two-step = c .before .before .before .before .before .before .eliminate-two in
+    let pre = given .pre in
+    let size = size-step in
+    let index = index-step in
+    let if1 = if1-step in
+    let swap-rows2 = swap-rows2-step in
+    let eliminate-two = eliminate-two-step in
     let divide-two = c .before .before .divide-two in
     columns-reduced-two _ _ _ (pre .0 .long) _ _ _ (size .ensures) (index .ensures) (if1 .left) (swap-rows2 .ensures) (eliminate-two .ensures) (divide-two .ensures)
 

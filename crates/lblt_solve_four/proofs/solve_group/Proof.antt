@@ -39,8 +39,9 @@ part-solve-four-end c =
 
 solve-four-requires : tie.Need-solve-four-requires
 solve-four-requires c κs =
-    let pre = c .before .before .before .before .pre in
-    let args = c .before .before .before .before .args in
+    let given = c .before .before .before .before in
+    let pre = given .pre in
+    let args = given .args in
     (pre .0, record { factor = pre .0 .factor; long = group-long (pre .1 .0) (args .j) 4 (pre .1 .1) })
 
 same-length : tie.Need-same-length
@@ -48,7 +49,8 @@ same-length c = search needs
 
 returns : tie.Need-returns
 returns c =
-    let pre = c .before .before .before .before .before .before .before .pre in
+    let given = c .before .before .before .before .before .before .before in
+    let pre = given .pre in
     let solve-four = c .before .before .solve-four in
     group-put _ _ (solve-keeps _ _ _) (pre .1 .0) _ 4 (pre .1 .1) (solve-four .ensures)
 

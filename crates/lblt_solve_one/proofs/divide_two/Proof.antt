@@ -22,7 +22,8 @@ add-get-3 c = search needs
 
 get-requires-3 : tie.Need-get-requires-3
 get-requires-3 c κs =
-    let pre = c .before .before .before .before .pre in
+    let given = c .before .before .before .before in
+    let pre = given .pre in
     (pre .0 .factor, (omega arith, omega arith))
 
 mul-b-k : tie.Need-mul-b-k
@@ -60,7 +61,9 @@ same-length c = search needs
 
 returns : tie.Need-returns
 unfolding divideTwo blockDeterminant
-returns c = simp (c .before .before .before .before .get .ensures, c .before .before .before .get2 .ensures, c .before .before .get3 .ensures)
+returns c =
+    let get = c .before .before .before .before .get in
+    simp (get .ensures, c .before .before .before .get2 .ensures, c .before .before .get3 .ensures)
 
 pub divide-two-spec : {M : Type 1} → statement M
 divide-two-spec =

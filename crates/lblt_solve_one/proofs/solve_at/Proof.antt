@@ -39,8 +39,9 @@ part-solve-column-end c =
 
 solve-column-requires : tie.Need-solve-column-requires
 solve-column-requires c κs =
-    let pre = c .before .before .before .before .pre in
-    let args = c .before .before .before .before .args in
+    let given = c .before .before .before .before in
+    let pre = given .pre in
+    let args = given .args in
     (pre .0, record { factor = pre .0 .factor; long = ap length (part-is (args .y .order) (args .j) (args .b .now)) ∙ column-long _ _ _ _ (pre .1 .0) (pre .1 .1) })
 
 same-length : tie.Need-same-length

@@ -19,7 +19,9 @@ index-requires : tie.Need-index-requires
 index-requires c κs = search needs
 
 gather-row-requires : tie.Need-gather-row-requires
-gather-row-requires c κs = (c .before .before .before .before .before .pre .0, (c .before .before .before .before .before .pre .1 .0, (omega (arith, c .before .before .before .before .before .pre .1 .1 .inside), c .before .before .before .before .before .pre .1 .1 .end)))
+gather-row-requires c κs =
+    let given = c .before .before .before .before .before in
+    (given .pre .0, (given .pre .1 .0, (omega (arith, given .pre .1 .1 .inside), given .pre .1 .1 .end)))
 
 size-requires : tie.Need-size-requires
 size-requires c κs = search needs
@@ -34,25 +36,47 @@ same-length : tie.Need-same-length
 same-length c = search needs
 
 returns : tie.Need-returns
-returns c = columns-backed-one _ _ _ (c .before .before .before .before .before .before .before .before .before .before .before .before .before .before .pre .1 .0 .long) _ _ _ (c .before .before .before .before .before .size .ensures) (c .before .before .before .before .before .before .before .before .before .before .index .ensures) (c .before .before .before .before .if1 .taken) (c .before .before .before .before .before .before .before .before .gather-row .ensures) (c .before .before .swap-rows .ensures)
+returns c =
+    let given = c .before .before .before .before .before .before .before .before .before .before .before .before .before .before in
+    let index = c .before .before .before .before .before .before .before .before .before .before .index in
+    let gather-row = c .before .before .before .before .before .before .before .before .gather-row in
+    let size = c .before .before .before .before .before .size in
+    let if1 = c .before .before .before .before .if1 in
+    columns-backed-one _ _ _ (given .pre .1 .0 .long) _ _ _ (size .ensures) (index .ensures) (if1 .taken) (gather-row .ensures) (c .before .before .swap-rows .ensures)
 
 sub-gather-row : tie.Need-sub-gather-row
-sub-gather-row c = omega (arith, c .before .before .before .before .before .before .before .before .before .before .before .pre .1 .1 .rows, reads-two (c .before .before .before .before .before .before .before .before .before .before .before .args .words .now) (c .before .before .before .before .before .before .before .before .before .before .before .args .k - 1) (c .before .before .size .ensures) (c .before .if1 .left))
+sub-gather-row c =
+    let given = c .before .before .before .before .before .before .before .before .before .before .before in
+    omega (arith, given .pre .1 .1 .rows, reads-two (given .args .words .now) (given .args .k - 1) (c .before .before .size .ensures) (c .before .if1 .left))
 
 gather-row-requires-2 : tie.Need-gather-row-requires-2
-gather-row-requires-2 c κs = (c .before .before .before .before .before .before .before .before .before .before .before .pre .0, (record { few = c .before .before .before .before .before .before .before .before .before .before .before .pre .1 .0 .few; long = c .before .before .before .before .before .gather-row .kept .1 .1 .0 ∙ c .before .before .before .before .before .before .before .before .before .before .before .pre .1 .0 .long }, (omega (arith, c .before .before .before .before .before .before .before .before .before .before .before .pre .1 .1 .inside), c .before .before .before .before .before .before .before .before .before .before .before .pre .1 .1 .end)))
+gather-row-requires-2 c κs =
+    let given = c .before .before .before .before .before .before .before .before .before .before .before in
+    let gather-row = c .before .before .before .before .before .gather-row in
+    (given .pre .0, (record { few = given .pre .1 .0 .few; long = gather-row .kept .1 .1 .0 ∙ given .pre .1 .0 .long }, (omega (arith, given .pre .1 .1 .inside), given .pre .1 .1 .end)))
 
 swap-rows-requires-2 : tie.Need-swap-rows-requires-2
 swap-rows-requires-2 c κs = search needs
 
 sub-result-2 : tie.Need-sub-result-2
-sub-result-2 c = omega (arith, c .before .before .before .before .before .before .before .before .before .before .before .before .before .before .before .before .before .before .pre .1 .1 .rows, reads-two (c .before .before .before .before .before .before .before .before .before .before .before .before .before .before .before .before .before .before .args .words .now) (c .before .before .before .before .before .before .before .before .before .before .before .before .before .before .before .before .before .before .args .k - 1) (c .before .before .before .before .before .before .before .before .before .size .ensures) (c .before .before .before .before .before .before .before .before .if1 .left))
+sub-result-2 c =
+    let given = c .before .before .before .before .before .before .before .before .before .before .before .before .before .before .before .before .before .before in
+    let size = c .before .before .before .before .before .before .before .before .before .size in
+    let if1 = c .before .before .before .before .before .before .before .before .if1 in
+    omega (arith, given .pre .1 .1 .rows, reads-two (given .args .words .now) (given .args .k - 1) (size .ensures) (if1 .left))
 
 same-length-2 : tie.Need-same-length-2
 same-length-2 c = search needs
 
 returns-2 : tie.Need-returns-2
-returns-2 c = columns-backed-two _ _ _ (c .before .before .before .before .before .before .before .before .before .before .before .before .before .before .before .before .before .before .pre .1 .0 .long) _ _ _ (c .before .before .before .before .before .before .before .before .before .size .ensures) (c .before .before .before .before .before .before .before .before .before .before .before .before .before .before .index .ensures) (c .before .before .before .before .before .before .before .before .if1 .left) (c .before .before .before .before .before .before .before .before .before .before .before .before .gather-row .ensures) (c .before .before .before .before .before .before .gather-row2 .ensures) (c .before .before .swap-rows2 .ensures)
+returns-2 c =
+    let given = c .before .before .before .before .before .before .before .before .before .before .before .before .before .before .before .before .before .before in
+    let index = c .before .before .before .before .before .before .before .before .before .before .before .before .before .before .index in
+    let gather-row = c .before .before .before .before .before .before .before .before .before .before .before .before .gather-row in
+    let size = c .before .before .before .before .before .before .before .before .before .size in
+    let if1 = c .before .before .before .before .before .before .before .before .if1 in
+    let gather-row2 = c .before .before .before .before .before .before .gather-row2 in
+    columns-backed-two _ _ _ (given .pre .1 .0 .long) _ _ _ (size .ensures) (index .ensures) (if1 .left) (gather-row .ensures) (gather-row2 .ensures) (c .before .before .swap-rows2 .ensures)
 
 pub backward-block-spec : {M : Type 1} → statement M
 backward-block-spec =

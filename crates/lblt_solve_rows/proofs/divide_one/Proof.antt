@@ -26,38 +26,57 @@ loop-holds c = turning-none (omega arith)
 
 -- column j lies within the slice
 here : (c : tie.In-loop Inv-loop μ-loop) → Room (c .before .before .before .before .before .args .y .order) (c .before .loop .j) (c .before .loop .b)
-here c = room (c .before .loop .b) (omega (arith, c .before .before .before .before .before .pre .0 .roomy)) (c .before .before .before .before .before .pre .1 .0) (c .before .loop .inv .long) (c .loop-test .taken)
+here c =
+    let given = c .before .before .before .before .before in
+    room (c .before .loop .b) (omega (arith, given .pre .0 .roomy)) (given .pre .1 .0) (c .before .loop .inv .long) (c .loop-test .taken)
 
 mul-at : tie.Need-mul-at Inv-loop μ-loop
-mul-at c = omega (arith, here c .within, here c .small, c .before .before .before .before .before .pre .1 .1)
+mul-at c =
+    let given = c .before .before .before .before .before in
+    omega (arith, here c .within, here c .small, given .pre .1 .1)
 
 add-b : tie.Need-add-b Inv-loop μ-loop
-add-b c = omega (arith, here c .within, here c .small, c .before .before .before .before .before .pre .1 .1)
+add-b c =
+    let given = c .before .before .before .before .before in
+    omega (arith, here c .within, here c .small, given .pre .1 .1)
 
 mul-b : tie.Need-mul-b Inv-loop μ-loop
-mul-b c = omega (arith, here c .within, here c .small, c .before .before .before .before .before .pre .1 .1)
+mul-b c =
+    let given = c .before .before .before .before .before in
+    omega (arith, here c .within, here c .small, given .pre .1 .1)
 
 slice-read-b : tie.Need-slice-read-b Inv-loop μ-loop
-slice-read-b c = omega (arith, here (c .before) .within, here (c .before) .small, c .before .before .before .before .before .before .pre .1 .1)
+slice-read-b c =
+    let given = c .before .before .before .before .before .before in
+    omega (arith, here (c .before) .within, here (c .before) .small, given .pre .1 .1)
 
 add-b-2 : tie.Need-add-b-2 Inv-loop μ-loop
-add-b-2 c = omega (arith, here (c .before) .within, here (c .before) .small, c .before .before .before .before .before .before .pre .1 .1)
+add-b-2 c =
+    let given = c .before .before .before .before .before .before in
+    omega (arith, here (c .before) .within, here (c .before) .small, given .pre .1 .1)
 
 mul-b-2 : tie.Need-mul-b-2 Inv-loop μ-loop
-mul-b-2 c = omega (arith, here (c .before) .within, here (c .before) .small, c .before .before .before .before .before .before .pre .1 .1)
+mul-b-2 c =
+    let given = c .before .before .before .before .before .before in
+    omega (arith, here (c .before) .within, here (c .before) .small, given .pre .1 .1)
 
 slice-write-b : tie.Need-slice-write-b Inv-loop μ-loop
-slice-write-b c = omega (arith, here (c .before) .within, here (c .before) .small, c .before .before .before .before .before .before .pre .1 .1)
+slice-write-b c =
+    let given = c .before .before .before .before .before .before in
+    omega (arith, here (c .before) .within, here (c .before) .small, given .pre .1 .1)
 
 add-j : tie.Need-add-j Inv-loop μ-loop
-add-j c = omega (arith, c .before .before .before .before .before .before .pre .1 .0 .few, c .before .loop-test .taken)
+add-j c =
+    let given = c .before .before .before .before .before .before in
+    omega (arith, given .pre .1 .0 .few, c .before .loop-test .taken)
 
 loop-less : tie.Need-loop-less Inv-loop μ-loop
 loop-less c = omega (arith, c .before .loop-test .taken)
 
 loop-again : tie.Need-loop-again Inv-loop μ-loop
 loop-again c =
-    turning-more (c .before .before .loop .inv) (c .before .loop-test .taken) (divide-at (c .before .before .before .before .before .before .args .y .order) (c .before .before .loop .j) (c .before .before .loop .b) (c .before .before .before .before .before .before .args .k) (c .before .before .before .get .result) (c .before .before .before .before .before .before .pre .1 .1)) (simp length-set)
+    let given = c .before .before .before .before .before .before in
+    turning-more (c .before .before .loop .inv) (c .before .loop-test .taken) (divide-at (given .args .y .order) (c .before .before .loop .j) (c .before .before .loop .b) (given .args .k) (c .before .before .before .get .result) (given .pre .1 .1)) (simp length-set)
 
 same-length : tie.Need-same-length Inv-loop μ-loop
 same-length c = c .before .loop .inv .long
@@ -65,8 +84,9 @@ same-length c = c .before .loop .inv .long
 returns : tie.Need-returns Inv-loop μ-loop
 unfolding divideOne eachColumn
 returns c =
+    let given = c .before .before .before .before .before in
     turning-all (c .before .loop .inv) (c .loop-test .left)
-    ∙ ap (λ (d : Float). eachColumn (c .before .before .before .before .before .args .y .order) (c .before .before .before .before .before .args .columns) (divideBy (c .before .before .before .before .before .args .k) d) (c .before .before .before .before .before .args .b .now)) (c .before .before .get .ensures)
+    ∙ ap (λ (d : Float). eachColumn (given .args .y .order) (given .args .columns) (divideBy (given .args .k) d) (given .args .b .now)) (c .before .before .get .ensures)
 
 pub divide-one-spec : {M : Type 1} → statement M
 divide-one-spec =

@@ -30,70 +30,105 @@ get-requires-2 : tie.Need-get-requires-2 Inv-loop μ-loop
 get-requires-2 c κs = (c .before .before .before .pre .0, (omega arith, c .before .before .before .pre .1 .1))
 
 add-get-3 : tie.Need-add-get-3 Inv-loop μ-loop
-add-get-3 c = omega (arith, c .before .before .before .before .pre .1 .1, c .before .before .before .before .pre .0 .roomy)
+add-get-3 c =
+    let given = c .before .before .before .before in
+    omega (arith, given .pre .1 .1, given .pre .0 .roomy)
 
 get-requires-3 : tie.Need-get-requires-3 Inv-loop μ-loop
-get-requires-3 c κs = (c .before .before .before .before .pre .0, (omega arith, c .before .before .before .before .pre .1 .1))
+get-requires-3 c κs =
+    let given = c .before .before .before .before in
+    (given .pre .0, (omega arith, given .pre .1 .1))
 
 loop-holds : tie.Need-loop-holds Inv-loop μ-loop
 loop-holds c = turning-none (omega arith)
 
 -- column j lies within the slice
 here : (c : tie.In-loop Inv-loop μ-loop) → Room (c .before .before .before .before .before .before .before .args .y .order) (c .before .loop .j) (c .before .loop .b)
-here c = room (c .before .loop .b) (omega (arith, c .before .before .before .before .before .before .before .pre .0 .roomy)) (c .before .before .before .before .before .before .before .pre .1 .0) (c .before .loop .inv .long) (c .loop-test .taken)
+here c =
+    let given = c .before .before .before .before .before .before .before in
+    room (c .before .loop .b) (omega (arith, given .pre .0 .roomy)) (given .pre .1 .0) (c .before .loop .inv .long) (c .loop-test .taken)
 
 mul-at : tie.Need-mul-at Inv-loop μ-loop
-mul-at c = omega (arith, here c .within, here c .small, c .before .before .before .before .before .before .before .pre .1 .1)
+mul-at c =
+    let given = c .before .before .before .before .before .before .before in
+    omega (arith, here c .within, here c .small, given .pre .1 .1)
 
 add-at : tie.Need-add-at Inv-loop μ-loop
-add-at c = omega (arith, here c .within, here c .small, c .before .before .before .before .before .before .before .pre .1 .1)
+add-at c =
+    let given = c .before .before .before .before .before .before .before in
+    omega (arith, here c .within, here c .small, given .pre .1 .1)
 
 mul-b-k : tie.Need-mul-b-k Inv-loop μ-loop
-mul-b-k c = omega (arith, here c .within, here c .small, c .before .before .before .before .before .before .before .pre .1 .1)
+mul-b-k c =
+    let given = c .before .before .before .before .before .before .before in
+    omega (arith, here c .within, here c .small, given .pre .1 .1)
 
 slice-read-b-k : tie.Need-slice-read-b-k Inv-loop μ-loop
-slice-read-b-k c = omega (arith, here (c .before) .within, here (c .before) .small, c .before .before .before .before .before .before .before .before .pre .1 .1)
+slice-read-b-k c =
+    let given = c .before .before .before .before .before .before .before .before in
+    omega (arith, here (c .before) .within, here (c .before) .small, given .pre .1 .1)
 
 add-b-k1 : tie.Need-add-b-k1 Inv-loop μ-loop
-add-b-k1 c = omega (arith, here (c .before) .within, here (c .before) .small, c .before .before .before .before .before .before .before .before .pre .1 .1)
+add-b-k1 c =
+    let given = c .before .before .before .before .before .before .before .before in
+    omega (arith, here (c .before) .within, here (c .before) .small, given .pre .1 .1)
 
 mul-b-k1 : tie.Need-mul-b-k1 Inv-loop μ-loop
-mul-b-k1 c = omega (arith, here (c .before) .within, here (c .before) .small, c .before .before .before .before .before .before .before .before .pre .1 .1)
+mul-b-k1 c =
+    let given = c .before .before .before .before .before .before .before .before in
+    omega (arith, here (c .before) .within, here (c .before) .small, given .pre .1 .1)
 
 slice-read-b-k1 : tie.Need-slice-read-b-k1 Inv-loop μ-loop
-slice-read-b-k1 c = omega (arith, here (c .before .before) .within, here (c .before .before) .small, c .before .before .before .before .before .before .before .before .before .pre .1 .1)
+slice-read-b-k1 c =
+    let given = c .before .before .before .before .before .before .before .before .before in
+    omega (arith, here (c .before .before) .within, here (c .before .before) .small, given .pre .1 .1)
 
 mul-b : tie.Need-mul-b Inv-loop μ-loop
-mul-b c = omega (arith, here (c .before .before) .within, here (c .before .before) .small, c .before .before .before .before .before .before .before .before .before .pre .1 .1)
+mul-b c =
+    let given = c .before .before .before .before .before .before .before .before .before in
+    omega (arith, here (c .before .before) .within, here (c .before .before) .small, given .pre .1 .1)
 
 slice-write-b : tie.Need-slice-write-b Inv-loop μ-loop
-slice-write-b c = omega (arith, here (c .before .before) .within, here (c .before .before) .small, c .before .before .before .before .before .before .before .before .before .pre .1 .1)
+slice-write-b c =
+    let given = c .before .before .before .before .before .before .before .before .before in
+    omega (arith, here (c .before .before) .within, here (c .before .before) .small, given .pre .1 .1)
 
 add-b : tie.Need-add-b Inv-loop μ-loop
-add-b c = omega (arith, here (c .before .before) .within, here (c .before .before) .small, c .before .before .before .before .before .before .before .before .before .pre .1 .1)
+add-b c =
+    let given = c .before .before .before .before .before .before .before .before .before in
+    omega (arith, here (c .before .before) .within, here (c .before .before) .small, given .pre .1 .1)
 
 mul-b-2 : tie.Need-mul-b-2 Inv-loop μ-loop
-mul-b-2 c = omega (arith, here (c .before .before) .within, here (c .before .before) .small, c .before .before .before .before .before .before .before .before .before .pre .1 .1)
+mul-b-2 c =
+    let given = c .before .before .before .before .before .before .before .before .before in
+    omega (arith, here (c .before .before) .within, here (c .before .before) .small, given .pre .1 .1)
 
 slice-write-b-2 : tie.Need-slice-write-b-2 Inv-loop μ-loop
-slice-write-b-2 c = simp length-set (omega (arith, here (c .before .before) .within, here (c .before .before) .small, c .before .before .before .before .before .before .before .before .before .pre .1 .1))
+slice-write-b-2 c =
+    let given = c .before .before .before .before .before .before .before .before .before in
+    simp length-set (omega (arith, here (c .before .before) .within, here (c .before .before) .small, given .pre .1 .1))
 
 add-j : tie.Need-add-j Inv-loop μ-loop
-add-j c = omega (arith, c .before .before .before .before .before .before .before .before .before .pre .1 .0 .few, c .before .before .loop-test .taken)
+add-j c =
+    let given = c .before .before .before .before .before .before .before .before .before in
+    omega (arith, given .pre .1 .0 .few, c .before .before .loop-test .taken)
 
 loop-less : tie.Need-loop-less Inv-loop μ-loop
 loop-less c = omega (arith, c .before .before .loop-test .taken)
 
 loop-again : tie.Need-loop-again Inv-loop μ-loop
 loop-again c =
-    turning-more (c .before .before .before .loop .inv) (c .before .before .loop-test .taken) (divide-two-at (c .before .before .before .before .before .before .before .before .before .args .y .order) (c .before .before .before .loop .j) (c .before .before .before .loop .b) (c .before .before .before .before .before .before .before .before .before .args .k) _ _ _ _ (c .before .before .before .before .before .before .before .before .before .pre .1 .1)) (simp (length-set, length-set))
+    let given = c .before .before .before .before .before .before .before .before .before in
+    turning-more (c .before .before .before .loop .inv) (c .before .before .loop-test .taken) (divide-two-at (given .args .y .order) (c .before .before .before .loop .j) (c .before .before .before .loop .b) (given .args .k) _ _ _ _ (given .pre .1 .1)) (simp (length-set, length-set))
 
 same-length : tie.Need-same-length Inv-loop μ-loop
 same-length c = c .before .loop .inv .long
 
 returns : tie.Need-returns Inv-loop μ-loop
 unfolding divideTwo blockDeterminant eachColumn
-returns c = turning-all (c .before .loop .inv) (c .loop-test .left) ∙ rw (c .before .before .before .before .get .ensures, c .before .before .before .get2 .ensures, c .before .before .get3 .ensures) refl
+returns c =
+    let get = c .before .before .before .before .get in
+    turning-all (c .before .loop .inv) (c .loop-test .left) ∙ rw (get .ensures, c .before .before .before .get2 .ensures, c .before .before .get3 .ensures) refl
 
 pub divide-two-spec : {M : Type 1} → statement M
 divide-two-spec =

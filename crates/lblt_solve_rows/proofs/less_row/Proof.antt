@@ -41,26 +41,37 @@ mul-b-2 : tie.Need-mul-b-2 Inv-loop μ-loop
 mul-b-2 c = omega (arith, here (c .before) .within, here (c .before) .small, c .before .before .before .pre .1 .1)
 
 slice-read-b-2 : tie.Need-slice-read-b-2 Inv-loop μ-loop
-slice-read-b-2 c = omega (arith, here (c .before .before) .within, here (c .before .before) .small, c .before .before .before .before .pre .1 .1)
+slice-read-b-2 c =
+    let given = c .before .before .before .before in
+    omega (arith, here (c .before .before) .within, here (c .before .before) .small, given .pre .1 .1)
 
 add-b-3 : tie.Need-add-b-3 Inv-loop μ-loop
-add-b-3 c = omega (arith, here (c .before .before) .within, here (c .before .before) .small, c .before .before .before .before .pre .1 .1)
+add-b-3 c =
+    let given = c .before .before .before .before in
+    omega (arith, here (c .before .before) .within, here (c .before .before) .small, given .pre .1 .1)
 
 mul-b-3 : tie.Need-mul-b-3 Inv-loop μ-loop
-mul-b-3 c = omega (arith, here (c .before .before) .within, here (c .before .before) .small, c .before .before .before .before .pre .1 .1)
+mul-b-3 c =
+    let given = c .before .before .before .before in
+    omega (arith, here (c .before .before) .within, here (c .before .before) .small, given .pre .1 .1)
 
 slice-write-b : tie.Need-slice-write-b Inv-loop μ-loop
-slice-write-b c = omega (arith, here (c .before .before) .within, here (c .before .before) .small, c .before .before .before .before .pre .1 .1)
+slice-write-b c =
+    let given = c .before .before .before .before in
+    omega (arith, here (c .before .before) .within, here (c .before .before) .small, given .pre .1 .1)
 
 add-j : tie.Need-add-j Inv-loop μ-loop
-add-j c = omega (arith, c .before .before .before .before .pre .1 .0 .few, c .before .before .loop-test .taken)
+add-j c =
+    let given = c .before .before .before .before in
+    omega (arith, given .pre .1 .0 .few, c .before .before .loop-test .taken)
 
 loop-less : tie.Need-loop-less Inv-loop μ-loop
 loop-less c = omega (arith, c .before .before .loop-test .taken)
 
 loop-again : tie.Need-loop-again Inv-loop μ-loop
 loop-again c =
-    turning-more (c .before .before .before .loop .inv) (c .before .before .loop-test .taken) (less-at (c .before .before .before .before .args .n) (c .before .before .before .loop .j) (c .before .before .before .loop .b) (c .before .before .before .before .args .i) (c .before .before .before .before .args .k) (c .before .before .before .before .args .x) (c .before .before .before .before .pre .1 .1 .0) (c .before .before .before .before .pre .1 .1 .1)) (simp length-set)
+    let given = c .before .before .before .before in
+    turning-more (c .before .before .before .loop .inv) (c .before .before .loop-test .taken) (less-at (given .args .n) (c .before .before .before .loop .j) (c .before .before .before .loop .b) (given .args .i) (given .args .k) (given .args .x) (given .pre .1 .1 .0) (given .pre .1 .1 .1)) (simp length-set)
 
 same-length : tie.Need-same-length Inv-loop μ-loop
 same-length c = c .before .loop .inv .long

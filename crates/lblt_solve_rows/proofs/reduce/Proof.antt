@@ -23,19 +23,30 @@ loop-holds : tie.Need-loop-holds Inv-loop μ-loop
 loop-holds c = (along-none (c .before .before .before .pre .0 .accepted), refl)
 
 reduce-block-requires : tie.Need-reduce-block-requires Inv-loop μ-loop
-reduce-block-requires c κs = (c .before .before .before .before .before .before .pre .0 .factor, (record { few = c .before .before .before .before .before .before .pre .1 .few; long = c .before .before .loop .inv .1 ∙ c .before .before .before .before .before .before .pre .1 .long }, block-at (c .before .before .before .before .before .before .pre .0 .accepted) (c .before .before .loop .inv .0 .boundary) (c .before .loop-test .taken)))
+reduce-block-requires c κs =
+    let given = c .before .before .before .before .before .before in
+    (given .pre .0 .factor, (record { few = given .pre .1 .few; long = c .before .before .loop .inv .1 ∙ given .pre .1 .long }, block-at (given .pre .0 .accepted) (c .before .before .loop .inv .0 .boundary) (c .before .loop-test .taken)))
 
 loop-less : tie.Need-loop-less Inv-loop μ-loop
-loop-less c = omega (arith, c .before .before .before .before .loop-test .taken, c .before .before .reduce-block .ensures .row, rows-positive (c .before .before .before .before .before .before .before .before .before .args .words .now) (c .before .before .before .before .before .loop .k))
+loop-less c =
+    let given = c .before .before .before .before .before .before .before .before .before in
+    let loop = c .before .before .before .before .before .loop in
+    let loop-test = c .before .before .before .before .loop-test in
+    omega (arith, loop-test .taken, c .before .before .reduce-block .ensures .row, rows-positive (given .args .words .now) (loop .k))
 
 loop-again : tie.Need-loop-again Inv-loop μ-loop
-loop-again c = (along-more (c .before .before .before .before .before .loop .inv .0) (c .before .before .before .before .loop-test .taken) (c .before .before .reduce-block .ensures .row) (c .before .before .reduce-block .ensures .column), c .before .before .reduce-block .kept .1 .1 .1 .0 ∙ c .before .before .before .before .before .loop .inv .1)
+loop-again c =
+    let loop = c .before .before .before .before .before .loop in
+    let loop-test = c .before .before .before .before .loop-test in
+    (along-more (loop .inv .0) (loop-test .taken) (c .before .before .reduce-block .ensures .row) (c .before .before .reduce-block .ensures .column), c .before .before .reduce-block .kept .1 .1 .1 .0 ∙ loop .inv .1)
 
 same-length : tie.Need-same-length Inv-loop μ-loop
 same-length c = c .before .loop .inv .1
 
 returns : tie.Need-returns Inv-loop μ-loop
-returns c = columns-reduced _ _ _ (c .before .before .before .before .before .pre .1 .long) _ _ (along-all (c .before .loop .inv .0) (c .loop-test .left))
+returns c =
+    let given = c .before .before .before .before .before in
+    columns-reduced _ _ _ (given .pre .1 .long) _ _ (along-all (c .before .loop .inv .0) (c .loop-test .left))
 
 pub reduce-spec : {M : Type 1} → statement M
 reduce-spec =

@@ -27,7 +27,10 @@ eliminate-one-requires : tie.Need-eliminate-one-requires
 eliminate-one-requires c κs = search needs
 
 divide-one-requires : tie.Need-divide-one-requires
-divide-one-requires c κs = (c .before .before .before .before .before .before .before .before .before .before .before .before .before .before .before .pre .0, (record { few = c .before .before .before .before .before .before .before .before .before .before .before .before .before .before .before .pre .1 .0 .few; long = c .before .before .before .eliminate-one .kept .1 .1 .0 ∙ c .before .before .before .before .before .before .before .swap-rows .kept .0 ∙ c .before .before .before .before .before .before .before .before .before .before .before .before .before .before .before .pre .1 .0 .long }, c .before .before .before .before .before .before .before .before .before .before .before .before .before .before .before .pre .1 .1 .inside))
+divide-one-requires c κs =
+    let given = c .before .before .before .before .before .before .before .before .before .before .before .before .before .before .before in
+    let swap-rows = c .before .before .before .before .before .before .before .swap-rows in
+    (given .pre .0, (record { few = given .pre .1 .0 .few; long = c .before .before .before .eliminate-one .kept .1 .1 .0 ∙ swap-rows .kept .0 ∙ given .pre .1 .0 .long }, given .pre .1 .1 .inside))
 
 add-result : tie.Need-add-result
 add-result c = search needs
@@ -36,19 +39,37 @@ same-length : tie.Need-same-length
 same-length c = search needs
 
 returns : tie.Need-returns
-returns c = columns-reduced-one _ _ _ (c .before .before .before .before .before .before .before .before .before .before .before .before .before .before .before .before .before .before .pre .1 .0 .long) _ _ _ (c .before .before .before .before .before .before .before .before .before .before .before .before .before .size .ensures) (c .before .before .before .before .before .before .before .before .before .before .before .before .before .before .index .ensures) (c .before .before .before .before .before .before .before .before .before .before .before .before .if1 .taken) (c .before .before .before .before .before .before .before .before .before .before .swap-rows .ensures) (c .before .before .before .before .before .before .eliminate-one .ensures) (c .before .before .divide-one .ensures)
+returns c =
+    let given = c .before .before .before .before .before .before .before .before .before .before .before .before .before .before .before .before .before .before in
+    let index = c .before .before .before .before .before .before .before .before .before .before .before .before .before .before .index in
+    let size = c .before .before .before .before .before .before .before .before .before .before .before .before .before .size in
+    let if1 = c .before .before .before .before .before .before .before .before .before .before .before .before .if1 in
+    let swap-rows = c .before .before .before .before .before .before .before .before .before .before .swap-rows in
+    let eliminate-one = c .before .before .before .before .before .before .eliminate-one in
+    columns-reduced-one _ _ _ (given .pre .1 .0 .long) _ _ _ (size .ensures) (index .ensures) (if1 .taken) (swap-rows .ensures) (eliminate-one .ensures) (c .before .before .divide-one .ensures)
 
 add-swap-rows : tie.Need-add-swap-rows
 add-swap-rows c = search needs
 
 swap-rows-requires-2 : tie.Need-swap-rows-requires-2
-swap-rows-requires-2 c κs = (omega (arith, c .before .before .before .before .before .before .before .pre .0 .roomy), (c .before .before .before .before .before .before .before .pre .1 .0, (omega (arith, c .before .before .before .before .before .before .before .pre .1 .1 .rows, reads-two (c .before .before .before .before .before .before .before .args .words .now) (c .before .before .before .before .before .before .before .args .k) (c .before .before .size .ensures) (c .before .if1 .left)), omega (arith, c .before .before .before .before .before .before .before .pre .1 .1 .index, c .before .before .before .index .ensures))))
+swap-rows-requires-2 c κs =
+    let given = c .before .before .before .before .before .before .before in
+    (omega (arith, given .pre .0 .roomy), (given .pre .1 .0, (omega (arith, given .pre .1 .1 .rows, reads-two (given .args .words .now) (given .args .k) (c .before .before .size .ensures) (c .before .if1 .left)), omega (arith, given .pre .1 .1 .index, c .before .before .before .index .ensures))))
 
 eliminate-two-requires : tie.Need-eliminate-two-requires
-eliminate-two-requires c κs = (c .before .before .before .before .before .before .before .before .before .before .before .pre .0, (record { few = c .before .before .before .before .before .before .before .before .before .before .before .pre .1 .0 .few; long = c .before .before .before .swap-rows2 .kept .0 ∙ c .before .before .before .before .before .before .before .before .before .before .before .pre .1 .0 .long }, omega (arith, c .before .before .before .before .before .before .before .before .before .before .before .pre .1 .1 .rows, reads-two (c .before .before .before .before .before .before .before .before .before .before .before .args .words .now) (c .before .before .before .before .before .before .before .before .before .before .before .args .k) (c .before .before .before .before .before .before .size .ensures) (c .before .before .before .before .before .if1 .left))))
+eliminate-two-requires c κs =
+    let given = c .before .before .before .before .before .before .before .before .before .before .before in
+    let size = c .before .before .before .before .before .before .size in
+    let if1 = c .before .before .before .before .before .if1 in
+    (given .pre .0, (record { few = given .pre .1 .0 .few; long = c .before .before .before .swap-rows2 .kept .0 ∙ given .pre .1 .0 .long }, omega (arith, given .pre .1 .1 .rows, reads-two (given .args .words .now) (given .args .k) (size .ensures) (if1 .left))))
 
 divide-two-requires : tie.Need-divide-two-requires
-divide-two-requires c κs = (c .before .before .before .before .before .before .before .before .before .before .before .before .before .before .before .pre .0, (record { few = c .before .before .before .before .before .before .before .before .before .before .before .before .before .before .before .pre .1 .0 .few; long = c .before .before .before .eliminate-two .kept .1 .1 .0 ∙ c .before .before .before .before .before .before .before .swap-rows2 .kept .0 ∙ c .before .before .before .before .before .before .before .before .before .before .before .before .before .before .before .pre .1 .0 .long }, omega (arith, c .before .before .before .before .before .before .before .before .before .before .before .before .before .before .before .pre .1 .1 .rows, reads-two (c .before .before .before .before .before .before .before .before .before .before .before .before .before .before .before .args .words .now) (c .before .before .before .before .before .before .before .before .before .before .before .before .before .before .before .args .k) (c .before .before .before .before .before .before .before .before .before .before .size .ensures) (c .before .before .before .before .before .before .before .before .before .if1 .left))))
+divide-two-requires c κs =
+    let given = c .before .before .before .before .before .before .before .before .before .before .before .before .before .before .before in
+    let size = c .before .before .before .before .before .before .before .before .before .before .size in
+    let if1 = c .before .before .before .before .before .before .before .before .before .if1 in
+    let swap-rows2 = c .before .before .before .before .before .before .before .swap-rows2 in
+    (given .pre .0, (record { few = given .pre .1 .0 .few; long = c .before .before .before .eliminate-two .kept .1 .1 .0 ∙ swap-rows2 .kept .0 ∙ given .pre .1 .0 .long }, omega (arith, given .pre .1 .1 .rows, reads-two (given .args .words .now) (given .args .k) (size .ensures) (if1 .left))))
 
 add-result-2 : tie.Need-add-result-2
 add-result-2 c = search needs
@@ -57,7 +78,14 @@ same-length-2 : tie.Need-same-length-2
 same-length-2 c = search needs
 
 returns-2 : tie.Need-returns-2
-returns-2 c = columns-reduced-two _ _ _ (c .before .before .before .before .before .before .before .before .before .before .before .before .before .before .before .before .before .before .pre .1 .0 .long) _ _ _ (c .before .before .before .before .before .before .before .before .before .before .before .before .before .size .ensures) (c .before .before .before .before .before .before .before .before .before .before .before .before .before .before .index .ensures) (c .before .before .before .before .before .before .before .before .before .before .before .before .if1 .left) (c .before .before .before .before .before .before .before .before .before .before .swap-rows2 .ensures) (c .before .before .before .before .before .before .eliminate-two .ensures) (c .before .before .divide-two .ensures)
+returns-2 c =
+    let given = c .before .before .before .before .before .before .before .before .before .before .before .before .before .before .before .before .before .before in
+    let index = c .before .before .before .before .before .before .before .before .before .before .before .before .before .before .index in
+    let size = c .before .before .before .before .before .before .before .before .before .before .before .before .before .size in
+    let if1 = c .before .before .before .before .before .before .before .before .before .before .before .before .if1 in
+    let swap-rows2 = c .before .before .before .before .before .before .before .before .before .before .swap-rows2 in
+    let eliminate-two = c .before .before .before .before .before .before .eliminate-two in
+    columns-reduced-two _ _ _ (given .pre .1 .0 .long) _ _ _ (size .ensures) (index .ensures) (if1 .left) (swap-rows2 .ensures) (eliminate-two .ensures) (c .before .before .divide-two .ensures)
 
 pub reduce-block-spec : {M : Type 1} → statement M
 reduce-block-spec =

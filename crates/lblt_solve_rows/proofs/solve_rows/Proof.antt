@@ -16,7 +16,10 @@ same-length : tie.Need-same-length
 same-length c = search needs
 
 returns : tie.Need-returns
-returns c = columns-solved _ _ _ (c .before .before .before .before .before .before .before .before .before .before .before .pre .1 .long) _ (c .before .before .before .before .before .before .before .before .before .before .before .pre .0 .accepted) (c .before .before .before .before .before .before .reduce .ensures) (c .before .before .backward .ensures)
+returns c =
+    let given = c .before .before .before .before .before .before .before .before .before .before .before in
+    let reduce = c .before .before .before .before .before .before .reduce in
+    columns-solved _ _ _ (given .pre .1 .long) _ (given .pre .0 .accepted) (reduce .ensures) (c .before .before .backward .ensures)
 
 pub solve-rows-spec : {M : Type 1} → statement M
 solve-rows-spec = tie.close (tie.spec reduce-requires backward-requires same-length returns)

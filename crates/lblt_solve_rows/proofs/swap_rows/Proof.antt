@@ -36,44 +36,67 @@ mul-x : tie.Need-mul-x Inv-loop μ-loop
 mul-x c = omega (arith, here c .within, here c .small, c .before .before .before .pre .1 .1)
 
 slice-read-x : tie.Need-slice-read-x Inv-loop μ-loop
-slice-read-x c = omega (arith, here (c .before) .within, here (c .before) .small, c .before .before .before .before .pre .1 .1)
+slice-read-x c =
+    let given = c .before .before .before .before in
+    omega (arith, here (c .before) .within, here (c .before) .small, given .pre .1 .1)
 
 add-b : tie.Need-add-b Inv-loop μ-loop
-add-b c = omega (arith, here (c .before) .within, here (c .before) .small, c .before .before .before .before .pre .1 .1)
+add-b c =
+    let given = c .before .before .before .before in
+    omega (arith, here (c .before) .within, here (c .before) .small, given .pre .1 .1)
 
 mul-b : tie.Need-mul-b Inv-loop μ-loop
-mul-b c = omega (arith, here (c .before) .within, here (c .before) .small, c .before .before .before .before .pre .1 .1)
+mul-b c =
+    let given = c .before .before .before .before in
+    omega (arith, here (c .before) .within, here (c .before) .small, given .pre .1 .1)
 
 slice-read-b : tie.Need-slice-read-b Inv-loop μ-loop
-slice-read-b c = omega (arith, here (c .before .before) .within, here (c .before .before) .small, c .before .before .before .before .before .pre .1 .1)
+slice-read-b c =
+    let given = c .before .before .before .before .before in
+    omega (arith, here (c .before .before) .within, here (c .before .before) .small, given .pre .1 .1)
 
 add-b-2 : tie.Need-add-b-2 Inv-loop μ-loop
-add-b-2 c = omega (arith, here (c .before .before) .within, here (c .before .before) .small, c .before .before .before .before .before .pre .1 .1)
+add-b-2 c =
+    let given = c .before .before .before .before .before in
+    omega (arith, here (c .before .before) .within, here (c .before .before) .small, given .pre .1 .1)
 
 mul-b-2 : tie.Need-mul-b-2 Inv-loop μ-loop
-mul-b-2 c = omega (arith, here (c .before .before) .within, here (c .before .before) .small, c .before .before .before .before .before .pre .1 .1)
+mul-b-2 c =
+    let given = c .before .before .before .before .before in
+    omega (arith, here (c .before .before) .within, here (c .before .before) .small, given .pre .1 .1)
 
 slice-write-b : tie.Need-slice-write-b Inv-loop μ-loop
-slice-write-b c = omega (arith, here (c .before .before) .within, here (c .before .before) .small, c .before .before .before .before .before .pre .1 .1)
+slice-write-b c =
+    let given = c .before .before .before .before .before in
+    omega (arith, here (c .before .before) .within, here (c .before .before) .small, given .pre .1 .1)
 
 add-b-3 : tie.Need-add-b-3 Inv-loop μ-loop
-add-b-3 c = omega (arith, here (c .before .before) .within, here (c .before .before) .small, c .before .before .before .before .before .pre .1 .1)
+add-b-3 c =
+    let given = c .before .before .before .before .before in
+    omega (arith, here (c .before .before) .within, here (c .before .before) .small, given .pre .1 .1)
 
 mul-b-3 : tie.Need-mul-b-3 Inv-loop μ-loop
-mul-b-3 c = omega (arith, here (c .before .before) .within, here (c .before .before) .small, c .before .before .before .before .before .pre .1 .1)
+mul-b-3 c =
+    let given = c .before .before .before .before .before in
+    omega (arith, here (c .before .before) .within, here (c .before .before) .small, given .pre .1 .1)
 
 slice-write-b-2 : tie.Need-slice-write-b-2 Inv-loop μ-loop
-slice-write-b-2 c = simp length-set (omega (arith, here (c .before .before) .within, here (c .before .before) .small, c .before .before .before .before .before .pre .1 .1))
+slice-write-b-2 c =
+    let given = c .before .before .before .before .before in
+    simp length-set (omega (arith, here (c .before .before) .within, here (c .before .before) .small, given .pre .1 .1))
 
 add-j : tie.Need-add-j Inv-loop μ-loop
-add-j c = omega (arith, c .before .before .before .before .before .pre .1 .0 .few, c .before .before .loop-test .taken)
+add-j c =
+    let given = c .before .before .before .before .before in
+    omega (arith, given .pre .1 .0 .few, c .before .before .loop-test .taken)
 
 loop-less : tie.Need-loop-less Inv-loop μ-loop
 loop-less c = omega (arith, c .before .before .loop-test .taken)
 
 loop-again : tie.Need-loop-again Inv-loop μ-loop
 loop-again c =
-    turning-more (c .before .before .before .loop .inv) (c .before .before .loop-test .taken) (swap-at (c .before .before .before .before .before .args .n) (c .before .before .before .loop .j) (c .before .before .before .loop .b) (c .before .before .before .before .before .args .p) (c .before .before .before .before .before .args .q) (c .before .before .before .before .before .pre .1 .1 .0) (c .before .before .before .before .before .pre .1 .1 .1)) (simp (length-set, length-set))
+    let given = c .before .before .before .before .before in
+    turning-more (c .before .before .before .loop .inv) (c .before .before .loop-test .taken) (swap-at (given .args .n) (c .before .before .before .loop .j) (c .before .before .before .loop .b) (given .args .p) (given .args .q) (given .pre .1 .1 .0) (given .pre .1 .1 .1)) (simp (length-set, length-set))
 
 same-length : tie.Need-same-length Inv-loop μ-loop
 same-length c = c .before .loop .inv .long

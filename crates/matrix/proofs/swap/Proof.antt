@@ -23,8 +23,12 @@ same-length c = search needs
 returns : tie.Need-returns
 unfolding exchange
 returns c =
-    rw (c .before .before .before .before .before .before .before .before .before .before .get .ensures, c .before .before .before .before .before .before .before .get2 .ensures) at
-    (holds-then (λ (M : Matrix). entry M (c .before .before .before .before .before .before .before .before .before .before .before .before .before .args .r) (c .before .before .before .before .before .before .before .before .before .before .before .before .before .args .c) (c .before .before .before .before .before .before .before .before .before .before .get .result)) (c .before .before .before .before .before .before .put .ensures) (c .before .before .put2 .ensures))
+    let given = c .before .before .before .before .before .before .before .before .before .before .before .before .before in
+    let get = c .before .before .before .before .before .before .before .before .before .before .get in
+    let get2 = c .before .before .before .before .before .before .before .get2 in
+    let put = c .before .before .before .before .before .before .put in
+    rw (get .ensures, get2 .ensures) at
+    (holds-then (λ (M : Matrix). entry M (given .args .r) (given .args .c) (get .result)) (put .ensures) (c .before .before .put2 .ensures))
 
 pub swap-spec : {M : Type 1} → statement M
 swap-spec =

@@ -36,10 +36,14 @@ cast-t10 : tie.Need-cast-t10
 cast-t10 c = search needs
 
 returns-4 : tie.Need-returns-4
-returns-4 c = mark-broken _ _ (omega arith) (c .before .before .before .before .mark .ensures) (omega arith) (c .before .before .if3 .left) (c .before .size .ensures) (c .if4 .taken)
+returns-4 c =
+    let mark = c .before .before .before .before .mark in
+    mark-broken _ _ (omega arith) (mark .ensures) (omega arith) (c .before .before .if3 .left) (c .before .size .ensures) (c .if4 .taken)
 
 returns-5 : tie.Need-returns-5
-returns-5 c = mark-sound _ _ (omega arith) (c .before .before .before .before .mark .ensures) (omega arith) (c .before .before .if3 .left) (c .before .size .ensures) (c .if4 .left)
+returns-5 c =
+    let mark = c .before .before .before .before .mark in
+    mark-sound _ _ (omega arith) (mark .ensures) (omega arith) (c .before .before .if3 .left) (c .before .size .ensures) (c .if4 .left)
 
 pub check-spec : {M : Type 1} → statement M
 check-spec =

@@ -18,51 +18,89 @@ put-refusal-requires : tie.Need-put-refusal-requires
 put-refusal-requires c κs = search needs
 
 same-length : tie.Need-same-length
-same-length c = c .before .before .before .before .before .before .before .before .read-sheet .kept .1 .0
+same-length c =
+    let read-sheet = c .before .before .before .before .before .before .before .before .read-sheet in
+    read-sheet .kept .1 .0
 
 same-length-2 : tie.Need-same-length-2
 same-length-2 c = c .before .before .put-refusal .ensures .long
 
 returns : tie.Need-returns
-returns c = refuses-it (c .before .before .before .before .before .before .before .before .read-sheet .ensures) (λ e. c .before .before .before .before .if1 .taken (c .before .before .before .before .before .code .ensures ∙ e)) (c .before .before .put-refusal .ensures)
+returns c =
+    let read-sheet = c .before .before .before .before .before .before .before .before .read-sheet in
+    let code = c .before .before .before .before .before .code in
+    let if1 = c .before .before .before .before .if1 in
+    refuses-it (read-sheet .ensures) (λ e. if1 .taken (code .ensures ∙ e)) (c .before .before .put-refusal .ensures)
 
 mul-cells : tie.Need-mul-cells
-mul-cells c = omega (arith, square-small (c .before .before .before .before .read-sheet .result .order) (order-small (c .before .before .before .before .read-sheet .ensures)))
+mul-cells c =
+    let read-sheet = c .before .before .before .before .read-sheet in
+    omega (arith, square-small (read-sheet .result .order) (order-small (read-sheet .ensures)))
 
 words-requires : tie.Need-words-requires
-words-requires c κs = omega (arith, order-small (c .before .before .before .before .read-sheet .ensures))
+words-requires c κs =
+    let read-sheet = c .before .before .before .before .read-sheet in
+    omega (arith, order-small (read-sheet .ensures))
 
 slice-relend-prefix-factor-and-write : tie.Need-slice-relend-prefix-factor-and-write
 slice-relend-prefix-factor-and-write c =
-    omega (arith, square-small (c .before .before .before .before .before .read-sheet .result .order) (order-small (c .before .before .before .before .before .read-sheet .ensures)), c .before .before .before .before .before .read-sheet .kept .1 .0, room-length _ _ (c .before .before .before .before .before .before .before .before .before .before .before .pre))
+    let given = c .before .before .before .before .before .before .before .before .before .before .before in
+    let read-sheet = c .before .before .before .before .before .read-sheet in
+    omega (arith, square-small (read-sheet .result .order) (order-small (read-sheet .ensures)), read-sheet .kept .1 .0, room-length _ _ (given .pre))
 
 slice-aggregate-factor-and-write : tie.Need-slice-aggregate-factor-and-write
-slice-aggregate-factor-and-write c = sym (parts (c .before .before .before .before .before .before .read-sheet .ensures) _ (c .before .words .ensures) (c .before .before .before .before .before .before .before .before .before .before .before .before .pre) (c .before .before .before .before .before .before .read-sheet .kept .1 .0) .long)
+slice-aggregate-factor-and-write c =
+    let given = c .before .before .before .before .before .before .before .before .before .before .before .before in
+    let read-sheet = c .before .before .before .before .before .before .read-sheet in
+    sym (parts (read-sheet .ensures) _ (c .before .words .ensures) (given .pre) (read-sheet .kept .1 .0) .long)
 
 slice-relend-prefix-factor-and-write-2 : tie.Need-slice-relend-prefix-factor-and-write-2
-slice-relend-prefix-factor-and-write-2 c = omega (arith, c .before .words .ensures, order-small (c .before .before .before .before .before .before .read-sheet .ensures), words-length _ _ (c .before .before .before .before .before .before .before .before .before .before .before .before .pre))
+slice-relend-prefix-factor-and-write-2 c =
+    let given = c .before .before .before .before .before .before .before .before .before .before .before .before in
+    let read-sheet = c .before .before .before .before .before .before .read-sheet in
+    omega (arith, c .before .words .ensures, order-small (read-sheet .ensures), words-length _ _ (given .pre))
 
 slice-aggregate-factor-and-write-2 : tie.Need-slice-aggregate-factor-and-write-2
 slice-aggregate-factor-and-write-2 c =
-    let square = parts (c .before .before .before .before .before .before .before .read-sheet .ensures) _ (c .before .before .words .ensures) (c .before .before .before .before .before .before .before .before .before .before .before .before .before .pre) (c .before .before .before .before .before .before .before .read-sheet .kept .1 .0) in
+    let given = c .before .before .before .before .before .before .before .before .before .before .before .before .before in
+    let read-sheet = c .before .before .before .before .before .before .before .read-sheet in
+    let square = parts (read-sheet .ensures) _ (c .before .before .words .ensures) (given .pre) (read-sheet .kept .1 .0) in
     c .before .before .words .ensures ∙ sym (square .sized)
 
 factor-and-write-requires : tie.Need-factor-and-write-requires
-factor-and-write-requires c κs = parts (c .before .before .before .before .before .before .before .before .read-sheet .ensures) _ (c .before .before .before .words .ensures) (c .before .before .before .before .before .before .before .before .before .before .before .before .before .before .pre) (c .before .before .before .before .before .before .before .before .read-sheet .kept .1 .0)
+factor-and-write-requires c κs =
+    let given = c .before .before .before .before .before .before .before .before .before .before .before .before .before .before in
+    let read-sheet = c .before .before .before .before .before .before .before .before .read-sheet in
+    parts (read-sheet .ensures) _ (c .before .before .before .words .ensures) (given .pre) (read-sheet .kept .1 .0)
 
 same-length-3 : tie.Need-same-length-3
 same-length-3 c =
-    let n = c .before .before .before .before .before .before .before .before .before .before .before .before .before .before .before .read-sheet .result .order in
-    length-front (c .before .before .before .before .before .before .before .before .before .before .before .before .before .before .before .read-sheet .last .1 .0) (c .before .before .before .before .before .before .factor-and-write .last .0) (n * n) (c .before .before .before .before .before .before .factor-and-write .kept .0) ∙ c .before .before .before .before .before .before .before .before .before .before .before .before .before .before .before .read-sheet .kept .1 .0
+    let read-sheet = c .before .before .before .before .before .before .before .before .before .before .before .before .before .before .before .read-sheet in
+    let factor-and-write = c .before .before .before .before .before .before .factor-and-write in
+    let n = read-sheet .result .order in
+    length-front (read-sheet .last .1 .0) (factor-and-write .last .0) (n * n) (factor-and-write .kept .0) ∙ read-sheet .kept .1 .0
 
 same-length-4 : tie.Need-same-length-4
-same-length-4 c = length-front (now (c .before .before .before .before .before .before .before .before .before .before .before .before .before .before .before .before .before .before .before .before .before .args .words)) (c .before .before .before .before .before .before .factor-and-write .last .1 .0) (c .before .before .before .before .before .before .before .before .before .before .words .result) (c .before .before .before .before .before .before .factor-and-write .kept .1 .0)
+same-length-4 c =
+    let given = c .before .before .before .before .before .before .before .before .before .before .before .before .before .before .before .before .before .before .before .before .before in
+    let words = c .before .before .before .before .before .before .before .before .before .before .words in
+    let factor-and-write = c .before .before .before .before .before .before .factor-and-write in
+    length-front (now (given .args .words)) (factor-and-write .last .1 .0) (words .result) (factor-and-write .kept .1 .0)
 
 same-length-5 : tie.Need-same-length-5
-same-length-5 c = c .before .before .before .before .before .before .factor-and-write .ensures .long
+same-length-5 c =
+    let factor-and-write = c .before .before .before .before .before .before .factor-and-write in
+    factor-and-write .ensures .long
 
 returns-2 : tie.Need-returns-2
-returns-2 c = factors-it (c .before .before .before .before .before .before .before .before .before .before .before .before .before .before .before .read-sheet .ensures) _ (c .before .before .before .before .before .before .before .before .before .before .words .ensures) (c .before .before .before .before .before .before .before .before .before .before .before .before .before .before .before .before .before .before .before .before .before .pre) (sym (c .before .before .before .before .before .before .before .before .before .before .before .before .code .ensures) ∙ c .before .before .before .before .before .before .before .before .before .before .before .if1 .left) (c .before .before .before .before .before .before .factor-and-write .ensures)
+returns-2 c =
+    let given = c .before .before .before .before .before .before .before .before .before .before .before .before .before .before .before .before .before .before .before .before .before in
+    let read-sheet = c .before .before .before .before .before .before .before .before .before .before .before .before .before .before .before .read-sheet in
+    let code = c .before .before .before .before .before .before .before .before .before .before .before .before .code in
+    let if1 = c .before .before .before .before .before .before .before .before .before .before .before .if1 in
+    let words = c .before .before .before .before .before .before .before .before .before .before .words in
+    let factor-and-write = c .before .before .before .before .before .before .factor-and-write in
+    factors-it (read-sheet .ensures) _ (words .ensures) (given .pre) (sym (code .ensures) ∙ if1 .left) (factor-and-write .ensures)
 
 pub read-and-answer-spec : {M : Type 1} → statement M
 read-and-answer-spec =

@@ -58,7 +58,9 @@ status-requires : tie.Need-status-requires
 status-requires c κs = search needs
 
 returns : tie.Need-returns
-returns c = by-answer (c .before .if2 .status) (c .before .before .before .before .before .before .respond .ensures .response) (c .status .ensures)
+returns c =
+    let respond = c .before .before .before .before .before .before .respond in
+    by-answer (c .before .if2 .status) (respond .ensures .response) (c .status .ensures)
 
 pub answer-to-spec : {M : Type 1} → statement M
 answer-to-spec =

@@ -51,9 +51,10 @@ loop-less c = omega arith
 
 loop-again : tie.Need-loop-again Inv-loop μ-loop
 loop-again c =
+    let loop = c .before .before .before .before .loop in
     let start = c .before .before .before .before .before in
-    strip-more _ (c .before .before .before .before .loop .inv) (c .before .before .before .loop-test .taken) (start .pre .1 .0)
-    (axpy-row (start .args .s) (c .before .before .before .before .loop .inv) (c .before .before .before .loop-test .taken) (start .pre .1 .1))
+    strip-more _ (loop .inv) (c .before .before .before .loop-test .taken) (start .pre .1 .0)
+    (axpy-row (start .args .s) (loop .inv) (c .before .before .before .loop-test .taken) (start .pre .1 .1))
 
 same-length : tie.Need-same-length Inv-loop μ-loop
 same-length c = search needs

@@ -36,30 +36,38 @@ add-i : tie.Need-add-i Inv-loop μ-loop
 add-i c = search needs
 
 loop-holds : tie.Need-loop-holds Inv-loop μ-loop
-loop-holds c = sweeping-none (omega arith) (c .before .before .before .before .before .before .before .before .pre .0 .long)
+loop-holds c =
+    let given = c .before .before .before .before .before .before .before .before in
+    sweeping-none (omega arith) (given .pre .0 .long)
 
 row-requires-3 : tie.Need-row-requires-3 Inv-loop μ-loop
 row-requires-3 c κs = (sweeping-long (c .before .before .loop .inv), c .before .loop-test .taken)
 
 add-less : tie.Need-add-less Inv-loop μ-loop
 add-less c =
+    let given = c .before .before .before .before .before .before .before .before .before .before .before .before in
+    let start-step = c .before .before .before .before .before .before .before .before .before .start in
     let loop-test = c .before .before .loop-test in
-    let pre = c .before .before .before .before .before .before .before .before .before .before .before .before .pre in
-    let start = c .before .before .before .before .before .before .before .before .before .start in
+    let pre = given .pre in
+    let start = start-step in
     omega (arith, loop-test .taken, pre .0 .factor .roomy, offset-small _ _ _ _ (start .ensures) (omega arith) (pre .0 .factor))
 
 mul-less : tie.Need-mul-less Inv-loop μ-loop
 mul-less c =
+    let given = c .before .before .before .before .before .before .before .before .before .before .before .before in
+    let start-step = c .before .before .before .before .before .before .before .before .before .start in
     let loop-test = c .before .before .loop-test in
-    let pre = c .before .before .before .before .before .before .before .before .before .before .before .before .pre in
-    let start = c .before .before .before .before .before .before .before .before .before .start in
+    let pre = given .pre in
+    let start = start-step in
     omega (arith, loop-test .taken, pre .0 .factor .roomy, offset-small _ _ _ _ (start .ensures) (omega arith) (pre .0 .factor))
 
 shared-slice-read-less : tie.Need-shared-slice-read-less Inv-loop μ-loop
 shared-slice-read-less c =
-    let start = c .before .before .before .before .before .before .before .before .before .before .start in
+    let given = c .before .before .before .before .before .before .before .before .before .before .before .before .before in
+    let start-step = c .before .before .before .before .before .before .before .before .before .before .start in
+    let start = start-step in
     let loop-test = c .before .before .before .loop-test in
-    let pre = c .before .before .before .before .before .before .before .before .before .before .before .before .before .pre in
+    let pre = given .pre in
     offset-within _ _ _ _ _ (start .ensures) (omega arith) (loop-test .taken) (pre .0 .factor)
 
 less-requires : tie.Need-less-requires Inv-loop μ-loop
@@ -67,23 +75,32 @@ less-requires c κs = search needs
 
 add-less-2 : tie.Need-add-less-2 Inv-loop μ-loop
 add-less-2 c =
-    let loop-test = c .before .before .before .before .before .loop-test in
-    let pre = c .before .before .before .before .before .before .before .before .before .before .before .before .before .before .before .pre in
-    let start2 = c .before .before .before .before .before .before .before .before .before .before .before .start2 in
+    let given = c .before .before .before .before .before .before .before .before .before .before .before .before .before .before .before in
+    let start2-step = c .before .before .before .before .before .before .before .before .before .before .before .start2 in
+    let loop-test-step = c .before .before .before .before .before .loop-test in
+    let loop-test = loop-test-step in
+    let pre = given .pre in
+    let start2 = start2-step in
     omega (arith, loop-test .taken, pre .0 .factor .roomy, offset-small _ _ _ _ (start2 .ensures) (omega arith) (pre .0 .factor))
 
 mul-less-2 : tie.Need-mul-less-2 Inv-loop μ-loop
 mul-less-2 c =
-    let loop-test = c .before .before .before .before .before .loop-test in
-    let pre = c .before .before .before .before .before .before .before .before .before .before .before .before .before .before .before .pre in
-    let start2 = c .before .before .before .before .before .before .before .before .before .before .before .start2 in
+    let given = c .before .before .before .before .before .before .before .before .before .before .before .before .before .before .before in
+    let start2-step = c .before .before .before .before .before .before .before .before .before .before .before .start2 in
+    let loop-test-step = c .before .before .before .before .before .loop-test in
+    let loop-test = loop-test-step in
+    let pre = given .pre in
+    let start2 = start2-step in
     omega (arith, loop-test .taken, pre .0 .factor .roomy, offset-small _ _ _ _ (start2 .ensures) (omega arith) (pre .0 .factor))
 
 shared-slice-read-less-2 : tie.Need-shared-slice-read-less-2 Inv-loop μ-loop
 shared-slice-read-less-2 c =
-    let start2 = c .before .before .before .before .before .before .before .before .before .before .before .before .start2 in
-    let loop-test = c .before .before .before .before .before .before .loop-test in
-    let pre = c .before .before .before .before .before .before .before .before .before .before .before .before .before .before .before .before .pre in
+    let given = c .before .before .before .before .before .before .before .before .before .before .before .before .before .before .before .before in
+    let start2-step = c .before .before .before .before .before .before .before .before .before .before .before .before .start2 in
+    let loop-test-step = c .before .before .before .before .before .before .loop-test in
+    let start2 = start2-step in
+    let loop-test = loop-test-step in
+    let pre = given .pre in
     offset-within _ _ _ _ _ (start2 .ensures) (omega arith) (loop-test .taken) (pre .0 .factor)
 
 less-requires-2 : tie.Need-less-requires-2 Inv-loop μ-loop
@@ -91,14 +108,18 @@ less-requires-2 c κs = search needs
 
 put-row-requires : tie.Need-put-row-requires Inv-loop μ-loop
 put-row-requires c κs =
-    let loop = c .before .before .before .before .before .before .before .before .loop in
-    let loop-test = c .before .before .before .before .before .before .before .loop-test in
+    let loop-step = c .before .before .before .before .before .before .before .before .loop in
+    let loop-test-step = c .before .before .before .before .before .before .before .loop-test in
+    let loop = loop-step in
+    let loop-test = loop-test-step in
     (sweeping-long (loop .inv), loop-test .taken)
 
 add-i-2 : tie.Need-add-i-2 Inv-loop μ-loop
 add-i-2 c =
-    let loop-test = c .before .before .before .before .before .before .before .before .before .before .loop-test in
-    let pre = c .before .before .before .before .before .before .before .before .before .before .before .before .before .before .before .before .before .before .before .before .pre in
+    let given = c .before .before .before .before .before .before .before .before .before .before .before .before .before .before .before .before .before .before .before .before in
+    let loop-test-step = c .before .before .before .before .before .before .before .before .before .before .loop-test in
+    let loop-test = loop-test-step in
+    let pre = given .pre in
     omega (arith, loop-test .taken, pre .0 .factor .roomy)
 
 loop-less : tie.Need-loop-less Inv-loop μ-loop
@@ -106,29 +127,41 @@ loop-less c = search needs
 
 loop-again : tie.Need-loop-again Inv-loop μ-loop
 loop-again c =
-    let args = c .before .before .before .before .before .before .before .before .before .before .before .before .before .before .before .before .before .before .before .before .args in
-    let start = c .before .before .before .before .before .before .before .before .before .before .before .before .before .before .before .before .before .start in
-    let start2 = c .before .before .before .before .before .before .before .before .before .before .before .before .before .before .before .before .start2 in
-    let loop = c .before .before .before .before .before .before .before .before .before .before .before .loop in
-    let loop-test = c .before .before .before .before .before .before .before .before .before .before .loop-test in
-    let pre = c .before .before .before .before .before .before .before .before .before .before .before .before .before .before .before .before .before .before .before .before .pre in
-    let row = c .before .before .before .before .before .before .before .before .before .before .before .before .before .before .row in
-    let row2 = c .before .before .before .before .before .before .before .before .before .before .before .before .row2 in
-    let row3 = c .before .before .before .before .before .before .before .before .row3 in
-    let less = c .before .before .before .before .before .before .less in
+    let given = c .before .before .before .before .before .before .before .before .before .before .before .before .before .before .before .before .before .before .before .before in
+    let start-step = c .before .before .before .before .before .before .before .before .before .before .before .before .before .before .before .before .before .start in
+    let start2-step = c .before .before .before .before .before .before .before .before .before .before .before .before .before .before .before .before .start2 in
+    let row-step = c .before .before .before .before .before .before .before .before .before .before .before .before .before .before .row in
+    let row2-step = c .before .before .before .before .before .before .before .before .before .before .before .before .row2 in
+    let loop-step = c .before .before .before .before .before .before .before .before .before .before .before .loop in
+    let loop-test-step = c .before .before .before .before .before .before .before .before .before .before .loop-test in
+    let row3-step = c .before .before .before .before .before .before .before .before .row3 in
+    let less-step = c .before .before .before .before .before .before .less in
+    let args = given .args in
+    let start = start-step in
+    let start2 = start2-step in
+    let loop = loop-step in
+    let loop-test = loop-test-step in
+    let pre = given .pre in
+    let row = row-step in
+    let row2 = row2-step in
+    let row3 = row3-step in
+    let less = less-step in
     let less2 = c .before .before .before .less2 in
     let put-row = c .before .before .put-row in
     sweep-two (args .a .now) (start .result) (args .k) (start2 .result) (loop .inv) (loop-test .taken) (pre .1) (row .ensures) (row2 .ensures) (row3 .ensures) (less .ensures) (less2 .ensures) (put-row .ensures)
 
 same-length : tie.Need-same-length Inv-loop μ-loop
 same-length c =
-    let pre = c .before .before .before .before .before .before .before .before .before .before .pre in
+    let given = c .before .before .before .before .before .before .before .before .before .before in
+    let pre = given .pre in
     sweeping-long (c .before .loop .inv) ∙ sym (pre .0 .long)
 
 returns : tie.Need-returns Inv-loop μ-loop
 returns c =
-    let start = c .before .before .before .before .before .before .before .start in
-    let start2 = c .before .before .before .before .before .before .start2 in
+    let start-step = c .before .before .before .before .before .before .before .start in
+    let start2-step = c .before .before .before .before .before .before .start2 in
+    let start = start-step in
+    let start2 = start2-step in
     swept-two _ _ _ _ (start .ensures) _ (start2 .ensures) (c .before .loop .inv) (c .loop-test .left)
 
 pub eliminate-two-spec : {M : Type 1} → statement M

@@ -17,33 +17,44 @@ start-requires : tie.Need-start-requires Inv-loop μ-loop
 start-requires c κs = search needs
 
 row-requires : tie.Need-row-requires Inv-loop μ-loop
-row-requires c κs = (c .before .before .before .before .pre .0 .long, omega arith)
+row-requires c κs =
+    let given = c .before .before .before .before in
+    (given .pre .0 .long, omega arith)
 
 loop-holds : tie.Need-loop-holds Inv-loop μ-loop
-loop-holds c = gathering-none _ _ _ _ _ _ (omega arith) (c .before .before .before .before .before .pre .1 .1) (c .row .ensures)
+loop-holds c =
+    let given = c .before .before .before .before .before in
+    gathering-none _ _ _ _ _ _ (omega arith) (given .pre .1 .1) (c .row .ensures)
 
 add-less : tie.Need-add-less Inv-loop μ-loop
 add-less c =
-    let start = c .before .before .before .before .start in
-    let pre = c .before .before .before .before .before .before .before .pre in
+    let given = c .before .before .before .before .before .before .before in
+    let start-step = c .before .before .before .before .start in
+    let start = start-step in
+    let pre = given .pre in
     omega (arith, offset-small _ _ _ _ (start .ensures) (omega arith) (pre .0 .factor))
 
 mul-less : tie.Need-mul-less Inv-loop μ-loop
 mul-less c =
-    let start = c .before .before .before .before .start in
-    let pre = c .before .before .before .before .before .before .before .pre in
+    let given = c .before .before .before .before .before .before .before in
+    let start-step = c .before .before .before .before .start in
+    let start = start-step in
+    let pre = given .pre in
     omega (arith, offset-small _ _ _ _ (start .ensures) (omega arith) (pre .0 .factor))
 
 shared-slice-read-less : tie.Need-shared-slice-read-less Inv-loop μ-loop
 shared-slice-read-less c =
-    let start = c .before .before .before .before .before .start in
+    let given = c .before .before .before .before .before .before .before .before in
+    let start-step = c .before .before .before .before .before .start in
+    let start = start-step in
     let loop = c .before .before .loop in
-    let pre = c .before .before .before .before .before .before .before .before .pre in
+    let pre = given .pre in
     offset-within _ _ _ _ _ (start .ensures) (omega (arith, loop .inv .low, pre .1 .0)) (c .before .loop-test .taken) (pre .0 .factor)
 
 row-requires-2 : tie.Need-row-requires-2 Inv-loop μ-loop
 row-requires-2 c κs =
-    let pre = c .before .before .before .before .before .before .before .before .before .pre in
+    let given = c .before .before .before .before .before .before .before .before .before in
+    let pre = given .pre in
     let loop-test = c .before .before .loop-test in
     (pre .0 .long, loop-test .taken)
 
@@ -52,8 +63,10 @@ less-requires c κs = search needs
 
 add-i : tie.Need-add-i Inv-loop μ-loop
 add-i c =
-    let loop-test = c .before .before .before .before .loop-test in
-    let pre = c .before .before .before .before .before .before .before .before .before .before .before .pre in
+    let given = c .before .before .before .before .before .before .before .before .before .before .before in
+    let loop-test-step = c .before .before .before .before .loop-test in
+    let loop-test = loop-test-step in
+    let pre = given .pre in
     omega (arith, loop-test .taken, pre .0 .factor .roomy)
 
 loop-less : tie.Need-loop-less Inv-loop μ-loop
@@ -61,13 +74,16 @@ loop-less c = search needs
 
 loop-again : tie.Need-loop-again Inv-loop μ-loop
 loop-again c =
-    let loop = c .before .before .before .before .before .loop in
-    let loop-test = c .before .before .before .before .loop-test in
+    let loop-step = c .before .before .before .before .before .loop in
+    let loop-test-step = c .before .before .before .before .loop-test in
+    let loop = loop-step in
+    let loop-test = loop-test-step in
     gathering-more _ _ _ _ _ _ (loop .inv) (loop-test .taken) (c .before .row2 .ensures) (c .less .ensures)
 
 put-row-requires : tie.Need-put-row-requires Inv-loop μ-loop
 put-row-requires c κs =
-    let pre = c .before .before .before .before .before .before .before .before .pre in
+    let given = c .before .before .before .before .before .before .before .before in
+    let pre = given .pre in
     (pre .0 .long, omega (arith, pre .1))
 
 same-length : tie.Need-same-length Inv-loop μ-loop
@@ -75,10 +91,14 @@ same-length c = search needs
 
 returns : tie.Need-returns Inv-loop μ-loop
 returns c =
-    let start = c .before .before .before .before .before .before .before .before .start in
-    let pre = c .before .before .before .before .before .before .before .before .before .before .before .pre in
-    let loop = c .before .before .before .before .before .loop in
-    let loop-test = c .before .before .before .before .loop-test in
+    let given = c .before .before .before .before .before .before .before .before .before .before .before in
+    let start-step = c .before .before .before .before .before .before .before .before .start in
+    let loop-step = c .before .before .before .before .before .loop in
+    let loop-test-step = c .before .before .before .before .loop-test in
+    let start = start-step in
+    let pre = given .pre in
+    let loop = loop-step in
+    let loop-test = loop-test-step in
     let put-row = c .before .before .put-row in
     gathering-all _ _ _ _ (start .ensures) _ (pre .1 .0) _ (loop .inv) (loop-test .left) (pre .0 .long) (put-row .ensures)
 

@@ -54,40 +54,52 @@ slice-read-b c = search needs
 
 add-b : tie.Need-add-b Inv-loop μ-loop
 add-b c =
-    let start = c .before .before .before .before .before .before .start in
-    let pre = c .before .before .before .before .before .before .before .before .before .pre in
+    let given = c .before .before .before .before .before .before .before .before .before in
+    let start-step = c .before .before .before .before .before .before .start in
+    let start = start-step in
+    let pre = given .pre in
     omega (arith, offset-small _ _ _ _ (start .ensures) (omega arith) (pre .0 .factor))
 
 mul-b-2 : tie.Need-mul-b-2 Inv-loop μ-loop
 mul-b-2 c =
-    let start = c .before .before .before .before .before .before .start in
-    let pre = c .before .before .before .before .before .before .before .before .before .pre in
+    let given = c .before .before .before .before .before .before .before .before .before in
+    let start-step = c .before .before .before .before .before .before .start in
+    let start = start-step in
+    let pre = given .pre in
     omega (arith, offset-small _ _ _ _ (start .ensures) (omega arith) (pre .0 .factor))
 
 shared-slice-read-b : tie.Need-shared-slice-read-b Inv-loop μ-loop
 shared-slice-read-b c =
-    let start = c .before .before .before .before .before .before .before .start in
+    let given = c .before .before .before .before .before .before .before .before .before .before in
+    let start-step = c .before .before .before .before .before .before .before .start in
+    let start = start-step in
     let loop-test = c .before .before .loop-test in
-    let pre = c .before .before .before .before .before .before .before .before .before .before .pre in
+    let pre = given .pre in
     offset-within _ _ _ _ _ (start .ensures) (omega arith) (loop-test .taken) (pre .0 .factor)
 
 add-b-2 : tie.Need-add-b-2 Inv-loop μ-loop
 add-b-2 c =
-    let start2 = c .before .before .before .before .before .before .start2 in
-    let pre = c .before .before .before .before .before .before .before .before .before .before .pre in
+    let given = c .before .before .before .before .before .before .before .before .before .before in
+    let start2-step = c .before .before .before .before .before .before .start2 in
+    let start2 = start2-step in
+    let pre = given .pre in
     omega (arith, offset-small _ _ _ _ (start2 .ensures) (omega arith) (pre .0 .factor))
 
 mul-b-3 : tie.Need-mul-b-3 Inv-loop μ-loop
 mul-b-3 c =
-    let start2 = c .before .before .before .before .before .before .start2 in
-    let pre = c .before .before .before .before .before .before .before .before .before .before .pre in
+    let given = c .before .before .before .before .before .before .before .before .before .before in
+    let start2-step = c .before .before .before .before .before .before .start2 in
+    let start2 = start2-step in
+    let pre = given .pre in
     omega (arith, offset-small _ _ _ _ (start2 .ensures) (omega arith) (pre .0 .factor))
 
 shared-slice-read-b-2 : tie.Need-shared-slice-read-b-2 Inv-loop μ-loop
 shared-slice-read-b-2 c =
-    let start2 = c .before .before .before .before .before .before .before .start2 in
+    let given = c .before .before .before .before .before .before .before .before .before .before .before in
+    let start2-step = c .before .before .before .before .before .before .before .start2 in
+    let start2 = start2-step in
     let loop-test = c .before .before .before .loop-test in
-    let pre = c .before .before .before .before .before .before .before .before .before .before .before .pre in
+    let pre = given .pre in
     offset-within _ _ _ _ _ (start2 .ensures) (omega arith) (loop-test .taken) (pre .0 .factor)
 
 mul-b-4 : tie.Need-mul-b-4 Inv-loop μ-loop
@@ -103,7 +115,9 @@ loop-less : tie.Need-loop-less Inv-loop μ-loop
 loop-less c = search needs
 
 loop-again : tie.Need-loop-again Inv-loop μ-loop
-loop-again c = turning-more (c .before .before .before .before .loop .inv) (c .before .before .before .loop-test .taken) refl (simp length-set)
+loop-again c =
+    let loop = c .before .before .before .before .loop in
+    turning-more (loop .inv) (c .before .before .before .loop-test .taken) refl (simp length-set)
 
 same-length : tie.Need-same-length Inv-loop μ-loop
 same-length c = search needs
@@ -111,8 +125,10 @@ same-length c = search needs
 returns : tie.Need-returns Inv-loop μ-loop
 unfolding eliminateTwo
 returns c =
-    let start = c .before .before .before .before .before .start in
-    let start2 = c .before .before .before .before .start2 in
+    let start-step = c .before .before .before .before .before .start in
+    let start2-step = c .before .before .before .before .start2 in
+    let start = start-step in
+    let start2 = start2-step in
     turning-all (c .before .loop .inv) (c .loop-test .left) ∙ less-two _ _ _ _ (start .ensures) _ (start2 .ensures) _ _ _
 
 pub eliminate-two-spec : {M : Type 1} → statement M

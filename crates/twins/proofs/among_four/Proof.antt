@@ -50,7 +50,10 @@ shared-slice-read-result : tie.Need-shared-slice-read-result
 shared-slice-read-result c = search needs
 
 returns-4 : tie.Need-returns-4
-returns-4 c = λ e. apart-four (now (c .before .before .before .before .before .before .before .args .fingerprints)) (c .before .before .before .before .before .before .before .args .fingerprint) (c .before .before .before .before .before .before .before .args .p) (c .before .before .before .before .before .if1 .left) (c .before .before .before .if2 .left) (c .before .if3 .left) (eqb-false _ _ e)
+returns-4 c =
+    let given = c .before .before .before .before .before .before .before in
+    let if1 = c .before .before .before .before .before .if1 in
+    λ e. apart-four (now (given .args .fingerprints)) (given .args .fingerprint) (given .args .p) (if1 .left) (c .before .before .before .if2 .left) (c .before .if3 .left) (eqb-false _ _ e)
 
 pub among-four-spec : {M : Type 1} → statement M
 among-four-spec =

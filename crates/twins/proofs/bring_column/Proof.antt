@@ -30,7 +30,9 @@ add-i : tie.Need-add-i Inv-loop μ-loop
 add-i c = search needs
 
 loop-holds : tie.Need-loop-holds Inv-loop μ-loop
-loop-holds c = bringing-first (c .before .before .before .before .before .pre .1 .1 .1) (search needs) (c .before .lower-bits .ensures) (c .mix .ensures)
+loop-holds c =
+    let given = c .before .before .before .before .before in
+    bringing-first (given .pre .1 .1 .1) (search needs) (c .before .lower-bits .ensures) (c .mix .ensures)
 
 lower-bits-requires-2 : tie.Need-lower-bits-requires-2 Inv-loop μ-loop
 lower-bits-requires-2 c κs = (search needs, (omega (arith, c .before .loop .inv .under), search needs))
@@ -60,7 +62,11 @@ loop-less : tie.Need-loop-less Inv-loop μ-loop
 loop-less c = search needs
 
 loop-again : tie.Need-loop-again Inv-loop μ-loop
-loop-again c = bringing-more (c .before .before .before .before .before .before .before .before .before .before .before .pre .1 .0) (c .before .before .before .before .before .loop .inv) (c .before .before .before .before .loop-test .taken) (c .before .before .before .lower-bits2 .ensures) (c .before .mix2 .ensures) (c .mix3 .ensures)
+loop-again c =
+    let given = c .before .before .before .before .before .before .before .before .before .before .before in
+    let loop = c .before .before .before .before .before .loop in
+    let loop-test = c .before .before .before .before .loop-test in
+    bringing-more (given .pre .1 .0) (loop .inv) (loop-test .taken) (c .before .before .before .lower-bits2 .ensures) (c .before .mix2 .ensures) (c .mix3 .ensures)
 
 mul-fingerprints-2 : tie.Need-mul-fingerprints-2 Inv-loop μ-loop
 mul-fingerprints-2 c = search needs
@@ -72,7 +78,9 @@ same-length : tie.Need-same-length Inv-loop μ-loop
 same-length c = search needs
 
 returns : tie.Need-returns Inv-loop μ-loop
-returns c = bringing-all (c .before .before .before .before .before .before .before .pre .1 .0) (c .before .loop .inv) (c .loop-test .left)
+returns c =
+    let given = c .before .before .before .before .before .before .before in
+    bringing-all (given .pre .1 .0) (c .before .loop .inv) (c .loop-test .left)
 
 pub bring-column-spec : {M : Type 1} → statement M
 bring-column-spec =

@@ -19,7 +19,9 @@ loop-holds : tie.Need-loop-holds Inv-loop μ-loop
 loop-holds c = record { upto = omega arith; long = refl; brought = brought-none (c .before .before .pre .1 .1) }
 
 bring-column-requires : tie.Need-bring-column-requires Inv-loop μ-loop
-bring-column-requires c κs = (c .before .before .before .before .before .pre .0, (omega (arith, c .before .before .loop .inv .long, c .before .before .before .before .before .pre .1 .0), (c .before .loop-test .taken, c .before .before .loop .inv .brought)))
+bring-column-requires c κs =
+    let given = c .before .before .before .before .before in
+    (given .pre .0, (omega (arith, c .before .before .loop .inv .long, given .pre .1 .0), (c .before .loop-test .taken, c .before .before .loop .inv .brought)))
 
 add-c : tie.Need-add-c Inv-loop μ-loop
 add-c c = search needs

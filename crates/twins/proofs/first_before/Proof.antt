@@ -21,7 +21,9 @@ loop-holds : tie.Need-loop-holds Inv-loop μ-loop
 loop-holds c = before-passed (c .before .before .before .pre .1 .1 .0) (search needs) (c .pass-fours .ensures)
 
 twins-requires : tie.Need-twins-requires Inv-loop μ-loop
-twins-requires c κs = (c .before .before .before .before .before .pre .0, (search needs, (c .before .before .before .before .before .pre .1 .1 .0, (omega arith, search needs))))
+twins-requires c κs =
+    let given = c .before .before .before .before .before in
+    (given .pre .0, (search needs, (given .pre .1 .1 .0, (omega arith, search needs))))
 
 returns : tie.Need-returns Inv-loop μ-loop
 returns c = before-found (c .before .before .before .loop .inv) (search needs) (c .before .twins .ensures) (c .if1 .taken)

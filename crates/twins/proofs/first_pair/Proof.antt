@@ -21,7 +21,10 @@ loop-holds : tie.Need-loop-holds Inv-loop μ-loop
 loop-holds c = between-start (search needs)
 
 first-before-requires : tie.Need-first-before-requires Inv-loop μ-loop
-first-before-requires c κs = (c .before .before .before .before .before .before .before .before .before .pre .0, (omega (arith, c .before .before .before .before .before .fingerprint-rows .kept .1 .1 .0), (c .before .before .before .before .before .fingerprint-rows .ensures, search needs)))
+first-before-requires c κs =
+    let given = c .before .before .before .before .before .before .before .before .before in
+    let fingerprint-rows = c .before .before .before .before .before .fingerprint-rows in
+    (given .pre .0, (omega (arith, fingerprint-rows .kept .1 .1 .0), (fingerprint-rows .ensures, search needs)))
 
 cast-t14 : tie.Need-cast-t14 Inv-loop μ-loop
 cast-t14 c = search needs
@@ -33,7 +36,9 @@ same-length : tie.Need-same-length Inv-loop μ-loop
 same-length c = search needs
 
 returns : tie.Need-returns Inv-loop μ-loop
-returns c = between-found (c .before .before .before .before .loop .inv) (search needs) (c .before .first-before .ensures) (search needs)
+returns c =
+    let loop = c .before .before .before .before .loop in
+    between-found (loop .inv) (search needs) (c .before .first-before .ensures) (search needs)
 
 add-q : tie.Need-add-q Inv-loop μ-loop
 add-q c = search needs
@@ -42,7 +47,9 @@ loop-less : tie.Need-loop-less Inv-loop μ-loop
 loop-less c = search needs
 
 loop-again : tie.Need-loop-again Inv-loop μ-loop
-loop-again c = between-next (c .before .before .before .before .loop .inv) (search needs) (c .before .first-before .ensures) (search needs)
+loop-again c =
+    let loop = c .before .before .before .before .loop in
+    between-next (loop .inv) (search needs) (c .before .first-before .ensures) (search needs)
 
 same-length-2 : tie.Need-same-length-2 Inv-loop μ-loop
 same-length-2 c = search needs

@@ -36,8 +36,11 @@ loop-less c = search needs
 
 loop-again : tie.Need-loop-again Inv-loop μ-loop
 loop-again c =
-    same-more (c .before .before .before .before .loop .inv) (c .before .before .before .loop-test .taken)
-    (entries (lower (c .before .before .before .before .before .before .args .y)) (now (c .before .before .before .before .before .before .args .a)) (c .before .before .before .before .before .before .args .p) (c .before .before .before .before .before .before .args .q) (c .before .before .before .before .loop .k) (c .before .before .before .before .before .shared-slice-known .given) (sym (c .before .before .entry-bits .ensures) ∙ c .if1 .left ∙ c .before .entry-bits2 .ensures))
+    let given = c .before .before .before .before .before .before in
+    let shared-slice-known = c .before .before .before .before .before .shared-slice-known in
+    let loop = c .before .before .before .before .loop in
+    same-more (loop .inv) (c .before .before .before .loop-test .taken)
+    (entries (lower (given .args .y)) (now (given .args .a)) (given .args .p) (given .args .q) (loop .k) (shared-slice-known .given) (sym (c .before .before .entry-bits .ensures) ∙ c .if1 .left ∙ c .before .entry-bits2 .ensures))
 
 returns-2 : tie.Need-returns-2 Inv-loop μ-loop
 returns-2 c = same-all (c .before .loop .inv) (c .loop-test .left)

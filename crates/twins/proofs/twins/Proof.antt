@@ -17,7 +17,9 @@ shared-slice-read-if1-2 : tie.Need-shared-slice-read-if1-2
 shared-slice-read-if1-2 c = search needs
 
 returns : tie.Need-returns
-returns c = fingerprints-differ (c .before .before .before .before .before .pre .1 .1 .0) (c .before .before .before .before .before .pre .1 .1 .1) (c .if1 .taken)
+returns c =
+    let given = c .before .before .before .before .before in
+    fingerprints-differ (given .pre .1 .1 .0) (given .pre .1 .1 .1) (c .if1 .taken)
 
 same-rows-requires : tie.Need-same-rows-requires
 same-rows-requires c κs = search needs

@@ -21,8 +21,9 @@ same-length c = search needs
 
 returns : tie.Need-returns
 returns c =
+    let get = c .before .before .before .before .before .get in
     let start = c .before .before .before .before .before .before .before .before in
-    divide-leaves (start .pre .0) (omega arith) (c .before .before .before .start .ensures) (c .before .before .before .before .before .get .ensures) (c .before .before .unscale .ensures)
+    divide-leaves (start .pre .0) (omega arith) (c .before .before .before .start .ensures) (get .ensures) (c .before .before .unscale .ensures)
 
 pub divide-spec : {M : Type 1} → statement M
 divide-spec = tie.close (tie.spec get-requires start-requires unscale-requires same-length returns)

@@ -25,21 +25,27 @@ add-divide c = search needs
 
 divide-requires : tie.Need-divide-requires
 divide-requires c κs =
-    (laid-after (c .before .before .before .before .before .before .before .before .before .before .before .pre .0) (c .before .before .before .put .ensures), (omega arith, omega arith))
+    let given = c .before .before .before .before .before .before .before .before .before .before .before in
+    (laid-after (given .pre .0) (c .before .before .before .put .ensures), (omega arith, omega arith))
 
 same-length : tie.Need-same-length
 same-length c = search needs
 
 returns : tie.Need-returns
 returns c =
+    let get = c .before .before .before .before .before .before .before .before .before .before .before .get in
+    let judge = c .before .before .before .before .before .before .before .before .before .before .judge in
+    let code = c .before .before .before .before .before .before .before .before .before .code in
+    let if1 = c .before .before .before .before .before .before .before .before .if1 in
+    let put = c .before .before .before .before .before .before .put in
     let start = c .before .before .before .before .before .before .before .before .before .before .before .before .before .before in
     finish-done (start .args .y) (now (start .args .a)) (start .args .j)
-    (c .before .before .before .before .before .before .before .before .before .before .before .get .result)
-    (c .before .before .before .before .before .before .before .before .before .before .judge .result)
-    (c .before .before .before .before .before .before .before .before .before .before .before .get .ensures)
-    (c .before .before .before .before .before .before .before .before .before .before .judge .ensures)
-    (code-done (c .before .before .before .before .before .before .before .before .before .before .judge .result .answer) (c .before .before .before .before .before .before .before .before .before .code .ensures) (c .before .before .before .before .before .before .before .before .if1 .taken))
-    (c .before .before .before .before .before .before .put .ensures) (c .before .before .divide .ensures)
+    (get .result)
+    (judge .result)
+    (get .ensures)
+    (judge .ensures)
+    (code-done (judge .result .answer) (code .ensures) (if1 .taken))
+    (put .ensures) (c .before .before .divide .ensures)
 
 same-length-2 : tie.Need-same-length-2
 same-length-2 c = search needs

@@ -18,7 +18,9 @@ loop-holds : tie.Need-loop-holds Inv-loop μ-loop
 loop-holds c = running-none (c .before .pre .0 .sound)
 
 advance-requires : tie.Need-advance-requires Inv-loop μ-loop
-advance-requires c κs = (leaves-laid (c .before .before .before .before .pre .0) (c .before .before .loop .inv .ends .leaves), (omega arith, omega arith))
+advance-requires c κs =
+    let given = c .before .before .before .before in
+    (leaves-laid (given .pre .0) (c .before .before .loop .inv .ends .leaves), (omega arith, omega arith))
 
 code-requires : tie.Need-code-requires Inv-loop μ-loop
 code-requires c κs = search needs
@@ -28,16 +30,22 @@ same-length c = search needs
 
 returns : tie.Need-returns Inv-loop μ-loop
 returns c =
-    running-refused (c .before .before .before .before .before .before .before .loop .inv) (c .before .before .before .before .advance .ensures)
-    (code-refused (c .before .before .before .before .advance .result .answer) (c .before .code .ensures) (c .if1 .taken))
+    let loop = c .before .before .before .before .before .before .before .loop in
+    let advance = c .before .before .before .before .advance in
+    running-refused (loop .inv) (advance .ensures)
+    (code-refused (advance .result .answer) (c .before .code .ensures) (c .if1 .taken))
 
 loop-less : tie.Need-loop-less Inv-loop μ-loop
-loop-less c = omega (arith, c .before .before .before .before .advance .ensures .onward, c .before .before .before .before .advance .ensures .within)
+loop-less c =
+    let advance = c .before .before .before .before .advance in
+    omega (arith, advance .ensures .onward, advance .ensures .within)
 
 loop-again : tie.Need-loop-again Inv-loop μ-loop
 loop-again c =
-    running-more (c .before .before .before .before .before .before .before .loop .inv) (c .before .before .before .before .advance .ensures)
-    (code-done (c .before .before .before .before .advance .result .answer) (c .before .code .ensures) (c .if1 .left))
+    let loop = c .before .before .before .before .before .before .before .loop in
+    let advance = c .before .before .before .before .advance in
+    running-more (loop .inv) (advance .ensures)
+    (code-done (advance .result .answer) (c .before .code .ensures) (c .if1 .left))
 
 same-length-2 : tie.Need-same-length-2 Inv-loop μ-loop
 same-length-2 c = search needs

@@ -9,7 +9,9 @@ source-requires : tie.Need-source-requires
 source-requires c κs = (c .before .before .pre .0, (omega arith, omega arith))
 
 start-requires : tie.Need-start-requires
-start-requires c κs = (c .before .before .before .before .pre .0 .roomy, omega arith)
+start-requires c κs =
+    let given = c .before .before .before .before in
+    (given .pre .0 .roomy, omega arith)
 
 axpy-requires : tie.Need-axpy-requires
 axpy-requires c κs =
@@ -26,9 +28,10 @@ same-length c = search needs
 
 returns : tie.Need-returns
 returns c =
+    let source = c .before .before .before .before .before .source in
     let start = c .before .before .before .before .before .before .before .before in
     subtract-leaves (start .pre .0) (start .pre .1 .0) (start .pre .1 .1) (c .before .before .before .start .ensures)
-    (c .before .before .before .before .before .source .ensures) (c .before .before .axpy .ensures)
+    (source .ensures) (c .before .before .axpy .ensures)
 
 pub subtract-spec : {M : Type 1} → statement M
 subtract-spec =

@@ -17,14 +17,18 @@ loop-holds : tie.Need-loop-holds Inv-loop μ-loop
 loop-holds c = updating-none (c .before .pre .0 .sound)
 
 take-requires : tie.Need-take-requires Inv-loop μ-loop
-take-requires c κs = (leaves-laid (c .before .before .before .before .pre .0) (c .before .before .loop .inv .leaves), (c .before .before .before .before .pre .1, c .before .loop-test .taken))
+take-requires c κs =
+    let given = c .before .before .before .before in
+    (leaves-laid (given .pre .0) (c .before .before .loop .inv .leaves), (given .pre .1, c .before .loop-test .taken))
 
 loop-less : tie.Need-loop-less Inv-loop μ-loop
 loop-less c = omega (arith, c .before .before .take .ensures .onward, c .before .before .take .ensures .within)
 
 loop-again : tie.Need-loop-again Inv-loop μ-loop
 loop-again c =
-    updating-more (c .before .before .before .before .before .loop .inv) (c .before .before .before .before .before .before .before .pre .1)
+    let given = c .before .before .before .before .before .before .before in
+    let loop = c .before .before .before .before .before .loop in
+    updating-more (loop .inv) (given .pre .1)
     (c .before .before .take .ensures)
 
 same-length : tie.Need-same-length Inv-loop μ-loop

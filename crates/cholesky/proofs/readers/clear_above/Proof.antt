@@ -17,7 +17,9 @@ loop-holds : tie.Need-loop-holds Inv-loop μ-loop
 loop-holds c = unpacking-none
 
 start-requires : tie.Need-start-requires Inv-loop μ-loop
-start-requires c κs = (c .before .before .before .before .pre .roomy, omega arith)
+start-requires c κs =
+    let given = c .before .before .before .before in
+    (given .pre .roomy, omega arith)
 
 clear-requires : tie.Need-clear-requires Inv-loop μ-loop
 clear-requires c κs =
@@ -35,8 +37,11 @@ loop-less c = search needs
 
 loop-again : tie.Need-loop-again Inv-loop μ-loop
 loop-again c =
-    unpacking-more (c .before .before .before .start .result) (c .before .before .before .before .before .before .loop .inv)
-    (c .before .before .before .before .before .before .before .before .pre .roomy) (c .before .before .before .before .before .loop-test .taken)
+    let given = c .before .before .before .before .before .before .before .before in
+    let loop = c .before .before .before .before .before .before .loop in
+    let loop-test = c .before .before .before .before .before .loop-test in
+    unpacking-more (c .before .before .before .start .result) (loop .inv)
+    (given .pre .roomy) (loop-test .taken)
     (c .before .before .before .start .ensures) (c .before .before .clear .ensures)
 
 same-length : tie.Need-same-length Inv-loop μ-loop

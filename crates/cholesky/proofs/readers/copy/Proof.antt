@@ -20,7 +20,8 @@ loop-holds c = filling-none (c .before .before .pre .1)
 
 copy-column-requires : tie.Need-copy-column-requires Inv-loop μ-loop
 copy-column-requires c κs =
-    (c .before .before .before .before .before .pre .0, (c .before .before .loop .inv .long, omega arith))
+    let given = c .before .before .before .before .before in
+    (given .pre .0, (c .before .before .loop .inv .long, omega arith))
 
 add-j : tie.Need-add-j Inv-loop μ-loop
 add-j c = search needs
@@ -29,7 +30,10 @@ loop-less : tie.Need-loop-less Inv-loop μ-loop
 loop-less c = search needs
 
 loop-again : tie.Need-loop-again Inv-loop μ-loop
-loop-again c = filling-more (c .before .before .before .before .before .loop .inv) (c .before .before .before .before .loop-test .taken) (c .before .before .copy-column .ensures)
+loop-again c =
+    let loop = c .before .before .before .before .before .loop in
+    let loop-test = c .before .before .before .before .loop-test in
+    filling-more (loop .inv) (loop-test .taken) (c .before .before .copy-column .ensures)
 
 same-length : tie.Need-same-length Inv-loop μ-loop
 same-length c = omega (arith, c .before .loop .inv .long)

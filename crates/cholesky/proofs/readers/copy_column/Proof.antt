@@ -12,18 +12,23 @@ mul-to : tie.Need-mul-to
 mul-to c = omega (arith, product-small (c .before .before .before .args .j) (c .before .before .before .args .y .order) (omega arith) (omega arith))
 
 clear-requires : tie.Need-clear-requires
-clear-requires c κs = (omega arith, omega (arith, square-column (c .before .before .before .before .args .y .order) (c .before .before .before .before .args .j) (omega arith)))
+clear-requires c κs =
+    let given = c .before .before .before .before in
+    (omega arith, omega (arith, square-column (given .args .y .order) (given .args .j) (omega arith)))
 
 start-requires : tie.Need-start-requires
-start-requires c κs = (c .before .before .before .before .before .before .before .before .pre .0 .roomy, omega arith)
+start-requires c κs =
+    let given = c .before .before .before .before .before .before .before .before in
+    (given .pre .0 .roomy, omega arith)
 
 copy-requires : tie.Need-copy-requires
 copy-requires c κs =
+    let clear = c .before .before .before .before .clear in
     let start = c .before .before .before .before .before .before .before .before .before in (
       omega arith,
       (
         column-inside (start .pre .0) (omega arith) (c .start .ensures),
-        omega (arith, c .before .before .before .before .clear .ensures .long, square-column (start .args .y .order) (start .args .j) (omega arith)),
+        omega (arith, clear .ensures .long, square-column (start .args .y .order) (start .args .j) (omega arith)),
       ),
     )
 
@@ -32,9 +37,10 @@ same-length c = search needs
 
 returns : tie.Need-returns
 returns c =
+    let clear = c .before .before .before .before .before .before .before .clear in
     let start = c .before .before .before .before .before .before .before .before .before .before .before .before in
     column-copied (start .args .y) (start .args .j) (now (start .args .a)) (now (start .args .l)) _ _ _ _ (omega arith) (c .before .before .before .start .ensures)
-    (c .before .before .before .before .before .before .before .clear .ensures) (c .before .before .copy .ensures)
+    (clear .ensures) (c .before .before .copy .ensures)
 
 pub copy-column-spec : {M : Type 1} → statement M
 copy-column-spec =

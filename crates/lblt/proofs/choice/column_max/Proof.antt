@@ -44,7 +44,9 @@ loop-holds : tie.Need-loop-holds Inv-loop μ-loop
 loop-holds c = ran-none (omega arith)
 
 greater-requires : tie.Need-greater-requires Inv-loop μ-loop
-greater-requires c κs = (c .before .before .before .before .before .before .pre .0, (omega arith, omega arith))
+greater-requires c κs =
+    let given = c .before .before .before .before .before .before in
+    (given .pre .0, (omega arith, omega arith))
 
 add-i-2 : tie.Need-add-i-2 Inv-loop μ-loop
 add-i-2 c = omega arith
@@ -56,7 +58,9 @@ loop-again : tie.Need-loop-again Inv-loop μ-loop
 loop-again c = ran-more (c .before .before .loop .inv) (c .before .loop-test .taken) (c .greater .ensures)
 
 returns-2 : tie.Need-returns-2 Inv-loop μ-loop
-returns-2 c = scanned _ _ _ (c .before .before .before .before .if1 .left) (c .before .before .abs .ensures ∙ ap absOf (c .before .before .before .get .ensures)) (ran-all (c .before .loop .inv) (c .loop-test .left))
+returns-2 c =
+    let if1 = c .before .before .before .before .if1 in
+    scanned _ _ _ (if1 .left) (c .before .before .abs .ensures ∙ ap absOf (c .before .before .before .get .ensures)) (ran-all (c .before .loop .inv) (c .loop-test .left))
 
 pub column-max-spec : {M : Type 1} → statement M
 column-max-spec = tie.close (tie.spec Inv-loop μ-loop add-if1 returns add-t7 add-get get-requires abs-requires add-i loop-holds greater-requires add-i-2 loop-less loop-again returns-2)

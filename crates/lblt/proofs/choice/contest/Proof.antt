@@ -20,10 +20,16 @@ abs-requires : tie.Need-abs-requires
 abs-requires c κs = search needs
 
 returns-2 : tie.Need-returns-2
-returns-2 c = both-small _ _ _ (c .before .before .before .before .row-max .ensures) (c .before .before .before .before .before .before .pre .1 .1 .1) (c .before .before .before .if1 .left) (c .before .abs .ensures ∙ ap absOf (c .before .before .get .ensures)) (c .if2 .taken)
+returns-2 c =
+    let given = c .before .before .before .before .before .before in
+    let row-max = c .before .before .before .before .row-max in
+    both-small _ _ _ (row-max .ensures) (given .pre .1 .1 .1) (c .before .before .before .if1 .left) (c .before .abs .ensures ∙ ap absOf (c .before .before .get .ensures)) (c .if2 .taken)
 
 returns-3 : tie.Need-returns-3
-returns-3 c = other-wins _ _ _ (c .before .before .before .before .row-max .ensures) (c .before .before .before .before .before .before .pre .1 .1 .1) (c .before .before .before .if1 .left) (c .before .abs .ensures ∙ ap absOf (c .before .before .get .ensures)) (c .if2 .left)
+returns-3 c =
+    let given = c .before .before .before .before .before .before in
+    let row-max = c .before .before .before .before .row-max in
+    other-wins _ _ _ (row-max .ensures) (given .pre .1 .1 .1) (c .before .before .before .if1 .left) (c .before .abs .ensures ∙ ap absOf (c .before .before .get .ensures)) (c .if2 .left)
 
 pub contest-spec : {M : Type 1} → statement M
 contest-spec = tie.close (tie.spec row-max-requires returns get-requires abs-requires returns-2 returns-3)

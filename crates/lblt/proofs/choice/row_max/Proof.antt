@@ -43,7 +43,9 @@ loop2-holds : tie.Need-loop2-holds Inv-loop μ-loop Inv-loop2 μ-loop2
 loop2-holds c = ran-none (omega arith)
 
 down-column-requires : tie.Need-down-column-requires Inv-loop μ-loop Inv-loop2 μ-loop2
-down-column-requires c κs = (c .before .before .before .before .before .pre .0, (omega arith, omega arith))
+down-column-requires c κs =
+    let given = c .before .before .before .before .before in
+    (given .pre .0, (omega arith, omega arith))
 
 add-j-3 : tie.Need-add-j-3 Inv-loop μ-loop Inv-loop2 μ-loop2
 add-j-3 c = omega arith

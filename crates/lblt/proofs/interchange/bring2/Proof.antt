@@ -22,13 +22,18 @@ add-swap : tie.Need-add-swap
 add-swap c = omega arith
 
 swap-requires : tie.Need-swap-requires
-swap-requires c κs = (laid-after (c .before .before .before .before .before .before .before .pre .0) (c .before .before .before .interchange .ensures), (omega arith, (omega arith, (omega arith, omega arith))))
+swap-requires c κs =
+    let given = c .before .before .before .before .before .before .before in
+    (laid-after (given .pre .0) (c .before .before .before .interchange .ensures), (omega arith, (omega arith, (omega arith, omega arith))))
 
 same-length : tie.Need-same-length
 same-length c = search needs
 
 returns-2 : tie.Need-returns-2
-returns-2 c = brings2 _ _ _ (c .before .before .before .before .before .before .before .before .if1 .left) (c .before .before .before .before .before .before .interchange .ensures) (c .before .before .swap .ensures)
+returns-2 c =
+    let if1 = c .before .before .before .before .before .before .before .before .if1 in
+    let interchange = c .before .before .before .before .before .before .interchange in
+    brings2 _ _ _ (if1 .left) (interchange .ensures) (c .before .before .swap .ensures)
 
 pub bring2-spec : {M : Type 1} → statement M
 bring2-spec = tie.close (tie.spec add-if1 returns add-interchange interchange-requires add-swap swap-requires same-length returns-2)

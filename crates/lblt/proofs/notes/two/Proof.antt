@@ -23,7 +23,9 @@ same-length : tie.Need-same-length
 same-length c = search needs
 
 returns : tie.Need-returns
-returns c = rw (c .before .before .before .before .before .before .put-pair .ensures) at (c .before .before .put-pair2 .ensures)
+returns c =
+    let put-pair = c .before .before .before .before .before .before .put-pair in
+    rw (put-pair .ensures) at (c .before .before .put-pair2 .ensures)
 
 pub two-spec : {M : Type 1} → statement M
 two-spec = tie.close (tie.spec cast-put-pair put-pair-requires add-put-pair cast-put-pair-2 put-pair-requires-2 same-length returns)

@@ -23,7 +23,9 @@ loop-holds : tie.Need-loop-holds Inv-loop μ-loop
 loop-holds c = turned-none (c .before .before .before .pre .0 .sound) (omega arith)
 
 rank1-at-requires : tie.Need-rank1-at-requires Inv-loop μ-loop
-rank1-at-requires c κs = (laid-after (c .before .before .before .before .before .before .pre .0) (c .before .before .loop .inv .holds), (omega arith, (omega arith, omega arith)))
+rank1-at-requires c κs =
+    let given = c .before .before .before .before .before .before in
+    (laid-after (given .pre .0) (c .before .before .loop .inv .holds), (omega arith, (omega arith, omega arith)))
 
 add-i : tie.Need-add-i Inv-loop μ-loop
 add-i c = omega arith
@@ -32,10 +34,15 @@ loop-less : tie.Need-loop-less Inv-loop μ-loop
 loop-less c = omega arith
 
 loop-again : tie.Need-loop-again Inv-loop μ-loop
-loop-again c = turned-more (c .before .before .before .before .before .loop .inv) (c .before .before .before .before .loop-test .taken) (c .before .before .rank1-at .ensures)
+loop-again c =
+    let loop = c .before .before .before .before .before .loop in
+    let loop-test = c .before .before .before .before .loop-test in
+    turned-more (loop .inv) (loop-test .taken) (c .before .before .rank1-at .ensures)
 
 same-length : tie.Need-same-length Inv-loop μ-loop
-same-length c = c .before .loop .inv .holds .sound .long ∙ sym (c .before .before .before .before .before .pre .0 .sound .long)
+same-length c =
+    let given = c .before .before .before .before .before in
+    c .before .loop .inv .holds .sound .long ∙ sym (given .pre .0 .sound .long)
 
 returns : tie.Need-returns Inv-loop μ-loop
 returns c = updates-column _ _ _ _ (c .before .before .get .ensures) (turned-all (c .before .loop .inv) (c .loop-test .left))

@@ -25,7 +25,9 @@ add-loop : tie.Need-add-loop Inv-loop μ-loop
 add-loop c = omega arith
 
 rank1-pair-requires : tie.Need-rank1-pair-requires Inv-loop μ-loop
-rank1-pair-requires c κs = (laid-after (c .before .before .before .before .pre .0) (c .before .before .loop .inv .holds), (omega arith, omega arith))
+rank1-pair-requires c κs =
+    let given = c .before .before .before .before in
+    (laid-after (given .pre .0) (c .before .before .loop .inv .holds), (omega arith, omega arith))
 
 add-j-2 : tie.Need-add-j-2 Inv-loop μ-loop
 add-j-2 c = omega arith
@@ -34,19 +36,31 @@ loop-less : tie.Need-loop-less Inv-loop μ-loop
 loop-less c = omega arith
 
 loop-again : tie.Need-loop-again Inv-loop μ-loop
-loop-again c = turned-two (c .before .before .before .before .before .loop .inv) (c .before .before .before .before .loop-test .taken) (c .before .before .rank1-pair .ensures)
+loop-again c =
+    let loop = c .before .before .before .before .before .loop in
+    let loop-test = c .before .before .before .before .loop-test in
+    turned-two (loop .inv) (loop-test .taken) (c .before .before .rank1-pair .ensures)
 
 rank1-requires : tie.Need-rank1-requires Inv-loop μ-loop
-rank1-requires c κs = (laid-after (c .before .before .before .before .before .pre .0) (c .before .before .before .loop .inv .holds), (omega arith, omega arith))
+rank1-requires c κs =
+    let given = c .before .before .before .before .before in
+    (laid-after (given .pre .0) (c .before .before .before .loop .inv .holds), (omega arith, omega arith))
 
 same-length : tie.Need-same-length Inv-loop μ-loop
-same-length c = c .before .before .rank1 .ensures .sound .long ∙ sym (c .before .before .before .before .before .before .before .before .pre .0 .sound .long)
+same-length c =
+    let given = c .before .before .before .before .before .before .before .before in
+    c .before .before .rank1 .ensures .sound .long ∙ sym (given .pre .0 .sound .long)
 
 returns : tie.Need-returns Inv-loop μ-loop
-returns c = turned-all (turned-more (c .before .before .before .before .before .before .loop .inv) (c .before .before .before .before .if1 .taken) (c .before .before .rank1 .ensures)) (omega arith)
+returns c =
+    let loop = c .before .before .before .before .before .before .loop in
+    let if1 = c .before .before .before .before .if1 in
+    turned-all (turned-more (loop .inv) (if1 .taken) (c .before .before .rank1 .ensures)) (omega arith)
 
 same-length-2 : tie.Need-same-length-2 Inv-loop μ-loop
-same-length-2 c = c .before .before .loop .inv .holds .sound .long ∙ sym (c .before .before .before .before .pre .0 .sound .long)
+same-length-2 c =
+    let given = c .before .before .before .before in
+    c .before .before .loop .inv .holds .sound .long ∙ sym (given .pre .0 .sound .long)
 
 returns-2 : tie.Need-returns-2 Inv-loop μ-loop
 returns-2 c = turned-all (c .before .before .loop .inv) (c .if1 .left)

@@ -23,10 +23,14 @@ add-get : tie.Need-add-get Inv-loop μ-loop
 add-get c = omega arith
 
 get-requires-2 : tie.Need-get-requires-2 Inv-loop μ-loop
-get-requires-2 c κs = (c .before .before .before .before .pre .0, (omega arith, omega arith))
+get-requires-2 c κs =
+    let given = c .before .before .before .before in
+    (given .pre .0, (omega arith, omega arith))
 
 rank1-at-requires : tie.Need-rank1-at-requires Inv-loop μ-loop
-rank1-at-requires c κs = (c .before .before .before .before .before .before .pre .0, (omega arith, (omega arith, omega arith)))
+rank1-at-requires c κs =
+    let given = c .before .before .before .before .before .before in
+    (given .pre .0, (omega arith, (omega arith, omega arith)))
 
 add-i : tie.Need-add-i Inv-loop μ-loop
 add-i c = omega arith
@@ -35,7 +39,9 @@ loop-holds : tie.Need-loop-holds Inv-loop μ-loop
 loop-holds c = turned-none (c .before .before .rank1-at .ensures .sound) (omega arith)
 
 rank1-pair-at-requires : tie.Need-rank1-pair-at-requires Inv-loop μ-loop
-rank1-pair-at-requires c κs = (laid-after (c .before .before .before .before .before .before .before .before .before .before .before .before .pre .0) (c .before .before .loop .inv .holds), (omega arith, (omega arith, omega arith)))
+rank1-pair-at-requires c κs =
+    let given = c .before .before .before .before .before .before .before .before .before .before .before .before in
+    (laid-after (given .pre .0) (c .before .before .loop .inv .holds), (omega arith, (omega arith, omega arith)))
 
 add-i-2 : tie.Need-add-i-2 Inv-loop μ-loop
 add-i-2 c = omega arith
@@ -44,13 +50,23 @@ loop-less : tie.Need-loop-less Inv-loop μ-loop
 loop-less c = omega arith
 
 loop-again : tie.Need-loop-again Inv-loop μ-loop
-loop-again c = turned-more (c .before .before .before .before .before .loop .inv) (c .before .before .before .before .loop-test .taken) (c .before .before .rank1-pair-at .ensures)
+loop-again c =
+    let loop = c .before .before .before .before .before .loop in
+    let loop-test = c .before .before .before .before .loop-test in
+    turned-more (loop .inv) (loop-test .taken) (c .before .before .rank1-pair-at .ensures)
 
 same-length : tie.Need-same-length Inv-loop μ-loop
-same-length c = c .before .loop .inv .holds .sound .long ∙ sym (c .before .before .before .before .before .before .before .before .before .before .before .pre .0 .sound .long)
+same-length c =
+    let given = c .before .before .before .before .before .before .before .before .before .before .before in
+    c .before .loop .inv .holds .sound .long ∙ sym (given .pre .0 .sound .long)
 
 returns : tie.Need-returns Inv-loop μ-loop
-returns c = pairs1 _ _ _ _ (c .before .before .before .before .before .before .before .before .before .before .before .pre .1 .0) (omega arith) (c .before .before .before .before .before .before .before .before .get .ensures) (c .before .before .before .before .before .before .get2 .ensures) (c .before .before .before .before .rank1-at .ensures) (turned-all (c .before .loop .inv) (c .loop-test .left))
+returns c =
+    let given = c .before .before .before .before .before .before .before .before .before .before .before in
+    let get = c .before .before .before .before .before .before .before .before .get in
+    let get2 = c .before .before .before .before .before .before .get2 in
+    let rank1-at = c .before .before .before .before .rank1-at in
+    pairs1 _ _ _ _ (given .pre .1 .0) (omega arith) (get .ensures) (get2 .ensures) (rank1-at .ensures) (turned-all (c .before .loop .inv) (c .loop-test .left))
 
 pub rank1-pair-spec : {M : Type 1} → statement M
 rank1-pair-spec = tie.close (tie.spec Inv-loop μ-loop get-requires add-get get-requires-2 rank1-at-requires add-i loop-holds rank1-pair-at-requires add-i-2 loop-less loop-again same-length returns)

@@ -9,7 +9,9 @@ get-requires : tie.Need-get-requires
 get-requires c κs = (c .before .before .before .pre .0, (omega arith, omega arith))
 
 put-requires : tie.Need-put-requires
-put-requires c κs = (c .before .before .before .before .pre .0, (omega arith, omega arith))
+put-requires c κs =
+    let given = c .before .before .before .before in
+    (given .pre .0, (omega arith, omega arith))
 
 same-length : tie.Need-same-length
 same-length c = search needs

@@ -24,7 +24,9 @@ get-requires-2 : tie.Need-get-requires-2
 get-requires-2 c κs = (c .before .before .before .pre .0, (omega arith, omega arith))
 
 get-requires-3 : tie.Need-get-requires-3
-get-requires-3 c κs = (c .before .before .before .before .pre .0, (omega arith, omega arith))
+get-requires-3 c κs =
+    let given = c .before .before .before .before in
+    (given .pre .0, (omega arith, omega arith))
 
 returns : tie.Need-returns
 returns c = blocks _ _ (c .before .before .before .get .ensures) (c .before .before .abs .ensures) (c .before .get2 .ensures) (c .get3 .ensures)

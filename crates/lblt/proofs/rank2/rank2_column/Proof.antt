@@ -19,7 +19,9 @@ loop-holds : tie.Need-loop-holds Inv-loop μ-loop
 loop-holds c = turned-none (c .before .pre .0 .sound) (omega arith)
 
 rank2-at-requires : tie.Need-rank2-at-requires Inv-loop μ-loop
-rank2-at-requires c κs = (laid-after (c .before .before .before .before .pre .0) (c .before .before .loop .inv .holds), (omega arith, (omega arith, omega arith)))
+rank2-at-requires c κs =
+    let given = c .before .before .before .before in
+    (laid-after (given .pre .0) (c .before .before .loop .inv .holds), (omega arith, (omega arith, omega arith)))
 
 add-i : tie.Need-add-i Inv-loop μ-loop
 add-i c = omega arith
@@ -28,7 +30,10 @@ loop-less : tie.Need-loop-less Inv-loop μ-loop
 loop-less c = omega arith
 
 loop-again : tie.Need-loop-again Inv-loop μ-loop
-loop-again c = turned-more (c .before .before .before .before .before .loop .inv) (c .before .before .before .before .loop-test .taken) (c .before .before .rank2-at .ensures)
+loop-again c =
+    let loop = c .before .before .before .before .before .loop in
+    let loop-test = c .before .before .before .before .loop-test in
+    turned-more (loop .inv) (loop-test .taken) (c .before .before .rank2-at .ensures)
 
 same-length : tie.Need-same-length Inv-loop μ-loop
 same-length c = c .before .loop .inv .holds .sound .long ∙ sym (c .before .before .before .pre .0 .sound .long)

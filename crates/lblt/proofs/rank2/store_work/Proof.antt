@@ -16,14 +16,19 @@ add-put : tie.Need-add-put
 add-put c = omega arith
 
 put-requires-2 : tie.Need-put-requires-2
-put-requires-2 c κs = (laid-after (c .before .before .before .before .before .before .pre .0) (c .before .before .before .put .ensures), (omega arith, omega arith))
+put-requires-2 c κs =
+    let given = c .before .before .before .before .before .before in
+    (laid-after (given .pre .0) (c .before .before .before .put .ensures), (omega arith, omega arith))
 
 same-length : tie.Need-same-length
 same-length c = search needs
 
 returns : tie.Need-returns
 unfolding storeWork
-returns c = holds-then (λ (M : Matrix). entry M (c .before .before .before .before .before .before .before .before .before .args .j) (c .before .before .before .before .before .before .before .before .before .args .k + 1) (c .before .before .before .before .before .before .before .before .before .args .w .w2)) (c .before .before .before .before .before .before .put .ensures) (c .before .before .put2 .ensures)
+returns c =
+    let given = c .before .before .before .before .before .before .before .before .before in
+    let put = c .before .before .before .before .before .before .put in
+    holds-then (λ (M : Matrix). entry M (given .args .j) (given .args .k + 1) (given .args .w .w2)) (put .ensures) (c .before .before .put2 .ensures)
 
 pub store-work-spec : {M : Type 1} → statement M
 store-work-spec = tie.close (tie.spec put-requires add-put put-requires-2 same-length returns)

@@ -12,7 +12,8 @@ clear-requires c κs = search needs
 
 put-blocks-requires : tie.Need-put-blocks-requires
 put-blocks-requires c κs =
-    let pre = c .before .before .before .before .before .before .before .before .pre in
+    let given = c .before .before .before .before .before .before .before .before in
+    let pre = given .pre in
     let clear = c .before .before .before .clear in
     (pre .0, record { small = pre .1 .small; long = clear .ensures .long })
 
@@ -22,8 +23,9 @@ same-length c = search needs
 returns : tie.Need-returns
 unfolding dOf
 returns c =
+    let clear-step = c .before .before .before .before .before .before .clear in
     let put-blocks = c .before .before .put-blocks in
-    let clear = c .before .before .before .before .before .before .clear in
+    let clear = clear-step in
     fills-as (put-blocks .ensures) (ap (forwards _ _ _) (clear .ensures .cells))
 
 pub fill-spec : {M : Type 1} → statement M

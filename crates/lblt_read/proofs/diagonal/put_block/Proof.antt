@@ -16,12 +16,14 @@ size-requires c κs = search needs
 
 get-requires : tie.Need-get-requires
 get-requires c κs =
-    let pre = c .before .before .before .before .before .before .pre in
+    let given = c .before .before .before .before .before .before in
+    let pre = given .pre in
     (pre .0, (omega arith, pre .1 .1 .inside))
 
 put-requires : tie.Need-put-requires
 put-requires c κs =
-    let pre = c .before .before .before .before .before .before .before .pre in
+    let given = c .before .before .before .before .before .before .before in
+    let pre = given .pre in
     (pre .1 .0, (pre .1 .1 .inside, pre .1 .1 .inside))
 
 add-result : tie.Need-add-result
@@ -33,16 +35,19 @@ same-length c = search needs
 returns : tie.Need-returns
 unfolding diagonalBlock
 returns c =
-    let size = c .before .before .before .before .before .before .size in
-    let if1 = c .before .before .before .before .before .if1 in
+    let size-step = c .before .before .before .before .before .before .size in
+    let if1-step = c .before .before .before .before .before .if1 in
+    let size = size-step in
+    let if1 = if1-step in
     let put = c .before .before .put in
     let get = c .before .before .before .get in
     placed-one _ _ (size .ensures) (_+_ _) _ (if1 .taken) (holds-as (put .ensures) (ap (entry _ _ _) (get .ensures)))
 
 put-two-requires : tie.Need-put-two-requires
 put-two-requires c κs =
-    let pre = c .before .before .before .before .before .before .pre in
-    let args = c .before .before .before .before .before .before .args in
+    let given = c .before .before .before .before .before .before in
+    let pre = given .pre in
+    let args = given .args in
     let size = c .before .before .size in
     (pre .0, (pre .1 .0, omega (arith, pre .1 .1 .rows, reads-two (args .words .now) (args .k) (size .ensures) (c .before .if1 .left))))
 
@@ -55,8 +60,10 @@ same-length-2 c = search needs
 returns-2 : tie.Need-returns-2
 unfolding diagonalBlock
 returns-2 c =
-    let size = c .before .before .before .before .before .size in
-    let if1 = c .before .before .before .before .if1 in
+    let size-step = c .before .before .before .before .before .size in
+    let if1-step = c .before .before .before .before .if1 in
+    let size = size-step in
+    let if1 = if1-step in
     let put-two = c .before .before .put-two in
     placed-two _ _ (size .ensures) (_+_ _) _ (if1 .left) (put-two .ensures)
 

@@ -23,18 +23,22 @@ add-get-3 c = search needs
 
 get-requires-3 : tie.Need-get-requires-3
 get-requires-3 c κs =
-    let pre = c .before .before .before .before .pre in
+    let given = c .before .before .before .before in
+    let pre = given .pre in
     (pre .0, (omega arith, omega arith))
 
 put-requires : tie.Need-put-requires
-put-requires c κs = (c .before .before .before .before .before .before .pre .1 .0, (omega arith, omega arith))
+put-requires c κs =
+    let given = c .before .before .before .before .before .before in
+    (given .pre .1 .0, (omega arith, omega arith))
 
 add-put : tie.Need-add-put
 add-put c = search needs
 
 put-requires-2 : tie.Need-put-requires-2
 put-requires-2 c κs =
-    let pre = c .before .before .before .before .before .before .before .before .before .before .pre in
+    let given = c .before .before .before .before .before .before .before .before .before .before in
+    let pre = given .pre in
     let put = c .before .before .before .put in
     (squared-of (pre .1 .0 .small) (put .ensures), (omega arith, omega arith))
 
@@ -43,7 +47,8 @@ add-put-2 c = search needs
 
 put-requires-3 : tie.Need-put-requires-3
 put-requires-3 c κs =
-    let pre = c .before .before .before .before .before .before .before .before .before .before .before .before .before .before .pre in
+    let given = c .before .before .before .before .before .before .before .before .before .before .before .before .before .before in
+    let pre = given .pre in
     let put2 = c .before .before .before .put2 in
     (squared-of (pre .1 .0 .small) (put2 .ensures), (omega arith, omega arith))
 
@@ -55,7 +60,8 @@ add-put-4 c = search needs
 
 put-requires-4 : tie.Need-put-requires-4
 put-requires-4 c κs =
-    let pre = c .before .before .before .before .before .before .before .before .before .before .before .before .before .before .before .before .before .before .pre in
+    let given = c .before .before .before .before .before .before .before .before .before .before .before .before .before .before .before .before .before .before in
+    let pre = given .pre in
     let put3 = c .before .before .before .put3 in
     (squared-of (pre .1 .0 .small) (put3 .ensures), (omega arith, omega arith))
 
@@ -64,12 +70,18 @@ same-length c = search needs
 
 returns : tie.Need-returns
 returns c =
-    let get2 = c .before .before .before .before .before .before .before .before .before .before .before .before .before .before .before .before .before .get2 in
-    let get = c .before .before .before .before .before .before .before .before .before .before .before .before .before .before .before .before .before .before .get in
-    let get3 = c .before .before .before .before .before .before .before .before .before .before .before .before .before .before .before .before .get3 in
-    let put = c .before .before .before .before .before .before .before .before .before .before .before .before .before .before .put in
-    let put2 = c .before .before .before .before .before .before .before .before .before .before .put2 in
-    let put3 = c .before .before .before .before .before .before .put3 in
+    let get-step = c .before .before .before .before .before .before .before .before .before .before .before .before .before .before .before .before .before .before .get in
+    let get2-step = c .before .before .before .before .before .before .before .before .before .before .before .before .before .before .before .before .before .get2 in
+    let get3-step = c .before .before .before .before .before .before .before .before .before .before .before .before .before .before .before .before .get3 in
+    let put-step = c .before .before .before .before .before .before .before .before .before .before .before .before .before .before .put in
+    let put2-step = c .before .before .before .before .before .before .before .before .before .before .put2 in
+    let put3-step = c .before .before .before .before .before .before .put3 in
+    let get2 = get2-step in
+    let get = get-step in
+    let get3 = get3-step in
+    let put = put-step in
+    let put2 = put2-step in
+    let put3 = put3-step in
     let put4 = c .before .before .put4 in
     put-four _ _ _ (get2 .ensures) (get .ensures) (get3 .ensures) (put .ensures) (put2 .ensures) (put3 .ensures) (put4 .ensures)
 

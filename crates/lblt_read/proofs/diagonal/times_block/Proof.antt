@@ -26,8 +26,9 @@ add-t6 c = search needs
 
 block-determinant-requires : tie.Need-block-determinant-requires
 block-determinant-requires c κs =
-    let pre = c .before .before .before .before .pre in
-    let args = c .before .before .before .before .args in
+    let given = c .before .before .before .before in
+    let pre = given .pre in
+    let args = given .args in
     (pre .0, omega (arith, pre .1 .rows, reads-two (args .words .now) (args .k) (c .before .size .ensures) (c .if1 .left)))
 
 returns-2 : tie.Need-returns-2

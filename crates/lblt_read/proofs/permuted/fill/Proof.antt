@@ -12,7 +12,8 @@ put-identity-requires c κs = search needs
 
 permute-blocks-requires : tie.Need-permute-blocks-requires
 permute-blocks-requires c κs =
-    let pre = c .before .before .before .before .before .before .before .before .pre in
+    let given = c .before .before .before .before .before .before .before .before in
+    let pre = given .pre in
     let put-identity = c .before .before .before .put-identity in
     (pre .0, record { small = pre .1 .small; long = put-identity .ensures .long })
 
@@ -22,8 +23,9 @@ same-length c = search needs
 returns : tie.Need-returns
 unfolding lPermutedOf
 returns c =
+    let put-identity-step = c .before .before .before .before .before .before .put-identity in
     let permute-blocks = c .before .before .permute-blocks in
-    let put-identity = c .before .before .before .before .before .before .put-identity in
+    let put-identity = put-identity-step in
     fills-as (permute-blocks .ensures) (ap (forwards _ _ _) (put-identity .ensures .cells))
 
 pub fill-spec : {M : Type 1} → statement M

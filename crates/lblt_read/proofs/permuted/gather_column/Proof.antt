@@ -25,27 +25,32 @@ loop-holds c = turned-none (sound-of (c .before .before .before .pre .1 .0)) (c 
 
 add-add-column : tie.Need-add-add-column Inv-loop μ-loop
 add-add-column c =
+    let given = c .before .before .before .before .before .before in
     let start = c .before .before .before .start in
-    let pre = c .before .before .before .before .before .before .pre in
+    let pre = given .pre in
     omega (arith, offset-small _ _ _ _ (start .ensures) (omega arith) (pre .0))
 
 mul-add-column : tie.Need-mul-add-column Inv-loop μ-loop
 mul-add-column c =
+    let given = c .before .before .before .before .before .before in
     let start = c .before .before .before .start in
-    let pre = c .before .before .before .before .before .before .pre in
+    let pre = given .pre in
     omega (arith, offset-small _ _ _ _ (start .ensures) (omega arith) (pre .0))
 
 shared-slice-read-add-column : tie.Need-shared-slice-read-add-column Inv-loop μ-loop
 shared-slice-read-add-column c =
-    let start = c .before .before .before .before .start in
+    let given = c .before .before .before .before .before .before .before in
+    let start-step = c .before .before .before .before .start in
+    let start = start-step in
     let loop = c .before .before .before .loop in
-    let pre = c .before .before .before .before .before .before .before .pre in
+    let pre = given .pre in
     let loop-test = c .before .before .loop-test in
     offset-within _ _ _ _ _ (start .ensures) (omega (arith, loop .inv .from, pre .1 .1 .0)) (loop-test .taken) (pre .0)
 
 add-column-requires : tie.Need-add-column-requires Inv-loop μ-loop
 add-column-requires c κs =
-    let pre = c .before .before .before .before .before .before .before .pre in
+    let given = c .before .before .before .before .before .before .before in
+    let pre = given .pre in
     let loop = c .before .before .before .loop in
     let loop-test = c .before .before .loop-test in
     (squared-of (pre .1 .0 .small) (loop .inv .holds), (omega (arith, pre .1 .1), loop-test .taken))
@@ -58,20 +63,24 @@ loop-less c = search needs
 
 loop-again : tie.Need-loop-again Inv-loop μ-loop
 loop-again c =
-    let loop = c .before .before .before .before .before .before .loop in
-    let loop-test = c .before .before .before .before .before .loop-test in
+    let loop-step = c .before .before .before .before .before .before .loop in
+    let loop-test-step = c .before .before .before .before .before .loop-test in
+    let loop = loop-step in
+    let loop-test = loop-test-step in
     let add-column = c .before .before .add-column in
     turned-more (loop .inv) (loop-test .taken) (add-column .ensures)
 
 same-length : tie.Need-same-length Inv-loop μ-loop
 same-length c =
-    let pre = c .before .before .before .before .before .pre in
+    let given = c .before .before .before .before .before in
+    let pre = given .pre in
     squared-of (pre .1 .0 .small) (c .before .loop .inv .holds) .long ∙ sym (pre .1 .0 .long)
 
 returns : tie.Need-returns Inv-loop μ-loop
 returns c =
+    let given = c .before .before .before .before .before in
     let start = c .before .before .start in
-    let pre = c .before .before .before .before .before .pre in
+    let pre = given .pre in
     holds-as (turned-all (c .before .loop .inv) (c .loop-test .left)) (gather-at _ _ _ _ (start .ensures) _ (pre .1 .1 .0) (pre .1 .1 .1) _)
 
 pub gather-column-spec : {M : Type 1} → statement M

@@ -23,7 +23,8 @@ add-gather-column c = search needs
 
 gather-column-requires : tie.Need-gather-column-requires
 gather-column-requires c κs =
-    let pre = c .before .before .before .before .before .before .before .before .before .before .before .pre in
+    let given = c .before .before .before .before .before .before .before .before .before .before .before in
+    let pre = given .pre in
     let swap-columns = c .before .before .before .swap-columns in
     (pre .0, (squared-of (pre .1 .0 .small) (swap-columns .ensures), (omega arith, omega (arith, pre .1 .1 .inside))))
 
@@ -36,11 +37,16 @@ same-length c = search needs
 returns : tie.Need-returns
 unfolding permutedBlock
 returns c =
-    let size = c .before .before .before .before .before .before .before .before .before .size in
-    let if1 = c .before .before .before .before .before .before .before .before .if1 in
-    let args = c .before .before .before .before .before .before .before .before .before .before .before .before .before .before .args in
-    let index = c .before .before .before .before .before .before .before .before .before .before .index in
-    let swap-columns = c .before .before .before .before .before .before .swap-columns in
+    let given = c .before .before .before .before .before .before .before .before .before .before .before .before .before .before in
+    let index-step = c .before .before .before .before .before .before .before .before .before .before .index in
+    let size-step = c .before .before .before .before .before .before .before .before .before .size in
+    let if1-step = c .before .before .before .before .before .before .before .before .if1 in
+    let swap-columns-step = c .before .before .before .before .before .before .swap-columns in
+    let size = size-step in
+    let if1 = if1-step in
+    let args = given .args in
+    let index = index-step in
+    let swap-columns = swap-columns-step in
     let gather-column = c .before .before .gather-column in
     placed-one _ _ (size .ensures) (_+_ _) _ (if1 .taken) (permuted-one _ _ (args .words .now) (args .k) (index .ensures) (swap-columns .ensures) (gather-column .ensures))
 
@@ -49,8 +55,9 @@ add-swap-columns c = search needs
 
 swap-columns-requires-2 : tie.Need-swap-columns-requires-2
 swap-columns-requires-2 c κs =
-    let pre = c .before .before .before .before .before .before .before .pre in
-    let args = c .before .before .before .before .before .before .before .args in
+    let given = c .before .before .before .before .before .before .before in
+    let pre = given .pre in
+    let args = given .args in
     let size = c .before .before .size in
     let index = c .before .before .before .index in
     (pre .1 .0, (omega (arith, pre .1 .1 .rows, reads-two (args .words .now) (args .k) (size .ensures) (c .before .if1 .left)), omega (arith, pre .1 .1 .index, index .ensures)))
@@ -60,11 +67,14 @@ add-gather-column-2 c = search needs
 
 gather-column-requires-2 : tie.Need-gather-column-requires-2
 gather-column-requires-2 c κs =
-    let pre = c .before .before .before .before .before .before .before .before .before .before .before .pre in
+    let given = c .before .before .before .before .before .before .before .before .before .before .before in
+    let size-step = c .before .before .before .before .before .before .size in
+    let if1-step = c .before .before .before .before .before .if1 in
+    let pre = given .pre in
     let swap-columns2 = c .before .before .before .swap-columns2 in
-    let args = c .before .before .before .before .before .before .before .before .before .before .before .args in
-    let size = c .before .before .before .before .before .before .size in
-    let if1 = c .before .before .before .before .before .if1 in
+    let args = given .args in
+    let size = size-step in
+    let if1 = if1-step in
     (pre .0, (squared-of (pre .1 .0 .small) (swap-columns2 .ensures), (omega arith, omega (arith, pre .1 .1 .rows, reads-two (args .words .now) (args .k) (size .ensures) (if1 .left)))))
 
 add-gather-column-3 : tie.Need-add-gather-column-3
@@ -75,11 +85,14 @@ add-gather-column-4 c = search needs
 
 gather-column-requires-3 : tie.Need-gather-column-requires-3
 gather-column-requires-3 c κs =
-    let pre = c .before .before .before .before .before .before .before .before .before .before .before .before .before .before .before .pre in
+    let given = c .before .before .before .before .before .before .before .before .before .before .before .before .before .before .before in
+    let size-step = c .before .before .before .before .before .before .before .before .before .before .size in
+    let if1-step = c .before .before .before .before .before .before .before .before .before .if1 in
+    let pre = given .pre in
     let gather-column2 = c .before .before .before .gather-column2 in
-    let args = c .before .before .before .before .before .before .before .before .before .before .before .before .before .before .before .args in
-    let size = c .before .before .before .before .before .before .before .before .before .before .size in
-    let if1 = c .before .before .before .before .before .before .before .before .before .if1 in
+    let args = given .args in
+    let size = size-step in
+    let if1 = if1-step in
     (pre .0, (squared-of (pre .1 .0 .small) (gather-column2 .ensures), (omega arith, omega (arith, pre .1 .1 .rows, reads-two (args .words .now) (args .k) (size .ensures) (if1 .left)))))
 
 add-result-2 : tie.Need-add-result-2
@@ -91,12 +104,18 @@ same-length-2 c = search needs
 returns-2 : tie.Need-returns-2
 unfolding permutedBlock
 returns-2 c =
-    let size = c .before .before .before .before .before .before .before .before .before .before .before .before .before .size in
-    let if1 = c .before .before .before .before .before .before .before .before .before .before .before .before .if1 in
-    let args = c .before .before .before .before .before .before .before .before .before .before .before .before .before .before .before .before .before .before .args in
-    let index = c .before .before .before .before .before .before .before .before .before .before .before .before .before .before .index in
-    let swap-columns2 = c .before .before .before .before .before .before .before .before .before .before .swap-columns2 in
-    let gather-column2 = c .before .before .before .before .before .before .gather-column2 in
+    let given = c .before .before .before .before .before .before .before .before .before .before .before .before .before .before .before .before .before .before in
+    let index-step = c .before .before .before .before .before .before .before .before .before .before .before .before .before .before .index in
+    let size-step = c .before .before .before .before .before .before .before .before .before .before .before .before .before .size in
+    let if1-step = c .before .before .before .before .before .before .before .before .before .before .before .before .if1 in
+    let swap-columns2-step = c .before .before .before .before .before .before .before .before .before .before .swap-columns2 in
+    let gather-column2-step = c .before .before .before .before .before .before .gather-column2 in
+    let size = size-step in
+    let if1 = if1-step in
+    let args = given .args in
+    let index = index-step in
+    let swap-columns2 = swap-columns2-step in
+    let gather-column2 = gather-column2-step in
     let gather-column3 = c .before .before .gather-column3 in
     placed-two _ _ (size .ensures) (_+_ _) _ (if1 .left) (permuted-two _ _ (args .words .now) (args .k) (index .ensures) (swap-columns2 .ensures) (gather-column2 .ensures) (gather-column3 .ensures))
 

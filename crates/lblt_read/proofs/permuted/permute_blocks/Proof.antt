@@ -21,22 +21,28 @@ loop-holds c = (along-none (c .before .before .before .pre .0 .accepted), refl)
 
 permute-block-requires : tie.Need-permute-block-requires Inv-loop μ-loop
 permute-block-requires c κs =
-    let pre = c .before .before .before .before .before .before .pre in
+    let given = c .before .before .before .before .before .before in
+    let pre = given .pre in
     let loop = c .before .before .loop in
     (pre .0 .factor, (record { small = pre .1 .small; long = loop .inv .1 ∙ pre .1 .long }, block-at (pre .0 .accepted) (loop .inv .0 .boundary) (c .before .loop-test .taken)))
 
 loop-less : tie.Need-loop-less Inv-loop μ-loop
 loop-less c =
-    let loop-test = c .before .before .before .before .loop-test in
+    let given = c .before .before .before .before .before .before .before .before .before in
+    let loop-step = c .before .before .before .before .before .loop in
+    let loop-test-step = c .before .before .before .before .loop-test in
+    let loop-test = loop-test-step in
     let permute-block = c .before .before .permute-block in
-    let args = c .before .before .before .before .before .before .before .before .before .args in
-    let loop = c .before .before .before .before .before .loop in
+    let args = given .args in
+    let loop = loop-step in
     omega (arith, loop-test .taken, permute-block .ensures .row, rows-positive (args .words .now) (loop .k))
 
 loop-again : tie.Need-loop-again Inv-loop μ-loop
 loop-again c =
-    let loop = c .before .before .before .before .before .loop in
-    let loop-test = c .before .before .before .before .loop-test in
+    let loop-step = c .before .before .before .before .before .loop in
+    let loop-test-step = c .before .before .before .before .loop-test in
+    let loop = loop-step in
+    let loop-test = loop-test-step in
     let permute-block = c .before .before .permute-block in
     (along-more (loop .inv .0) (loop-test .taken) (permute-block .ensures .row) (permute-block .ensures .holds .cells), permute-block .kept .1 .1 .1 .0 ∙ loop .inv .1)
 
@@ -45,8 +51,9 @@ same-length c = c .before .loop .inv .1
 
 returns : tie.Need-returns Inv-loop μ-loop
 returns c =
+    let given = c .before .before .before .before .before in
     let loop = c .before .loop in
-    let pre = c .before .before .before .before .before .pre in
+    let pre = given .pre in
     record { long = loop .inv .1 ∙ pre .1 .long; cells = along-all (loop .inv .0) (c .loop-test .left) }
 
 pub permute-blocks-spec : {M : Type 1} → statement M

@@ -26,7 +26,8 @@ loop-holds c = turned-none (square-sound _ _ (c .before .before .clear .ensures 
 
 put-requires : tie.Need-put-requires Inv-loop μ-loop
 put-requires c κs =
-    let pre = c .before .before .before .before .before .before .before .before .pre in
+    let given = c .before .before .before .before .before .before .before .before in
+    let pre = given .pre in
     let loop = c .before .before .loop in
     let loop-test = c .before .loop-test in
     (squared-of (pre .small) (loop .inv .holds), (loop-test .taken, loop-test .taken))
@@ -39,19 +40,23 @@ loop-less c = search needs
 
 loop-again : tie.Need-loop-again Inv-loop μ-loop
 loop-again c =
-    let loop = c .before .before .before .before .before .loop in
-    let loop-test = c .before .before .before .before .loop-test in
+    let loop-step = c .before .before .before .before .before .loop in
+    let loop-test-step = c .before .before .before .before .loop-test in
+    let loop = loop-step in
+    let loop-test = loop-test-step in
     let put = c .before .before .put in
     turned-more (loop .inv) (loop-test .taken) (put .ensures)
 
 same-length : tie.Need-same-length Inv-loop μ-loop
 same-length c =
-    let pre = c .before .before .before .before .before .before .before .pre in
+    let given = c .before .before .before .before .before .before .before in
+    let pre = given .pre in
     squared-of (pre .small) (c .before .loop .inv .holds) .long ∙ sym (pre .long)
 
 returns : tie.Need-returns Inv-loop μ-loop
 returns c =
-    let clear = c .before .before .before .before .clear in
+    let clear-step = c .before .before .before .before .clear in
+    let clear = clear-step in
     fills-holds (holds-as (turned-all (c .before .loop .inv) (c .loop-test .left)) (ap (for 0 _ putOne) (clear .ensures .cells) ∙ identity-loop _))
 
 pub put-identity-spec : {M : Type 1} → statement M

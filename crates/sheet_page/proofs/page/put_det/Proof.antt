@@ -16,14 +16,20 @@ to-bits-requires : tie.Need-to-bits-requires
 to-bits-requires c κs = search needs
 
 put-bits-requires : tie.Need-put-bits-requires
-put-bits-requires c κs = put-ends (c .before .before .before .before .put-word .ensures)
+put-bits-requires c κs =
+    let put-word = c .before .before .before .before .put-word in
+    put-ends (put-word .ensures)
 
 same-length : tie.Need-same-length
-same-length c = ((put-then (c .before .before .before .before .before .before .before .put-word .ensures) (put-same (ap bitsField (c .before .before .before .to-bits .ensures)) (c .before .before .put-bits .ensures)))) .long
+same-length c =
+    let put-word = c .before .before .before .before .before .before .before .put-word in
+    ((put-then (put-word .ensures) (put-same (ap bitsField (c .before .before .before .to-bits .ensures)) (c .before .before .put-bits .ensures)))) .long
 
 returns : tie.Need-returns
 unfolding detLine
-returns c = (put-then (c .before .before .before .before .before .before .before .put-word .ensures) (put-same (ap bitsField (c .before .before .before .to-bits .ensures)) (c .before .before .put-bits .ensures)))
+returns c =
+    let put-word = c .before .before .before .before .before .before .before .put-word in
+    (put-then (put-word .ensures) (put-same (ap bitsField (c .before .before .before .to-bits .ensures)) (c .before .before .put-bits .ensures)))
 
 pub put-det-spec : {M : Type 1} → statement M
 put-det-spec =

@@ -19,31 +19,59 @@ loop-holds : tie.Need-loop-holds Inv-loop μ-loop
 loop-holds c = entries-start _ _ _ _ (c .before .before .pre .room)
 
 mul-put-entry : tie.Need-mul-put-entry Inv-loop μ-loop
-mul-put-entry c = omega (arith, column-fits (c .before .before .before .before .before .before .before .args .n) (c .before .before .before .before .loop .p) (c .before .before .before .before .before .before .before .pre .small) (c .before .before .if1 .taken))
+mul-put-entry c =
+    let given = c .before .before .before .before .before .before .before in
+    let loop = c .before .before .before .before .loop in
+    omega (arith, column-fits (given .args .n) (loop .p) (given .pre .small) (c .before .before .if1 .taken))
 
 add-put-entry : tie.Need-add-put-entry Inv-loop μ-loop
-add-put-entry c = omega (arith, column-fits (c .before .before .before .before .before .before .before .before .args .n) (c .before .before .before .before .before .loop .p) (c .before .before .before .before .before .before .before .before .pre .small) (c .before .before .before .if1 .taken), (c .before .before .before .before .before .loop .inv .inside .within (c .before .before .before .if1 .taken)), c .before .before .before .before .before .before .before .before .pre .small)
+add-put-entry c =
+    let given = c .before .before .before .before .before .before .before .before in
+    let loop = c .before .before .before .before .before .loop in
+    omega (arith, column-fits (given .args .n) (loop .p) (given .pre .small) (c .before .before .before .if1 .taken), (loop .inv .inside .within (c .before .before .before .if1 .taken)), given .pre .small)
 
 mul-put-entry-2 : tie.Need-mul-put-entry-2 Inv-loop μ-loop
-mul-put-entry-2 c = omega (arith, column-fits (c .before .before .before .before .before .before .before .before .args .n) (c .before .before .before .before .before .loop .p) (c .before .before .before .before .before .before .before .before .pre .small) (c .before .before .before .if1 .taken), (c .before .before .before .before .before .loop .inv .inside .within (c .before .before .before .if1 .taken)), c .before .before .before .before .before .before .before .before .pre .small)
+mul-put-entry-2 c =
+    let given = c .before .before .before .before .before .before .before .before in
+    let loop = c .before .before .before .before .before .loop in
+    omega (arith, column-fits (given .args .n) (loop .p) (given .pre .small) (c .before .before .before .if1 .taken), (loop .inv .inside .within (c .before .before .before .if1 .taken)), given .pre .small)
 
 shared-slice-read-put-entry : tie.Need-shared-slice-read-put-entry Inv-loop μ-loop
-shared-slice-read-put-entry c = omega (arith, cell-inside (c .before .before .before .before .before .before .before .before .before .args .n) (c .before .before .before .before .before .before .loop .p) (c .before .before .before .before .before .before .loop .inv .inside .within (c .before .before .before .before .if1 .taken)) (c .before .before .before .before .if1 .taken), c .before .before .before .before .before .before .before .before .before .pre .whole)
+shared-slice-read-put-entry c =
+    let given = c .before .before .before .before .before .before .before .before .before in
+    let loop = c .before .before .before .before .before .before .loop in
+    let if1 = c .before .before .before .before .if1 in
+    omega (arith, cell-inside (given .args .n) (loop .p) (loop .inv .inside .within (if1 .taken)) (if1 .taken), given .pre .whole)
 
 put-entry-requires : tie.Need-put-entry-requires Inv-loop μ-loop
-put-entry-requires c κs = c .before .before .before .before .before .before .loop .inv .to-go .room
+put-entry-requires c κs =
+    let loop = c .before .before .before .before .before .before .loop in
+    loop .inv .to-go .room
 
 add-count : tie.Need-add-count Inv-loop μ-loop
-add-count c = omega (arith, c .before .before .before .before .before .before .before .before .before .loop .inv .counted, length-places (c .before .before .before .before .before .before .before .before .before .before .before .before .args .n) (c .before .before .before .before .before .before .before .before .before .before .before .before .pre .small))
+add-count c =
+    let given = c .before .before .before .before .before .before .before .before .before .before .before .before in
+    let loop = c .before .before .before .before .before .before .before .before .before .loop in
+    omega (arith, loop .inv .counted, length-places (given .args .n) (given .pre .small))
 
 next-requires : tie.Need-next-requires Inv-loop μ-loop
-next-requires c κs = ((c .before .before .before .before .before .before .before .before .before .loop .inv .inside .within (c .before .before .before .before .before .before .before .if1 .taken)), c .before .before .before .before .before .before .before .if1 .taken)
+next-requires c κs =
+    let loop = c .before .before .before .before .before .before .before .before .before .loop in
+    let if1 = c .before .before .before .before .before .before .before .if1 in
+    ((loop .inv .inside .within (if1 .taken)), if1 .taken)
 
 loop-less : tie.Need-loop-less Inv-loop μ-loop
-loop-less c = subst (λ (q : Place). length (restFrom (c .before .before .before .before .before .before .before .before .before .before .before .before .before .args .n) q) < length (restFrom (c .before .before .before .before .before .before .before .before .before .before .before .before .before .args .n) (c .before .before .before .before .before .before .before .before .before .before .loop .p))) (sym (c .next .ensures)) (rest-falls (c .before .before .before .before .before .before .before .before .before .before .before .before .before .args .n) (c .before .before .before .before .before .before .before .before .before .before .loop .p) (c .before .before .before .before .before .before .before .before .before .before .loop .inv .inside .within (c .before .before .before .before .before .before .before .before .if1 .taken)))
+loop-less c =
+    let given = c .before .before .before .before .before .before .before .before .before .before .before .before .before in
+    let loop = c .before .before .before .before .before .before .before .before .before .before .loop in
+    let if1 = c .before .before .before .before .before .before .before .before .if1 in
+    subst (λ (q : Place). length (restFrom (given .args .n) q) < length (restFrom (given .args .n) (loop .p))) (sym (c .next .ensures)) (rest-falls (given .args .n) (loop .p) (loop .inv .inside .within (if1 .taken)))
 
 loop-again : tie.Need-loop-again Inv-loop μ-loop
-loop-again c = entries-more (c .before .before .before .before .before .before .before .before .before .before .loop .inv) (c .before .before .before .before .before .before .before .before .if1 .taken) (c .next .ensures) (c .before .before .before .put-entry .ensures)
+loop-again c =
+    let loop = c .before .before .before .before .before .before .before .before .before .before .loop in
+    let if1 = c .before .before .before .before .before .before .before .before .if1 in
+    entries-more (loop .inv) (if1 .taken) (c .next .ensures) (c .before .before .before .put-entry .ensures)
 
 same-length : tie.Need-same-length Inv-loop μ-loop
 same-length c = c .before .before .loop .inv .to-go .long

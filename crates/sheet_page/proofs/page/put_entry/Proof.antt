@@ -21,14 +21,24 @@ to-bits-requires : tie.Need-to-bits-requires
 to-bits-requires c κs = search needs
 
 put-bits-requires : tie.Need-put-bits-requires
-put-bits-requires c κs = put-ends (c .before .before .before .before .put-field2 .ensures)
+put-bits-requires c κs =
+    let put-field2 = c .before .before .before .before .put-field2 in
+    put-ends (put-field2 .ensures)
 
 same-length : tie.Need-same-length
-same-length c = ((put-then (c .before .before .before .before .before .before .before .before .before .before .before .before .before .before .before .put-word .ensures) (put-then (c .before .before .before .before .before .before .before .before .before .before .before .put-field .ensures) (put-then (c .before .before .before .before .before .before .before .put-field2 .ensures) (put-same (ap bitsField (c .before .before .before .to-bits .ensures)) (c .before .before .put-bits .ensures)))))) .long
+same-length c =
+    let put-word = c .before .before .before .before .before .before .before .before .before .before .before .before .before .before .before .put-word in
+    let put-field = c .before .before .before .before .before .before .before .before .before .before .before .put-field in
+    let put-field2 = c .before .before .before .before .before .before .before .put-field2 in
+    ((put-then (put-word .ensures) (put-then (put-field .ensures) (put-then (put-field2 .ensures) (put-same (ap bitsField (c .before .before .before .to-bits .ensures)) (c .before .before .put-bits .ensures)))))) .long
 
 returns : tie.Need-returns
 unfolding entryLine
-returns c = (put-then (c .before .before .before .before .before .before .before .before .before .before .before .before .before .before .before .put-word .ensures) (put-then (c .before .before .before .before .before .before .before .before .before .before .before .put-field .ensures) (put-then (c .before .before .before .before .before .before .before .put-field2 .ensures) (put-same (ap bitsField (c .before .before .before .to-bits .ensures)) (c .before .before .put-bits .ensures)))))
+returns c =
+    let put-word = c .before .before .before .before .before .before .before .before .before .before .before .before .before .before .before .put-word in
+    let put-field = c .before .before .before .before .before .before .before .before .before .before .before .put-field in
+    let put-field2 = c .before .before .before .before .before .before .before .put-field2 in
+    (put-then (put-word .ensures) (put-then (put-field .ensures) (put-then (put-field2 .ensures) (put-same (ap bitsField (c .before .before .before .to-bits .ensures)) (c .before .before .put-bits .ensures)))))
 
 pub put-entry-spec : {M : Type 1} → statement M
 put-entry-spec =

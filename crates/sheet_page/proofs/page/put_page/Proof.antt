@@ -17,16 +17,24 @@ put-number-line-requires : tie.Need-put-number-line-requires
 put-number-line-requires c κs = zero-le
 
 put-pivots-requires : tie.Need-put-pivots-requires
-put-pivots-requires c κs = record { room = put-ends (c .before .before .before .put-number-line .ensures); whole = c .before .before .before .before .before .before .before .before .before .pre .words-whole }
+put-pivots-requires c κs =
+    let given = c .before .before .before .before .before .before .before .before .before in
+    record { room = put-ends (c .before .before .before .put-number-line .ensures); whole = given .pre .words-whole }
 
 mark-requires : tie.Need-mark-requires
-mark-requires c κs = omega (arith, c .before .before .before .before .before .before .before .before .before .before .before .before .before .pre .words-whole)
+mark-requires c κs =
+    let given = c .before .before .before .before .before .before .before .before .before .before .before .before .before in
+    omega (arith, given .pre .words-whole)
 
 put-zero-requires : tie.Need-put-zero-requires
-put-zero-requires c κs = put-ends (c .before .before .before .before .put-pivots .ensures)
+put-zero-requires c κs =
+    let put-pivots = c .before .before .before .before .put-pivots in
+    put-ends (put-pivots .ensures)
 
 put-entries-requires : tie.Need-put-entries-requires
-put-entries-requires c κs = record { room = put-ends (c .before .before .before .put-zero .ensures); small = c .before .before .before .before .before .before .before .before .before .before .before .before .before .before .before .before .before .before .pre .small; whole = c .before .before .before .before .before .before .before .before .before .before .before .before .before .before .before .before .before .before .pre .cells-whole }
+put-entries-requires c κs =
+    let given = c .before .before .before .before .before .before .before .before .before .before .before .before .before .before .before .before .before .before in
+    record { room = put-ends (c .before .before .before .put-zero .ensures); small = given .pre .small; whole = given .pre .cells-whole }
 
 put-det-requires : tie.Need-put-det-requires
 put-det-requires c κs = put-ends (c .before .before .before .put-entries .ensures .put)
@@ -35,16 +43,36 @@ slice-aggregate-put-number-line-2 : tie.Need-slice-aggregate-put-number-line-2
 slice-aggregate-put-number-line-2 c = refl
 
 add-put-number-line : tie.Need-add-put-number-line
-add-put-number-line c = omega (arith, c .before .before .before .before .before .before .before .before .before .before .before .before .before .before .before .before .before .before .before .before .before .before .before .before .before .before .before .before .pre .small, c .before .before .before .before .before .before .before .before .before .put-entries .ensures .count, length-places (c .before .before .before .before .before .before .before .before .before .before .before .before .before .before .before .before .before .before .before .before .before .before .before .before .before .before .before .before .args .n) (c .before .before .before .before .before .before .before .before .before .before .before .before .before .before .before .before .before .before .before .before .before .before .before .before .before .before .before .before .pre .small))
+add-put-number-line c =
+    let given = c .before .before .before .before .before .before .before .before .before .before .before .before .before .before .before .before .before .before .before .before .before .before .before .before .before .before .before .before in
+    let put-entries = c .before .before .before .before .before .before .before .before .before .put-entries in
+    omega (arith, given .pre .small, put-entries .ensures .count, length-places (given .args .n) (given .pre .small))
 
 put-number-line-requires-2 : tie.Need-put-number-line-requires-2
-put-number-line-requires-2 c κs = put-ends (c .before .before .before .before .before .put-det .ensures)
+put-number-line-requires-2 c κs =
+    let put-det = c .before .before .before .before .before .put-det in
+    put-ends (put-det .ensures)
 
 same-length : tie.Need-same-length
-same-length c = (put-then (c .before .before .before .before .before .before .before .before .before .before .before .before .before .before .before .before .before .before .before .before .before .before .before .before .before .put-number-line .ensures) (put-then (c .before .before .before .before .before .before .before .before .before .before .before .before .before .before .before .before .before .before .before .before .before .put-pivots .ensures) (put-then (put-same (ap zeroLine (c .before .before .before .before .before .before .before .before .before .before .before .before .before .before .before .before .before .mark .ensures)) (c .before .before .before .before .before .before .before .before .before .before .before .before .before .before .before .before .put-zero .ensures)) (put-then (c .before .before .before .before .before .before .before .before .before .before .before .before .put-entries .ensures .put) (put-then (c .before .before .before .before .before .before .before .before .put-det .ensures) (c .before .before .put-number-line2 .ensures)))))) .long
+same-length c =
+    let put-number-line = c .before .before .before .before .before .before .before .before .before .before .before .before .before .before .before .before .before .before .before .before .before .before .before .before .before .put-number-line in
+    let put-pivots = c .before .before .before .before .before .before .before .before .before .before .before .before .before .before .before .before .before .before .before .before .before .put-pivots in
+    let mark = c .before .before .before .before .before .before .before .before .before .before .before .before .before .before .before .before .before .mark in
+    let put-zero = c .before .before .before .before .before .before .before .before .before .before .before .before .before .before .before .before .put-zero in
+    let put-entries = c .before .before .before .before .before .before .before .before .before .before .before .before .put-entries in
+    let put-det = c .before .before .before .before .before .before .before .before .put-det in
+    (put-then (put-number-line .ensures) (put-then (put-pivots .ensures) (put-then (put-same (ap zeroLine (mark .ensures)) (put-zero .ensures)) (put-then (put-entries .ensures .put) (put-then (put-det .ensures) (c .before .before .put-number-line2 .ensures)))))) .long
 
 returns : tie.Need-returns
-returns c = put-same (page-text (c .before .before .before .before .before .before .before .before .before .before .before .before .before .before .before .before .before .before .before .before .before .before .before .before .before .before .before .before .before .before .before .args .n) (now (c .before .before .before .before .before .before .before .before .before .before .before .before .before .before .before .before .before .before .before .before .before .before .before .before .before .before .before .before .before .before .before .args .words)) (matrixIn (c .before .before .before .before .before .before .before .before .before .before .before .before .before .before .before .before .before .before .before .before .before .before .before .before .before .before .before .before .before .before .before .args .n) (now (c .before .before .before .before .before .before .before .before .before .before .before .before .before .before .before .before .before .before .before .before .before .before .before .before .before .before .before .before .before .before .before .args .a))) (c .before .before .before .before .before .before .before .before .before .before .before .before .before .before .before .before .before .before .before .before .before .before .before .before .before .before .before .before .before .before .before .args .det) _ (ap (λ (k : ℕ). c .before .before .before .before .before .before .before .before .before .before .before .before .before .before .before .before .before .before .before .before .before .before .before .before .before .before .before .before .before .before .before .args .n + k) (c .before .before .before .before .before .before .before .before .before .before .before .before .put-entries .ensures .count))) (put-then (c .before .before .before .before .before .before .before .before .before .before .before .before .before .before .before .before .before .before .before .before .before .before .before .before .before .put-number-line .ensures) (put-then (c .before .before .before .before .before .before .before .before .before .before .before .before .before .before .before .before .before .before .before .before .before .put-pivots .ensures) (put-then (put-same (ap zeroLine (c .before .before .before .before .before .before .before .before .before .before .before .before .before .before .before .before .before .mark .ensures)) (c .before .before .before .before .before .before .before .before .before .before .before .before .before .before .before .before .put-zero .ensures)) (put-then (c .before .before .before .before .before .before .before .before .before .before .before .before .put-entries .ensures .put) (put-then (c .before .before .before .before .before .before .before .before .put-det .ensures) (c .before .before .put-number-line2 .ensures))))))
+returns c =
+    let given = c .before .before .before .before .before .before .before .before .before .before .before .before .before .before .before .before .before .before .before .before .before .before .before .before .before .before .before .before .before .before .before in
+    let put-number-line = c .before .before .before .before .before .before .before .before .before .before .before .before .before .before .before .before .before .before .before .before .before .before .before .before .before .put-number-line in
+    let put-pivots = c .before .before .before .before .before .before .before .before .before .before .before .before .before .before .before .before .before .before .before .before .before .put-pivots in
+    let mark = c .before .before .before .before .before .before .before .before .before .before .before .before .before .before .before .before .before .mark in
+    let put-zero = c .before .before .before .before .before .before .before .before .before .before .before .before .before .before .before .before .put-zero in
+    let put-entries = c .before .before .before .before .before .before .before .before .before .before .before .before .put-entries in
+    let put-det = c .before .before .before .before .before .before .before .before .put-det in
+    put-same (page-text (given .args .n) (now (given .args .words)) (matrixIn (given .args .n) (now (given .args .a))) (given .args .det) _ (ap (λ (k : ℕ). given .args .n + k) (put-entries .ensures .count))) (put-then (put-number-line .ensures) (put-then (put-pivots .ensures) (put-then (put-same (ap zeroLine (mark .ensures)) (put-zero .ensures)) (put-then (put-entries .ensures .put) (put-then (put-det .ensures) (c .before .before .put-number-line2 .ensures))))))
 
 pub put-page-spec : {M : Type 1} → statement M
 put-page-spec =

@@ -20,11 +20,19 @@ put-field-requires-3 : tie.Need-put-field-requires-3
 put-field-requires-3 c κs = put-ends (c .before .before .before .put-field2 .ensures)
 
 same-length : tie.Need-same-length
-same-length c = ((put-then (c .before .before .before .before .before .before .before .before .before .before .before .before .before .before .put-word .ensures) (put-then (c .before .before .before .before .before .before .before .before .before .before .put-field .ensures) (put-then (c .before .before .before .before .before .before .put-field2 .ensures) (c .before .before .put-field3 .ensures))))) .long
+same-length c =
+    let put-word = c .before .before .before .before .before .before .before .before .before .before .before .before .before .before .put-word in
+    let put-field = c .before .before .before .before .before .before .before .before .before .before .put-field in
+    let put-field2 = c .before .before .before .before .before .before .put-field2 in
+    ((put-then (put-word .ensures) (put-then (put-field .ensures) (put-then (put-field2 .ensures) (c .before .before .put-field3 .ensures))))) .long
 
 returns : tie.Need-returns
 unfolding pivotLine
-returns c = (put-then (c .before .before .before .before .before .before .before .before .before .before .before .before .before .before .put-word .ensures) (put-then (c .before .before .before .before .before .before .before .before .before .before .put-field .ensures) (put-then (c .before .before .before .before .before .before .put-field2 .ensures) (c .before .before .put-field3 .ensures))))
+returns c =
+    let put-word = c .before .before .before .before .before .before .before .before .before .before .before .before .before .before .put-word in
+    let put-field = c .before .before .before .before .before .before .before .before .before .before .put-field in
+    let put-field2 = c .before .before .before .before .before .before .put-field2 in
+    (put-then (put-word .ensures) (put-then (put-field .ensures) (put-then (put-field2 .ensures) (c .before .before .put-field3 .ensures))))
 
 pub put-pivot-spec : {M : Type 1} → statement M
 put-pivot-spec =

@@ -16,13 +16,19 @@ loop-holds : tie.Need-loop-holds Inv-loop μ-loop
 loop-holds c = pivots-start _ _ _ _ (c .before .before .pre .room)
 
 index-requires : tie.Need-index-requires Inv-loop μ-loop
-index-requires c κs = omega (arith, c .before .before .before .before .before .pre .whole)
+index-requires c κs =
+    let given = c .before .before .before .before .before in
+    omega (arith, given .pre .whole)
 
 size-requires : tie.Need-size-requires Inv-loop μ-loop
-size-requires c κs = omega (arith, c .before .before .before .before .before .before .pre .whole)
+size-requires c κs =
+    let given = c .before .before .before .before .before .before in
+    omega (arith, given .pre .whole)
 
 put-pivot-requires : tie.Need-put-pivot-requires Inv-loop μ-loop
-put-pivot-requires c κs = c .before .before .before .before .loop .inv .to-go .room
+put-pivot-requires c κs =
+    let loop = c .before .before .before .before .loop in
+    loop .inv .to-go .room
 
 add-row : tie.Need-add-row Inv-loop μ-loop
 add-row c = search needs
@@ -31,7 +37,11 @@ loop-less : tie.Need-loop-less Inv-loop μ-loop
 loop-less c = search needs
 
 loop-again : tie.Need-loop-again Inv-loop μ-loop
-loop-again c = pivots-more (c .before .before .before .before .before .before .before .loop .inv) (c .before .before .before .before .before .before .loop-test .taken) (c .before .before .before .before .index .ensures) (c .before .before .before .size .ensures) (c .before .before .put-pivot .ensures)
+loop-again c =
+    let loop = c .before .before .before .before .before .before .before .loop in
+    let loop-test = c .before .before .before .before .before .before .loop-test in
+    let index = c .before .before .before .before .index in
+    pivots-more (loop .inv) (loop-test .taken) (index .ensures) (c .before .before .before .size .ensures) (c .before .before .put-pivot .ensures)
 
 same-length : tie.Need-same-length Inv-loop μ-loop
 same-length c = c .before .loop .inv .to-go .long

@@ -31,7 +31,10 @@ same-length c = c .before .before .put-pair-line .ensures .long
 
 returns : tie.Need-returns
 unfolding refusalOf
-returns c = put-same (ap₂ (λ (code place : ℕ). bytes "refused\t" ++ (field code tab ++ field place lf)) (c .before .before .before .before .before .before .code .ensures) (c .before .before .before .before .before .place .ensures)) (c .before .before .put-pair-line .ensures)
+returns c =
+    let code-step = c .before .before .before .before .before .before .code in
+    let place-step = c .before .before .before .before .before .place in
+    put-same (ap₂ (λ (code place : ℕ). bytes "refused\t" ++ (field code tab ++ field place lf)) (code-step .ensures) (place-step .ensures)) (c .before .before .put-pair-line .ensures)
 
 pub put-refusal-spec : {M : Type 1} → statement M
 put-refusal-spec =

@@ -20,13 +20,18 @@ slice-aggregate-put-word : tie.Need-slice-aggregate-put-word
 slice-aggregate-put-word c = refl
 
 put-word-requires : tie.Need-put-word-requires
-put-word-requires c κs = c .before .before .before .before .pre
+put-word-requires c κs =
+    let given = c .before .before .before .before in
+    given .pre
 
 same-length : tie.Need-same-length
 same-length c = c .before .before .put-word .ensures .long
 
 returns : tie.Need-returns
-returns c = put-same (sym (no-mark (c .before .before .before .before .before .before .before .args .mark) (c .before .before .before .before .before .if1 .taken))) (c .before .before .put-word .ensures)
+returns c =
+    let given = c .before .before .before .before .before .before .before in
+    let if1 = c .before .before .before .before .before .if1 in
+    put-same (sym (no-mark (given .args .mark) (if1 .taken))) (c .before .before .put-word .ensures)
 
 slice-aggregate-put-number-line : tie.Need-slice-aggregate-put-number-line
 slice-aggregate-put-number-line c = refl
@@ -35,13 +40,18 @@ sub-put-number-line : tie.Need-sub-put-number-line
 sub-put-number-line c = omega arith
 
 put-number-line-requires : tie.Need-put-number-line-requires
-put-number-line-requires c κs = c .before .before .before .before .pre
+put-number-line-requires c κs =
+    let given = c .before .before .before .before in
+    given .pre
 
 same-length-2 : tie.Need-same-length-2
 same-length-2 c = c .before .before .put-number-line .ensures .long
 
 returns-2 : tie.Need-returns-2
-returns-2 c = put-same (sym (a-mark (c .before .before .before .before .before .before .before .args .mark) (c .before .before .before .before .before .if1 .left))) (c .before .before .put-number-line .ensures)
+returns-2 c =
+    let given = c .before .before .before .before .before .before .before in
+    let if1 = c .before .before .before .before .before .if1 in
+    put-same (sym (a-mark (given .args .mark) (if1 .left))) (c .before .before .put-number-line .ensures)
 
 pub put-zero-spec : {M : Type 1} → statement M
 put-zero-spec =

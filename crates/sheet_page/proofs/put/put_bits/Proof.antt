@@ -10,11 +10,15 @@ put-byte-requires : tie.Need-put-byte-requires
 put-byte-requires c κs = put-ends (c .before .before .before .put-hex .ensures)
 
 same-length : tie.Need-same-length
-same-length c = ((put-then (c .before .before .before .before .before .before .put-hex .ensures) (c .before .before .put-byte .ensures))) .long
+same-length c =
+    let put-hex = c .before .before .before .before .before .before .put-hex in
+    ((put-then (put-hex .ensures) (c .before .before .put-byte .ensures))) .long
 
 returns : tie.Need-returns
 unfolding bitsField
-returns c = (put-then (c .before .before .before .before .before .before .put-hex .ensures) (c .before .before .put-byte .ensures))
+returns c =
+    let put-hex = c .before .before .before .before .before .before .put-hex in
+    (put-then (put-hex .ensures) (c .before .before .put-byte .ensures))
 
 pub put-bits-spec : {M : Type 1} → statement M
 put-bits-spec = tie.close (tie.spec put-hex-requires put-byte-requires same-length returns)

@@ -10,11 +10,15 @@ put-byte-requires : tie.Need-put-byte-requires
 put-byte-requires c κs = put-ends (c .before .before .before .put-number .ensures)
 
 same-length : tie.Need-same-length
-same-length c = ((put-then (c .before .before .before .before .before .before .put-number .ensures) (c .before .before .put-byte .ensures))) .long
+same-length c =
+    let put-number = c .before .before .before .before .before .before .put-number in
+    ((put-then (put-number .ensures) (c .before .before .put-byte .ensures))) .long
 
 returns : tie.Need-returns
 unfolding field
-returns c = (put-then (c .before .before .before .before .before .before .put-number .ensures) (c .before .before .put-byte .ensures))
+returns c =
+    let put-number = c .before .before .before .before .before .before .put-number in
+    (put-then (put-number .ensures) (c .before .before .put-byte .ensures))
 
 pub put-field-spec : {M : Type 1} → statement M
 put-field-spec = tie.close (tie.spec put-number-requires put-byte-requires same-length returns)

@@ -10,11 +10,15 @@ put-field-requires : tie.Need-put-field-requires
 put-field-requires c κs = put-ends (c .before .before .before .put-word .ensures)
 
 same-length : tie.Need-same-length
-same-length c = ((put-then (c .before .before .before .before .before .before .put-word .ensures) (c .before .before .put-field .ensures))) .long
+same-length c =
+    let put-word = c .before .before .before .before .before .before .put-word in
+    ((put-then (put-word .ensures) (c .before .before .put-field .ensures))) .long
 
 returns : tie.Need-returns
 unfolding numberLine
-returns c = (put-then (c .before .before .before .before .before .before .put-word .ensures) (c .before .before .put-field .ensures))
+returns c =
+    let put-word = c .before .before .before .before .before .before .put-word in
+    (put-then (put-word .ensures) (c .before .before .put-field .ensures))
 
 pub put-number-line-spec : {M : Type 1} → statement M
 put-number-line-spec =

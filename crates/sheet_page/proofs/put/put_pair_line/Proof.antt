@@ -12,10 +12,16 @@ put-field-requires-2 : tie.Need-put-field-requires-2
 put-field-requires-2 c κs = put-ends (c .before .before .before .put-field .ensures)
 
 same-length : tie.Need-same-length
-same-length c = (put-then (c .before .before .before .before .before .before .before .before .before .before .put-word .ensures) (put-then (c .before .before .before .before .before .before .put-field .ensures) (c .before .before .put-field2 .ensures))) .long
+same-length c =
+    let put-word = c .before .before .before .before .before .before .before .before .before .before .put-word in
+    let put-field = c .before .before .before .before .before .before .put-field in
+    (put-then (put-word .ensures) (put-then (put-field .ensures) (c .before .before .put-field2 .ensures))) .long
 
 returns : tie.Need-returns
-returns c = put-then (c .before .before .before .before .before .before .before .before .before .before .put-word .ensures) (put-then (c .before .before .before .before .before .before .put-field .ensures) (c .before .before .put-field2 .ensures))
+returns c =
+    let put-word = c .before .before .before .before .before .before .before .before .before .before .put-word in
+    let put-field = c .before .before .before .before .before .before .put-field in
+    put-then (put-word .ensures) (put-then (put-field .ensures) (c .before .before .put-field2 .ensures))
 
 pub put-pair-line-spec : {M : Type 1} → statement M
 put-pair-line-spec =

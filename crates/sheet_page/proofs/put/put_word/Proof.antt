@@ -38,13 +38,18 @@ loop-less : tie.Need-loop-less Inv-loop μ-loop
 loop-less c = search needs
 
 loop-again : tie.Need-loop-again Inv-loop μ-loop
-loop-again c = record { few = omega arith; room = put-ends (c .before .before .put-byte .ensures); put = word-more _ _ (c .before .before .before .before .before .loop-test .taken) (c .before .before .before .before .before .before .loop .inv .put) (c .before .before .put-byte .ensures) }
+loop-again c =
+    let loop = c .before .before .before .before .before .before .loop in
+    let loop-test = c .before .before .before .before .before .loop-test in
+    record { few = omega arith; room = put-ends (c .before .before .put-byte .ensures); put = word-more _ _ (loop-test .taken) (loop .inv .put) (c .before .before .put-byte .ensures) }
 
 same-length : tie.Need-same-length Inv-loop μ-loop
 same-length c = c .before .loop .inv .put .long
 
 returns : tie.Need-returns Inv-loop μ-loop
-returns c = put-same (take-all (c .before .loop .k) (now (c .before .before .before .before .args .word)) (c .loop-test .left)) (c .before .loop .inv .put)
+returns c =
+    let given = c .before .before .before .before in
+    put-same (take-all (c .before .loop .k) (now (given .args .word)) (c .loop-test .left)) (c .before .loop .inv .put)
 
 pub put-word-spec : {M : Type 1} → statement M
 put-word-spec =

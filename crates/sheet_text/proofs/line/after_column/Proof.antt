@@ -17,10 +17,14 @@ enum-told : tie.Need-enum-told
 enum-told c = search needs
 
 returns : tie.Need-returns
-returns c = let n = bits-next (now (c .before .before .before .before .before .args .s)) (c .before .before .before .before .before .args .at) (sym (c .before .bits .given .1) ∙ c .before .before .before .read-bits .ensures) in entry-is (now (c .before .before .before .before .before .args .s)) record { read = column-bits _ _ _ _ _ (n .read); within = n .within }
+returns c =
+    let given = c .before .before .before .before .before in
+    let n = bits-next (now (given .args .s)) (given .args .at) (sym (c .before .bits .given .1) ∙ c .before .before .before .read-bits .ensures) in entry-is (now (given .args .s)) record { read = column-bits _ _ _ _ _ (n .read); within = n .within }
 
 returns-2 : tie.Need-returns-2
-returns-2 c = sym (ap (entryIn (now (c .before .before .before .before .args .s))) (column-no-bits _ _ _ (bits-not (now (c .before .before .before .before .args .s)) _ (sym (c .enum-told .given .1) ∙ c .before .before .read-bits .ensures))))
+returns-2 c =
+    let given = c .before .before .before .before in
+    sym (ap (entryIn (now (given .args .s))) (column-no-bits _ _ _ (bits-not (now (given .args .s)) _ (sym (c .enum-told .given .1) ∙ c .before .before .read-bits .ensures))))
 
 pub after-column-spec : {M : Type 1} → statement M
 after-column-spec =

@@ -20,10 +20,15 @@ enum-told : tie.Need-enum-told
 enum-told c = search needs
 
 returns : tie.Need-returns
-returns c = c .after-column .ensures ∙ sym (ap (entryIn (now (c .before .before .before .before .before .before .args .s))) (row-column _ _ _ _ (number-next (now (c .before .before .before .before .before .before .args .s)) (c .before .before .before .before .before .before .args .at) _ (sym (c .before .before .value .given .1) ∙ c .before .before .before .before .read-number .ensures) .read)))
+returns c =
+    let given = c .before .before .before .before .before .before in
+    let read-number = c .before .before .before .before .read-number in
+    c .after-column .ensures ∙ sym (ap (entryIn (now (given .args .s))) (row-column _ _ _ _ (number-next (now (given .args .s)) (given .args .at) _ (sym (c .before .before .value .given .1) ∙ read-number .ensures) .read)))
 
 returns-2 : tie.Need-returns-2
-returns-2 c = sym (ap (entryIn (now (c .before .before .before .before .args .s))) (row-no-column _ _ (number-not (now (c .before .before .before .before .args .s)) _ (sym (c .enum-told .given .1) ∙ c .before .before .read-number .ensures))))
+returns-2 c =
+    let given = c .before .before .before .before in
+    sym (ap (entryIn (now (given .args .s))) (row-no-column _ _ (number-not (now (given .args .s)) _ (sym (c .enum-told .given .1) ∙ c .before .before .read-number .ensures))))
 
 pub after-row-spec : {M : Type 1} → statement M
 after-row-spec =

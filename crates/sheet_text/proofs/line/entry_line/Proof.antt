@@ -18,7 +18,9 @@ word-stands-requires : tie.Need-word-stands-requires
 word-stands-requires c κs = search needs
 
 add-read-number : tie.Need-add-read-number
-add-read-number c = omega (arith, word-fits (bytes "entry\t") (now (c .before .before .before .before .args .s)) (c .before .before .before .before .args .at) (sym (c .before .word-stands .ensures) ∙ c .if1 .taken))
+add-read-number c =
+    let given = c .before .before .before .before in
+    omega (arith, word-fits (bytes "entry\t") (now (given .args .s)) (given .args .at) (sym (c .before .word-stands .ensures) ∙ c .if1 .taken))
 
 read-number-requires : tie.Need-read-number-requires
 read-number-requires c κs = search needs
@@ -33,13 +35,23 @@ enum-told : tie.Need-enum-told
 enum-told c = search needs
 
 returns : tie.Need-returns
-returns c = c .after-row .ensures ∙ sym (ap (entryIn (now (c .before .before .before .before .before .before .before .before .before .args .s))) (entry-row (now (c .before .before .before .before .before .before .before .before .before .args .s)) (c .before .before .before .before .before .before .before .before .before .args .at) _ _ (sym (c .before .before .before .before .before .before .word-stands .ensures) ∙ c .before .before .before .before .before .if1 .taken) (number-next (now (c .before .before .before .before .before .before .before .before .before .args .s)) (c .before .before .before .before .before .before .before .before .before .args .at + 6) _ (sym (c .before .before .value .given .1) ∙ c .before .before .before .before .read-number .ensures) .read)))
+returns c =
+    let given = c .before .before .before .before .before .before .before .before .before in
+    let word-stands = c .before .before .before .before .before .before .word-stands in
+    let if1 = c .before .before .before .before .before .if1 in
+    let read-number = c .before .before .before .before .read-number in
+    c .after-row .ensures ∙ sym (ap (entryIn (now (given .args .s))) (entry-row (now (given .args .s)) (given .args .at) _ _ (sym (word-stands .ensures) ∙ if1 .taken) (number-next (now (given .args .s)) (given .args .at + 6) _ (sym (c .before .before .value .given .1) ∙ read-number .ensures) .read)))
 
 returns-2 : tie.Need-returns-2
-returns-2 c = sym (ap (entryIn (now (c .before .before .before .before .before .before .before .args .s))) (entry-no-row (now (c .before .before .before .before .before .before .before .args .s)) (c .before .before .before .before .before .before .before .args .at) (sym (c .before .before .before .before .word-stands .ensures) ∙ c .before .before .before .if1 .taken) (number-not (now (c .before .before .before .before .before .before .before .args .s)) _ (sym (c .enum-told .given .1) ∙ c .before .before .read-number .ensures))))
+returns-2 c =
+    let given = c .before .before .before .before .before .before .before in
+    let word-stands = c .before .before .before .before .word-stands in
+    sym (ap (entryIn (now (given .args .s))) (entry-no-row (now (given .args .s)) (given .args .at) (sym (word-stands .ensures) ∙ c .before .before .before .if1 .taken) (number-not (now (given .args .s)) _ (sym (c .enum-told .given .1) ∙ c .before .before .read-number .ensures))))
 
 returns-3 : tie.Need-returns-3
-returns-3 c = sym (ap (entryIn (now (c .before .before .before .before .args .s))) (entry-no-word (now (c .before .before .before .before .args .s)) (c .before .before .before .before .args .at) (sym (c .before .word-stands .ensures) ∙ c .if1 .left)))
+returns-3 c =
+    let given = c .before .before .before .before in
+    sym (ap (entryIn (now (given .args .s))) (entry-no-word (now (given .args .s)) (given .args .at) (sym (c .before .word-stands .ensures) ∙ c .if1 .left)))
 
 pub entry-line-spec : {M : Type 1} → statement M
 entry-line-spec =

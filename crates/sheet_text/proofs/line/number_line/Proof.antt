@@ -11,16 +11,22 @@ word-stands-requires : tie.Need-word-stands-requires
 word-stands-requires c κs = search needs
 
 add-read-number : tie.Need-add-read-number
-add-read-number c = omega (arith, word-fits (now (c .before .before .before .before .args .word)) (now (c .before .before .before .before .args .s)) (c .before .before .before .before .args .at) (sym (c .before .word-stands .ensures) ∙ c .if1 .taken))
+add-read-number c =
+    let given = c .before .before .before .before in
+    omega (arith, word-fits (now (given .args .word)) (now (given .args .s)) (given .args .at) (sym (c .before .word-stands .ensures) ∙ c .if1 .taken))
 
 read-number-requires : tie.Need-read-number-requires
 read-number-requires c κs = search needs
 
 returns : tie.Need-returns
-returns c = c .read-number .ensures ∙ sym (ap (numberIn (now (c .before .before .before .before .before .args .s))) (number-after (now (c .before .before .before .before .before .args .word)) (now (c .before .before .before .before .before .args .s)) (c .before .before .before .before .before .args .at) (sym (c .before .before .word-stands .ensures) ∙ c .before .if1 .taken)))
+returns c =
+    let given = c .before .before .before .before .before in
+    c .read-number .ensures ∙ sym (ap (numberIn (now (given .args .s))) (number-after (now (given .args .word)) (now (given .args .s)) (given .args .at) (sym (c .before .before .word-stands .ensures) ∙ c .before .if1 .taken)))
 
 returns-2 : tie.Need-returns-2
-returns-2 c = sym (ap (numberIn (now (c .before .before .before .before .args .s))) (no-word _ _ (sym (c .before .word-stands .ensures) ∙ c .if1 .left)))
+returns-2 c =
+    let given = c .before .before .before .before in
+    sym (ap (numberIn (now (given .args .s))) (no-word _ _ (sym (c .before .word-stands .ensures) ∙ c .if1 .left)))
 
 pub number-line-spec : {M : Type 1} → statement M
 number-line-spec =

@@ -30,7 +30,9 @@ unfolding bits
 loop-holds c = record { left-to-read = omega arith; room = omega arith; same = refl }
 
 returns : tie.Need-returns Inv-loop μ-loop
-returns c = sym (ap (bitsIn (now (c .before .before .before .before .args .s))) (c .before .before .loop .inv .same ∙ hex-end (c .before .before .loop .left) (c .before .before .loop .value) (now (c .before .before .before .before .args .s)) (c .before .before .loop .i) (c .before .loop-test .taken) (c .if1 .taken)))
+returns c =
+    let given = c .before .before .before .before in
+    sym (ap (bitsIn (now (given .args .s))) (c .before .before .loop .inv .same ∙ hex-end (c .before .before .loop .left) (c .before .before .loop .value) (now (given .args .s)) (c .before .before .loop .i) (c .before .loop-test .taken) (c .if1 .taken)))
 
 shared-slice-read-digit-value : tie.Need-shared-slice-read-digit-value Inv-loop μ-loop
 shared-slice-read-digit-value c = search needs
@@ -39,16 +41,26 @@ digit-value-requires : tie.Need-digit-value-requires Inv-loop μ-loop
 digit-value-requires c κs = search needs
 
 returns-2 : tie.Need-returns-2 Inv-loop μ-loop
-returns-2 c = sym (ap (bitsIn (now (c .before .before .before .before .before .before .before .args .s))) (c .before .before .before .before .before .loop .inv .same ∙ hex-other (c .before .before .before .before .before .loop .left) (c .before .before .before .before .before .loop .value) (now (c .before .before .before .before .before .before .before .args .s)) (c .before .before .before .before .before .loop .i) (c .before .digit-value .result) (c .before .digit-value .ensures) (c .before .before .before .before .loop-test .taken) (c .before .before .before .if1 .left) (c .if2 .taken)))
+returns-2 c =
+    let given = c .before .before .before .before .before .before .before in
+    let loop = c .before .before .before .before .before .loop in
+    let loop-test = c .before .before .before .before .loop-test in
+    sym (ap (bitsIn (now (given .args .s))) (loop .inv .same ∙ hex-other (loop .left) (loop .value) (now (given .args .s)) (loop .i) (c .before .digit-value .result) (c .before .digit-value .ensures) (loop-test .taken) (c .before .before .before .if1 .left) (c .if2 .taken)))
 
 mul-value : tie.Need-mul-value Inv-loop μ-loop
-mul-value c = omega (arith, hex-fits (c .before .before .before .before .before .loop .left) (c .before .before .before .before .before .loop .value) 0 (c .before .before .before .before .loop-test .taken) (c .before .before .before .before .before .loop .inv .left-to-read) (c .before .before .before .before .before .loop .inv .room) (lit≤ tt))
+mul-value c =
+    let loop = c .before .before .before .before .before .loop in
+    let loop-test = c .before .before .before .before .loop-test in
+    omega (arith, hex-fits (loop .left) (loop .value) 0 (loop-test .taken) (loop .inv .left-to-read) (loop .inv .room) (lit≤ tt))
 
 wide-requires : tie.Need-wide-requires Inv-loop μ-loop
 wide-requires c κs = search needs
 
 add-value : tie.Need-add-value Inv-loop μ-loop
-add-value c = omega (arith, hex-fits (c .before .before .before .before .before .before .loop .left) (c .before .before .before .before .before .before .loop .value) (c .wide .result) (c .before .before .before .before .before .loop-test .taken) (c .before .before .before .before .before .before .loop .inv .left-to-read) (c .before .before .before .before .before .before .loop .inv .room) (omega arith))
+add-value c =
+    let loop = c .before .before .before .before .before .before .loop in
+    let loop-test = c .before .before .before .before .before .loop-test in
+    omega (arith, hex-fits (loop .left) (loop .value) (c .wide .result) (loop-test .taken) (loop .inv .left-to-read) (loop .inv .room) (omega arith))
 
 sub-left : tie.Need-sub-left Inv-loop μ-loop
 sub-left c = search needs
@@ -60,10 +72,17 @@ loop-less : tie.Need-loop-less Inv-loop μ-loop
 loop-less c = search needs
 
 loop-again : tie.Need-loop-again Inv-loop μ-loop
-loop-again c = record { left-to-read = omega arith; room = hex-room (c .before .before .before .before .before .before .loop .left) (c .before .before .before .before .before .before .loop .value) (c .wide .result) (c .before .before .before .before .before .loop-test .taken) (c .before .before .before .before .before .before .loop .inv .left-to-read) (c .before .before .before .before .before .before .loop .inv .room) (omega arith); same = c .before .before .before .before .before .before .loop .inv .same ∙ hex-more (c .before .before .before .before .before .before .loop .left) (c .before .before .before .before .before .before .loop .value) (now (c .before .before .before .before .before .before .before .before .args .s)) (c .before .before .before .before .before .before .loop .i) (c .wide .result) (c .wide .ensures ∙ c .before .before .digit-value .ensures) (c .before .before .before .before .before .loop-test .taken) (c .before .before .before .before .if1 .left) (omega arith) }
+loop-again c =
+    let given = c .before .before .before .before .before .before .before .before in
+    let loop = c .before .before .before .before .before .before .loop in
+    let loop-test = c .before .before .before .before .before .loop-test in
+    let if1 = c .before .before .before .before .if1 in
+    record { left-to-read = omega arith; room = hex-room (loop .left) (loop .value) (c .wide .result) (loop-test .taken) (loop .inv .left-to-read) (loop .inv .room) (omega arith); same = loop .inv .same ∙ hex-more (loop .left) (loop .value) (now (given .args .s)) (loop .i) (c .wide .result) (c .wide .ensures ∙ c .before .before .digit-value .ensures) (loop-test .taken) (if1 .left) (omega arith) }
 
 returns-3 : tie.Need-returns-3 Inv-loop μ-loop
-returns-3 c = sym (ap (bitsIn (now (c .before .before .before .before .args .s))) (c .before .before .loop .inv .same ∙ line-short (c .before .before .loop .left) (c .before .before .loop .value) (now (c .before .before .before .before .args .s)) (c .before .before .loop .i) (c .before .loop-test .left) (c .if3 .taken)))
+returns-3 c =
+    let given = c .before .before .before .before in
+    sym (ap (bitsIn (now (given .args .s))) (c .before .before .loop .inv .same ∙ line-short (c .before .before .loop .left) (c .before .before .loop .value) (now (given .args .s)) (c .before .before .loop .i) (c .before .loop-test .left) (c .if3 .taken)))
 
 shared-slice-read-if4 : tie.Need-shared-slice-read-if4 Inv-loop μ-loop
 shared-slice-read-if4 c = search needs
@@ -72,10 +91,16 @@ add-t17 : tie.Need-add-t17 Inv-loop μ-loop
 add-t17 c = search needs
 
 returns-4 : tie.Need-returns-4 Inv-loop μ-loop
-returns-4 c = bits-are (now (c .before .before .before .before .before .before .args .s)) record { read = c .before .before .before .before .loop .inv .same ∙ line-ends (c .before .before .before .before .loop .left) (c .before .before .before .before .loop .value) (now (c .before .before .before .before .before .before .args .s)) (c .before .before .before .before .loop .i) (c .before .before .before .loop-test .left) (c .before .before .if3 .left) (c .if4 .taken); within = omega arith }
+returns-4 c =
+    let given = c .before .before .before .before .before .before in
+    let loop = c .before .before .before .before .loop in
+    bits-are (now (given .args .s)) record { read = loop .inv .same ∙ line-ends (loop .left) (loop .value) (now (given .args .s)) (loop .i) (c .before .before .before .loop-test .left) (c .before .before .if3 .left) (c .if4 .taken); within = omega arith }
 
 returns-5 : tie.Need-returns-5 Inv-loop μ-loop
-returns-5 c = sym (ap (bitsIn (now (c .before .before .before .before .before .before .args .s))) (c .before .before .before .before .loop .inv .same ∙ line-goes-on (c .before .before .before .before .loop .left) (c .before .before .before .before .loop .value) (now (c .before .before .before .before .before .before .args .s)) (c .before .before .before .before .loop .i) (c .before .before .before .loop-test .left) (c .before .before .if3 .left) (c .if4 .left)))
+returns-5 c =
+    let given = c .before .before .before .before .before .before in
+    let loop = c .before .before .before .before .loop in
+    sym (ap (bitsIn (now (given .args .s))) (loop .inv .same ∙ line-goes-on (loop .left) (loop .value) (now (given .args .s)) (loop .i) (c .before .before .before .loop-test .left) (c .before .before .if3 .left) (c .if4 .left)))
 
 pub read-bits-spec : {M : Type 1} → statement M
 read-bits-spec =

@@ -33,19 +33,34 @@ add-t13 : tie.Need-add-t13 Inv-loop μ-loop
 add-t13 c = search needs
 
 returns : tie.Need-returns Inv-loop μ-loop
-returns c = number-is (now (c .before .before .before .before .before .args .s)) record { read = c .before .before .before .loop .inv .same ∙ digits-stop (c .before .before .before .before .before .args .stop) (c .before .before .before .loop .value) (now (c .before .before .before .before .before .args .s)) (c .before .before .before .loop .i) (c .before .before .loop-test .taken) (c .if1 .taken); within = omega arith }
+returns c =
+    let given = c .before .before .before .before .before in
+    number-is (now (given .args .s)) record { read = c .before .before .before .loop .inv .same ∙ digits-stop (given .args .stop) (c .before .before .before .loop .value) (now (given .args .s)) (c .before .before .before .loop .i) (c .before .before .loop-test .taken) (c .if1 .taken); within = omega arith }
 
 digit-value-requires : tie.Need-digit-value-requires Inv-loop μ-loop
 digit-value-requires c κs = search needs
 
 returns-2 : tie.Need-returns-2 Inv-loop μ-loop
-returns-2 c = sym (ap (numberIn (now (c .before .before .before .before .before .before .before .args .s))) (c .before .before .before .before .before .loop .inv .same ∙ digits-zero (c .before .before .before .before .before .before .before .args .stop) (c .before .before .before .before .before .loop .value) (now (c .before .before .before .before .before .before .before .args .s)) (c .before .before .before .before .before .loop .i) (c .before .before .before .before .loop-test .taken) (c .before .before .if1 .left) (c .if2 .taken)))
+returns-2 c =
+    let given = c .before .before .before .before .before .before .before in
+    let loop = c .before .before .before .before .before .loop in
+    let loop-test = c .before .before .before .before .loop-test in
+    sym (ap (numberIn (now (given .args .s))) (loop .inv .same ∙ digits-zero (given .args .stop) (loop .value) (now (given .args .s)) (loop .i) (loop-test .taken) (c .before .before .if1 .left) (c .if2 .taken)))
 
 returns-3 : tie.Need-returns-3 Inv-loop μ-loop
-returns-3 c = sym (ap (numberIn (now (c .before .before .before .before .before .before .before .before .args .s))) (c .before .before .before .before .before .before .loop .inv .same ∙ digits-long (c .before .before .before .before .before .before .before .before .args .stop) (c .before .before .before .before .before .before .loop .value) (now (c .before .before .before .before .before .before .before .before .args .s)) (c .before .before .before .before .before .before .loop .i) (c .before .before .before .before .before .loop-test .taken) (c .before .before .before .if1 .left) (c .before .if2 .left) (c .if3 .taken)))
+returns-3 c =
+    let given = c .before .before .before .before .before .before .before .before in
+    let loop = c .before .before .before .before .before .before .loop in
+    let loop-test = c .before .before .before .before .before .loop-test in
+    sym (ap (numberIn (now (given .args .s))) (loop .inv .same ∙ digits-long (given .args .stop) (loop .value) (now (given .args .s)) (loop .i) (loop-test .taken) (c .before .before .before .if1 .left) (c .before .if2 .left) (c .if3 .taken)))
 
 returns-4 : tie.Need-returns-4 Inv-loop μ-loop
-returns-4 c = sym (ap (numberIn (now (c .before .before .before .before .before .before .before .before .before .args .s))) (c .before .before .before .before .before .before .before .loop .inv .same ∙ digits-other (c .before .before .before .before .before .before .before .before .before .args .stop) (c .before .before .before .before .before .before .before .loop .value) (now (c .before .before .before .before .before .before .before .before .before .args .s)) (c .before .before .before .before .before .before .before .loop .i) (c .before .before .before .digit-value .result) (c .before .before .before .digit-value .ensures) (c .before .before .before .before .before .before .loop-test .taken) (c .before .before .before .before .if1 .left) (c .before .before .if2 .left) (c .before .if3 .left) (c .if4 .taken)))
+returns-4 c =
+    let given = c .before .before .before .before .before .before .before .before .before in
+    let loop = c .before .before .before .before .before .before .before .loop in
+    let loop-test = c .before .before .before .before .before .before .loop-test in
+    let if1 = c .before .before .before .before .if1 in
+    sym (ap (numberIn (now (given .args .s))) (loop .inv .same ∙ digits-other (given .args .stop) (loop .value) (now (given .args .s)) (loop .i) (c .before .before .before .digit-value .result) (c .before .before .before .digit-value .ensures) (loop-test .taken) (if1 .left) (c .before .before .if2 .left) (c .before .if3 .left) (c .if4 .taken)))
 
 mul-value : tie.Need-mul-value Inv-loop μ-loop
 mul-value c = search needs
@@ -63,7 +78,13 @@ loop-less : tie.Need-loop-less Inv-loop μ-loop
 loop-less c = search needs
 
 loop-again : tie.Need-loop-again Inv-loop μ-loop
-loop-again c = record { small = omega arith; same = c .before .before .before .before .before .before .before .before .loop .inv .same ∙ digits-more (c .before .before .before .before .before .before .before .before .before .before .args .stop) (c .before .before .before .before .before .before .before .before .loop .value) (now (c .before .before .before .before .before .before .before .before .before .before .args .s)) (c .before .before .before .before .before .before .before .before .loop .i) (c .wide .result) (c .wide .ensures ∙ c .before .before .before .before .digit-value .ensures) (c .before .before .before .before .before .before .before .loop-test .taken) (c .before .before .before .before .before .if1 .left) (c .before .before .before .if2 .left) (c .before .before .if3 .left) (omega arith) }
+loop-again c =
+    let given = c .before .before .before .before .before .before .before .before .before .before in
+    let loop = c .before .before .before .before .before .before .before .before .loop in
+    let loop-test = c .before .before .before .before .before .before .before .loop-test in
+    let if1 = c .before .before .before .before .before .if1 in
+    let digit-value = c .before .before .before .before .digit-value in
+    record { small = omega arith; same = loop .inv .same ∙ digits-more (given .args .stop) (loop .value) (now (given .args .s)) (loop .i) (c .wide .result) (c .wide .ensures ∙ digit-value .ensures) (loop-test .taken) (if1 .left) (c .before .before .before .if2 .left) (c .before .before .if3 .left) (omega arith) }
 
 returns-5 : tie.Need-returns-5 Inv-loop μ-loop
 returns-5 c = sym (ap (numberIn (now (c .before .before .before .args .s))) (c .before .loop .inv .same ∙ digits-end (c .before .before .before .args .stop) (c .before .loop .value) (now (c .before .before .before .args .s)) (c .before .loop .i) (c .loop-test .left)))

@@ -17,7 +17,9 @@ digit-value-requires : tie.Need-digit-value-requires
 digit-value-requires c κs = search needs
 
 returns-2 : tie.Need-returns-2
-returns-2 c = sym (ap (numberIn (now (c .before .before .before .before .before .args .s))) (number-other (c .before .before .before .before .before .args .stop) 0 (now (c .before .before .before .before .before .args .s)) (c .before .before .before .before .before .args .at) (c .before .digit-value .result) (c .before .digit-value .ensures) (c .before .before .before .if1 .left) (c .if2 .taken)))
+returns-2 c =
+    let given = c .before .before .before .before .before in
+    sym (ap (numberIn (now (given .args .s))) (number-other (given .args .stop) 0 (now (given .args .s)) (given .args .at) (c .before .digit-value .result) (c .before .digit-value .ensures) (c .before .before .before .if1 .left) (c .if2 .taken)))
 
 add-read-digits : tie.Need-add-read-digits
 add-read-digits c = search needs
@@ -29,7 +31,10 @@ read-digits-requires : tie.Need-read-digits-requires
 read-digits-requires c κs = omega arith
 
 returns-3 : tie.Need-returns-3
-returns-3 c = c .read-digits .ensures ∙ sym (ap (numberIn (now (c .before .before .before .before .before .before .before .args .s))) (number-first (c .before .before .before .before .before .before .before .args .stop) 0 (now (c .before .before .before .before .before .before .before .args .s)) (c .before .before .before .before .before .before .before .args .at) (c .before .wide .result) (c .before .wide .ensures ∙ c .before .before .before .digit-value .ensures) (c .before .before .before .before .before .if1 .left) (omega arith)))
+returns-3 c =
+    let given = c .before .before .before .before .before .before .before in
+    let if1 = c .before .before .before .before .before .if1 in
+    c .read-digits .ensures ∙ sym (ap (numberIn (now (given .args .s))) (number-first (given .args .stop) 0 (now (given .args .s)) (given .args .at) (c .before .wide .result) (c .before .wide .ensures ∙ c .before .before .before .digit-value .ensures) (if1 .left) (omega arith)))
 
 pub read-number-spec : {M : Type 1} → statement M
 read-number-spec =

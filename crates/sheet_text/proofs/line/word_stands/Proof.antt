@@ -28,7 +28,11 @@ shared-slice-read-if2-2 : tie.Need-shared-slice-read-if2-2 Inv-loop μ-loop
 shared-slice-read-if2-2 c = search needs
 
 returns-2 : tie.Need-returns-2 Inv-loop μ-loop
-returns-2 c = sym (c .before .before .before .before .before .loop .inv ∙ word-differs (now (c .before .before .before .before .before .before .args .word)) (now (c .before .before .before .before .before .before .args .s)) (c .before .before .before .before .before .loop .k) (c .before .before .before .before .before .loop .i) (c .before .before .before .before .loop-test .taken) (c .before .before .before .if1 .left) (c .if2 .taken))
+returns-2 c =
+    let given = c .before .before .before .before .before .before in
+    let loop = c .before .before .before .before .before .loop in
+    let loop-test = c .before .before .before .before .loop-test in
+    sym (loop .inv ∙ word-differs (now (given .args .word)) (now (given .args .s)) (loop .k) (loop .i) (loop-test .taken) (c .before .before .before .if1 .left) (c .if2 .taken))
 
 add-i : tie.Need-add-i Inv-loop μ-loop
 add-i c = search needs
@@ -40,7 +44,11 @@ loop-less : tie.Need-loop-less Inv-loop μ-loop
 loop-less c = search needs
 
 loop-again : tie.Need-loop-again Inv-loop μ-loop
-loop-again c = c .before .before .before .before .before .loop .inv ∙ word-more (now (c .before .before .before .before .before .before .args .word)) (now (c .before .before .before .before .before .before .args .s)) (c .before .before .before .before .before .loop .k) (c .before .before .before .before .before .loop .i) (c .before .before .before .before .loop-test .taken) (c .before .before .before .if1 .left) (c .if2 .left)
+loop-again c =
+    let given = c .before .before .before .before .before .before in
+    let loop = c .before .before .before .before .before .loop in
+    let loop-test = c .before .before .before .before .loop-test in
+    loop .inv ∙ word-more (now (given .args .word)) (now (given .args .s)) (loop .k) (loop .i) (loop-test .taken) (c .before .before .before .if1 .left) (c .if2 .left)
 
 returns-3 : tie.Need-returns-3 Inv-loop μ-loop
 returns-3 c = sym (c .before .loop .inv ∙ word-all (now (c .before .before .args .word)) (now (c .before .before .args .s)) (c .before .loop .k) (c .before .loop .i) (c .loop-test .left))

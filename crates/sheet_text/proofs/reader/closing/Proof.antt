@@ -21,7 +21,9 @@ wrong-requires-2 : tie.Need-wrong-requires-2
 wrong-requires-2 c κs = search needs
 
 returns-2 : tie.Need-returns-2
-returns-2 c = c .wrong2 .ensures ∙ sym (not-the-end _ _ _ (now (c .before .before .before .before .args .s)) (c .before .before .before .before .args .at) (c .before .before .if1 .left) (c .before .if2 .taken))
+returns-2 c =
+    let given = c .before .before .before .before in
+    c .wrong2 .ensures ∙ sym (not-the-end _ _ _ (now (given .args .s)) (given .args .at) (c .before .before .if1 .left) (c .before .if2 .taken))
 
 returns-3 : tie.Need-returns-3
 returns-3 c = sym (the-end _ _ _ (now (c .before .before .before .args .s)) (c .before .before .before .args .at) (c .before .if1 .left) (c .if2 .left))

@@ -28,34 +28,64 @@ enum-known-bits : tie.Need-enum-known-bits Inv-loop μ-loop
 enum-known-bits c = search needs
 
 mul-store : tie.Need-mul-store Inv-loop μ-loop
-mul-store c = omega (arith, column-fits (c .before .before .before .before .before .before .before .before .before .before .before .args .n) (c .before .before .before .before .before .before .before .before .loop .p) (c .before .before .before .before .before .before .before .before .before .before .before .pre) (c .before .before .before .before .before .before .if1 .taken))
+mul-store c =
+    let given = c .before .before .before .before .before .before .before .before .before .before .before in
+    let loop = c .before .before .before .before .before .before .before .before .loop in
+    let if1 = c .before .before .before .before .before .before .if1 in
+    omega (arith, column-fits (given .args .n) (loop .p) (given .pre) (if1 .taken))
 
 add-store : tie.Need-add-store Inv-loop μ-loop
-add-store c = omega (arith, column-fits (c .before .before .before .before .before .before .before .before .before .before .before .before .args .n) (c .before .before .before .before .before .before .before .before .before .loop .p) (c .before .before .before .before .before .before .before .before .before .before .before .before .pre) (c .before .before .before .before .before .before .before .if1 .taken), (c .before .before .before .before .before .before .before .before .before .loop .inv .inside .within (c .before .before .before .before .before .before .before .if1 .taken)))
+add-store c =
+    let given = c .before .before .before .before .before .before .before .before .before .before .before .before in
+    let loop = c .before .before .before .before .before .before .before .before .before .loop in
+    let if1 = c .before .before .before .before .before .before .before .if1 in
+    omega (arith, column-fits (given .args .n) (loop .p) (given .pre) (if1 .taken), (loop .inv .inside .within (if1 .taken)))
 
 store-requires : tie.Need-store-requires Inv-loop μ-loop
 store-requires c κs = search needs
 
 add-count : tie.Need-add-count Inv-loop μ-loop
-add-count c = omega (arith, c .before .before .before .before .before .before .before .before .before .before .before .before .loop .inv .small, rest-falls (c .before .before .before .before .before .before .before .before .before .before .before .before .before .before .before .args .n) (c .before .before .before .before .before .before .before .before .before .before .before .before .loop .p) (c .before .before .before .before .before .before .before .before .before .before .before .before .loop .inv .inside .within (c .before .before .before .before .before .before .before .before .before .before .if1 .taken)))
+add-count c =
+    let given = c .before .before .before .before .before .before .before .before .before .before .before .before .before .before .before in
+    let loop = c .before .before .before .before .before .before .before .before .before .before .before .before .loop in
+    let if1 = c .before .before .before .before .before .before .before .before .before .before .if1 in
+    omega (arith, loop .inv .small, rest-falls (given .args .n) (loop .p) (loop .inv .inside .within (if1 .taken)))
 
 next-requires : tie.Need-next-requires Inv-loop μ-loop
-next-requires c κs = ((c .before .before .before .before .before .before .before .before .before .before .before .before .loop .inv .inside .within (c .before .before .before .before .before .before .before .before .before .before .if1 .taken)), c .before .before .before .before .before .before .before .before .before .before .if1 .taken)
+next-requires c κs =
+    let loop = c .before .before .before .before .before .before .before .before .before .before .before .before .loop in
+    let if1 = c .before .before .before .before .before .before .before .before .before .before .if1 in
+    ((loop .inv .inside .within (if1 .taken)), if1 .taken)
 
 loop-less : tie.Need-loop-less Inv-loop μ-loop
-loop-less c = subst (λ (q : Place). length (restFrom (c .before .before .before .before .before .before .before .before .before .before .before .before .before .before .before .before .args .n) q) < length (restFrom (c .before .before .before .before .before .before .before .before .before .before .before .before .before .before .before .before .args .n) (c .before .before .before .before .before .before .before .before .before .before .before .before .before .loop .p))) (sym (c .next .ensures)) (rest-falls (c .before .before .before .before .before .before .before .before .before .before .before .before .before .before .before .before .args .n) (c .before .before .before .before .before .before .before .before .before .before .before .before .before .loop .p) (c .before .before .before .before .before .before .before .before .before .before .before .before .before .loop .inv .inside .within (c .before .before .before .before .before .before .before .before .before .before .before .if1 .taken)))
+loop-less c =
+    let given = c .before .before .before .before .before .before .before .before .before .before .before .before .before .before .before .before in
+    let loop = c .before .before .before .before .before .before .before .before .before .before .before .before .before .loop in
+    let if1 = c .before .before .before .before .before .before .before .before .before .before .before .if1 in
+    subst (λ (q : Place). length (restFrom (given .args .n) q) < length (restFrom (given .args .n) (loop .p))) (sym (c .next .ensures)) (rest-falls (given .args .n) (loop .p) (loop .inv .inside .within (if1 .taken)))
 
 loop-again : tie.Need-loop-again Inv-loop μ-loop
-loop-again c = more (c .before .before .before .before .before .before .before .before .before .before .before .before .before .loop .inv) (c .before .before .before .before .before .before .before .before .before .before .before .if1 .taken) (c .next .ensures) (place-next (now (c .before .before .before .before .before .before .before .before .before .before .before .before .before .before .before .before .args .s)) (c .before .before .before .before .before .before .before .before .before .before .before .before .before .loop .i) _ (sym (c .before .before .before .before .before .before .before .before .bits .given .1) ∙ c .before .before .before .before .before .before .before .before .before .before .entry-at .ensures) .read) (c .before .before .before .store .ensures)
+loop-again c =
+    let given = c .before .before .before .before .before .before .before .before .before .before .before .before .before .before .before .before in
+    let loop = c .before .before .before .before .before .before .before .before .before .before .before .before .before .loop in
+    let if1 = c .before .before .before .before .before .before .before .before .before .before .before .if1 in
+    let entry-at = c .before .before .before .before .before .before .before .before .before .before .entry-at in
+    let bits = c .before .before .before .before .before .before .before .before .bits in
+    more (loop .inv) (if1 .taken) (c .next .ensures) (place-next (now (given .args .s)) (loop .i) _ (sym (bits .given .1) ∙ entry-at .ensures) .read) (c .before .before .before .store .ensures)
 
 enum-told : tie.Need-enum-told Inv-loop μ-loop
 enum-told c = search needs
 
 same-length : tie.Need-same-length Inv-loop μ-loop
-same-length c = c .before .before .before .before .before .loop .inv .long
+same-length c =
+    let loop = c .before .before .before .before .before .loop in
+    loop .inv .long
 
 returns : tie.Need-returns Inv-loop μ-loop
-returns c = sym (c .before .before .before .before .before .loop .inv .same ∙ ended-early (c .before .before .before .before .before .loop .inv) (c .before .before .before .before .before .loop .inv .inside .within (c .before .before .before .if1 .taken)) (bits-not (now (c .before .before .before .before .before .before .before .before .args .s)) _ (sym (c .enum-told .given .1) ∙ c .before .before .entry-at .ensures)))
+returns c =
+    let given = c .before .before .before .before .before .before .before .before in
+    let loop = c .before .before .before .before .before .loop in
+    sym (loop .inv .same ∙ ended-early (loop .inv) (loop .inv .inside .within (c .before .before .before .if1 .taken)) (bits-not (now (given .args .s)) _ (sym (c .enum-told .given .1) ∙ c .before .before .entry-at .ensures)))
 
 same-length-2 : tie.Need-same-length-2 Inv-loop μ-loop
 same-length-2 c = c .before .before .loop .inv .long

@@ -28,10 +28,17 @@ wrong-requires : tie.Need-wrong-requires
 wrong-requires c κs = search needs
 
 returns : tie.Need-returns
-returns c = c .closing .ensures ∙ sym (end-line _ _ _ _ _ _ (c .before .before .before .before .before .before .if1 .taken) (line-next (now (c .before .before .before .before .before .before .before .before .args .s)) (c .before .before .before .before .before .before .before .before .args .e .next) _ (sym (c .before .before .value .given .1) ∙ c .before .before .before .before .number-line .ensures) .read))
+returns c =
+    let given = c .before .before .before .before .before .before .before .before in
+    let if1 = c .before .before .before .before .before .before .if1 in
+    let number-line = c .before .before .before .before .number-line in
+    c .closing .ensures ∙ sym (end-line _ _ _ _ _ _ (if1 .taken) (line-next (now (given .args .s)) (given .args .e .next) _ (sym (c .before .before .value .given .1) ∙ number-line .ensures) .read))
 
 returns-2 : tie.Need-returns-2
-returns-2 c = c .wrong .ensures ∙ sym (no-end-line _ _ _ _ (c .before .before .before .before .before .if1 .taken) (number-not (now (c .before .before .before .before .before .before .before .args .s)) _ (sym (c .before .enum-told .given .1) ∙ c .before .before .before .number-line .ensures)))
+returns-2 c =
+    let given = c .before .before .before .before .before .before .before in
+    let if1 = c .before .before .before .before .before .if1 in
+    c .wrong .ensures ∙ sym (no-end-line _ _ _ _ (if1 .taken) (number-not (now (given .args .s)) _ (sym (c .before .enum-told .given .1) ∙ c .before .before .before .number-line .ensures)))
 
 add-wrong-2 : tie.Need-add-wrong-2
 add-wrong-2 c = search needs

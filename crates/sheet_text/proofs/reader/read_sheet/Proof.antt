@@ -31,10 +31,16 @@ same-length : tie.Need-same-length
 same-length c = search needs
 
 returns : tie.Need-returns
-returns c = reads-by _ _ _ _ (c .before .before .after-order .ensures ∙ sym (read-order (now (c .before .before .before .before .before .before .before .before .before .before .before .args .s)) (now (c .before .before .before .before .before .before .before .before .before .before .before .args .a)) _ _ (line-next (now (c .before .before .before .before .before .before .before .before .before .before .before .args .s)) 0 _ (sym (c .before .before .before .before .before .value .given .1) ∙ c .before .before .before .before .before .before .before .number-line .ensures) .read)))
+returns c =
+    let given = c .before .before .before .before .before .before .before .before .before .before .before in
+    let number-line = c .before .before .before .before .before .before .before .number-line in
+    let value = c .before .before .before .before .before .value in
+    reads-by _ _ _ _ (c .before .before .after-order .ensures ∙ sym (read-order (now (given .args .s)) (now (given .args .a)) _ _ (line-next (now (given .args .s)) 0 _ (sym (value .given .1) ∙ number-line .ensures) .read)))
 
 returns-2 : tie.Need-returns-2
-returns-2 c = reads-by _ _ _ _ (ap (λ (r : Sheet). outcome r (now (c .before .before .before .before .before .before .before .args .a))) (c .wrong .ensures) ∙ sym (read-no-order (now (c .before .before .before .before .before .before .before .args .s)) (now (c .before .before .before .before .before .before .before .args .a)) (number-not (now (c .before .before .before .before .before .before .before .args .s)) _ (sym (c .before .enum-told .given .1) ∙ c .before .before .before .number-line .ensures))))
+returns-2 c =
+    let given = c .before .before .before .before .before .before .before in
+    reads-by _ _ _ _ (ap (λ (r : Sheet). outcome r (now (given .args .a))) (c .wrong .ensures) ∙ sym (read-no-order (now (given .args .s)) (now (given .args .a)) (number-not (now (given .args .s)) _ (sym (c .before .enum-told .given .1) ∙ c .before .before .before .number-line .ensures))))
 
 pub read-sheet-spec : {M : Type 1} → statement M
 read-sheet-spec =

@@ -13,34 +13,55 @@ source-requires : tie.Need-source-requires
 source-requires c κs = (omega (arith, c .before .before .before .pre .0), (omega (arith, c .before .before .before .pre .1 .0), c .before .before .before .pre .1 .1))
 
 add-source : tie.Need-add-source
-add-source c = omega (arith, c .before .before .before .before .before .pre .1 .0, c .before .before .before .before .before .pre .1 .1 .0)
+add-source c =
+    let given = c .before .before .before .before .before in
+    omega (arith, given .pre .1 .0, given .pre .1 .1 .0)
 
 source-requires-2 : tie.Need-source-requires-2
-source-requires-2 c κs = (omega (arith, c .before .before .before .before .before .pre .0), (omega (arith, c .before .before .before .before .before .pre .1 .0), c .before .before .before .before .before .pre .1 .1))
+source-requires-2 c κs =
+    let given = c .before .before .before .before .before in
+    (omega (arith, given .pre .0), (omega (arith, given .pre .1 .0), given .pre .1 .1))
 
 add-source-2 : tie.Need-add-source-2
-add-source-2 c = omega (arith, c .before .before .before .before .before .before .before .pre .1 .0, c .before .before .before .before .before .before .before .pre .1 .1 .0)
+add-source-2 c =
+    let given = c .before .before .before .before .before .before .before in
+    omega (arith, given .pre .1 .0, given .pre .1 .1 .0)
 
 source-requires-3 : tie.Need-source-requires-3
-source-requires-3 c κs = (omega (arith, c .before .before .before .before .before .before .before .pre .0), (omega (arith, c .before .before .before .before .before .before .before .pre .1 .0), c .before .before .before .before .before .before .before .pre .1 .1))
+source-requires-3 c κs =
+    let given = c .before .before .before .before .before .before .before in
+    (omega (arith, given .pre .0), (omega (arith, given .pre .1 .0), given .pre .1 .1))
 
 add-source-3 : tie.Need-add-source-3
-add-source-3 c = omega (arith, c .before .before .before .before .before .before .before .before .before .pre .1 .0, c .before .before .before .before .before .before .before .before .before .pre .1 .1 .0)
+add-source-3 c =
+    let given = c .before .before .before .before .before .before .before .before .before in
+    omega (arith, given .pre .1 .0, given .pre .1 .1 .0)
 
 source-requires-4 : tie.Need-source-requires-4
-source-requires-4 c κs = (omega (arith, c .before .before .before .before .before .before .before .before .before .pre .0), (omega (arith, c .before .before .before .before .before .before .before .before .before .pre .1 .0), c .before .before .before .before .before .before .before .before .before .pre .1 .1))
+source-requires-4 c κs =
+    let given = c .before .before .before .before .before .before .before .before .before in
+    (omega (arith, given .pre .0), (omega (arith, given .pre .1 .0), given .pre .1 .1))
 
 axpy4-requires : tie.Need-axpy4-requires
-axpy4-requires c κs = (
-  omega arith,
-  (omega (arith, c .before .before .before .before .before .before .before .before .before .before .before .pre .1 .1 .1 .0, digits-within (c .before .before .before .before .before .before .before .before .before .before .before .args .n) (c .before .before .before .before .before .before .before .before .before .before .before .args .n) (c .before .before .before .before .before .before .before .before .before .before .before .args .j) (c .before .before .before .before .before .before .before .before .before .before .before .args .j) (omega (arith, c .before .before .before .before .before .before .before .before .before .before .before .pre .0, c .before .before .before .before .before .before .before .before .before .before .before .pre .1 .0)) (omega (arith, c .before .before .before .before .before .before .before .before .before .before .before .pre .0, c .before .before .before .before .before .before .before .before .before .before .before .pre .1 .0))), (source-elsewhere (c .before .before .before .before .before .before .before .before .before .before .before .args .n) (c .before .before .before .before .before .before .before .before .before .before .before .args .j) _ (now (c .before .before .before .before .before .before .before .before .before .before .before .args .u)) (now (c .before .before .before .before .before .before .before .before .before .before .before .args .d)) (c .before .before .before .before .before .before .before .source .ensures) (c .before .before .before .before .before .before .before .before .before .before .before .pre .1 .1 .1 .0) (omega (arith, c .before .before .before .before .before .before .before .before .before .before .before .pre .0)) (omega (arith, c .before .before .before .before .before .before .before .before .before .before .before .pre .1 .0)), (source-elsewhere (c .before .before .before .before .before .before .before .before .before .before .before .args .n) (c .before .before .before .before .before .before .before .before .before .before .before .args .j) _ (now (c .before .before .before .before .before .before .before .before .before .before .before .args .u)) (now (c .before .before .before .before .before .before .before .before .before .before .before .args .d)) (c .before .before .before .before .before .source2 .ensures) (c .before .before .before .before .before .before .before .before .before .before .before .pre .1 .1 .1 .0) (omega (arith, c .before .before .before .before .before .before .before .before .before .before .before .pre .0)) (omega (arith, c .before .before .before .before .before .before .before .before .before .before .before .pre .1 .0)), (source-elsewhere (c .before .before .before .before .before .before .before .before .before .before .before .args .n) (c .before .before .before .before .before .before .before .before .before .before .before .args .j) _ (now (c .before .before .before .before .before .before .before .before .before .before .before .args .u)) (now (c .before .before .before .before .before .before .before .before .before .before .before .args .d)) (c .before .before .before .source3 .ensures) (c .before .before .before .before .before .before .before .before .before .before .before .pre .1 .1 .1 .0) (omega (arith, c .before .before .before .before .before .before .before .before .before .before .before .pre .0)) (omega (arith, c .before .before .before .before .before .before .before .before .before .before .before .pre .1 .0)), source-elsewhere (c .before .before .before .before .before .before .before .before .before .before .before .args .n) (c .before .before .before .before .before .before .before .before .before .before .before .args .j) _ (now (c .before .before .before .before .before .before .before .before .before .before .before .args .u)) (now (c .before .before .before .before .before .before .before .before .before .before .before .args .d)) (c .before .source4 .ensures) (c .before .before .before .before .before .before .before .before .before .before .before .pre .1 .1 .1 .0) (omega (arith, c .before .before .before .before .before .before .before .before .before .before .before .pre .0)) (omega (arith, c .before .before .before .before .before .before .before .before .before .before .before .pre .1 .0)))))),
-)
+axpy4-requires c κs =
+    let given = c .before .before .before .before .before .before .before .before .before .before .before in
+    let source = c .before .before .before .before .before .before .before .source in
+    let source2 = c .before .before .before .before .before .source2 in (
+      omega arith,
+      (omega (arith, given .pre .1 .1 .1 .0, digits-within (given .args .n) (given .args .n) (given .args .j) (given .args .j) (omega (arith, given .pre .0, given .pre .1 .0)) (omega (arith, given .pre .0, given .pre .1 .0))), (source-elsewhere (given .args .n) (given .args .j) _ (now (given .args .u)) (now (given .args .d)) (source .ensures) (given .pre .1 .1 .1 .0) (omega (arith, given .pre .0)) (omega (arith, given .pre .1 .0)), (source-elsewhere (given .args .n) (given .args .j) _ (now (given .args .u)) (now (given .args .d)) (source2 .ensures) (given .pre .1 .1 .1 .0) (omega (arith, given .pre .0)) (omega (arith, given .pre .1 .0)), (source-elsewhere (given .args .n) (given .args .j) _ (now (given .args .u)) (now (given .args .d)) (c .before .before .before .source3 .ensures) (given .pre .1 .1 .1 .0) (omega (arith, given .pre .0)) (omega (arith, given .pre .1 .0)), source-elsewhere (given .args .n) (given .args .j) _ (now (given .args .u)) (now (given .args .d)) (c .before .source4 .ensures) (given .pre .1 .1 .1 .0) (omega (arith, given .pre .0)) (omega (arith, given .pre .1 .0)))))),
+    )
 
 same-length : tie.Need-same-length
 same-length c = c .before .before .axpy4 .ensures .long
 
 returns : tie.Need-returns
-returns c = added-four (c .before .before .before .before .before .before .before .before .before .before .before .before .before .before .args .n) (c .before .before .before .before .before .before .before .before .before .before .before .before .before .before .args .j) (c .before .before .before .before .before .before .before .before .before .before .before .before .before .before .args .k) (now (c .before .before .before .before .before .before .before .before .before .before .before .before .before .before .args .u)) (now (c .before .before .before .before .before .before .before .before .before .before .before .before .before .before .args .d)) (c .before .before .before .before .before .before .before .before .before .before .source .ensures) (c .before .before .before .before .before .before .before .before .before .before .before .before .before .before .pre .1 .0) (c .before .before .before .before .before .before .before .before .source2 .ensures) (c .before .before .before .before .before .before .source3 .ensures) (c .before .before .before .before .source4 .ensures) (c .before .before .axpy4 .ensures)
+returns c =
+    let given = c .before .before .before .before .before .before .before .before .before .before .before .before .before .before in
+    let source = c .before .before .before .before .before .before .before .before .before .before .source in
+    let source2 = c .before .before .before .before .before .before .before .before .source2 in
+    let source3 = c .before .before .before .before .before .before .source3 in
+    let source4 = c .before .before .before .before .source4 in
+    added-four (given .args .n) (given .args .j) (given .args .k) (now (given .args .u)) (now (given .args .d)) (source .ensures) (given .pre .1 .0) (source2 .ensures) (source3 .ensures) (source4 .ensures) (c .before .before .axpy4 .ensures)
 
 pub add-four-spec : {M : Type 1} → statement M
 add-four-spec =

@@ -13,13 +13,18 @@ source-requires : tie.Need-source-requires
 source-requires c κs = c .before .before .before .pre
 
 axpy-requires : tie.Need-axpy-requires
-axpy-requires c κs = (omega arith, (omega (arith, c .before .before .before .before .before .pre .1 .1 .1 .0, digits-within (c .before .before .before .before .before .args .n) (c .before .before .before .before .before .args .n) (c .before .before .before .before .before .args .j) (c .before .before .before .before .before .args .j) (omega (arith, c .before .before .before .before .before .pre .0, c .before .before .before .before .before .pre .1 .0)) (omega (arith, c .before .before .before .before .before .pre .0, c .before .before .before .before .before .pre .1 .0))), source-elsewhere (c .before .before .before .before .before .args .n) (c .before .before .before .before .before .args .j) _ (now (c .before .before .before .before .before .args .u)) (now (c .before .before .before .before .before .args .d)) (c .before .source .ensures) (c .before .before .before .before .before .pre .1 .1 .1 .0) (omega (arith, c .before .before .before .before .before .pre .0)) (c .before .before .before .before .before .pre .1 .0)))
+axpy-requires c κs =
+    let given = c .before .before .before .before .before in
+    (omega arith, (omega (arith, given .pre .1 .1 .1 .0, digits-within (given .args .n) (given .args .n) (given .args .j) (given .args .j) (omega (arith, given .pre .0, given .pre .1 .0)) (omega (arith, given .pre .0, given .pre .1 .0))), source-elsewhere (given .args .n) (given .args .j) _ (now (given .args .u)) (now (given .args .d)) (c .before .source .ensures) (given .pre .1 .1 .1 .0) (omega (arith, given .pre .0)) (given .pre .1 .0)))
 
 same-length : tie.Need-same-length
 same-length c = c .before .before .axpy .ensures .long
 
 returns : tie.Need-returns
-returns c = added-one (c .before .before .before .before .before .before .before .before .args .n) (c .before .before .before .before .before .before .before .before .args .j) (c .before .before .before .before .before .before .before .before .args .k) (now (c .before .before .before .before .before .before .before .before .args .u)) (now (c .before .before .before .before .before .before .before .before .args .d)) (c .before .before .before .before .source .ensures) (c .before .before .before .before .before .before .before .before .pre .1 .0) (c .before .before .axpy .ensures)
+returns c =
+    let given = c .before .before .before .before .before .before .before .before in
+    let source = c .before .before .before .before .source in
+    added-one (given .args .n) (given .args .j) (given .args .k) (now (given .args .u)) (now (given .args .d)) (source .ensures) (given .pre .1 .0) (c .before .before .axpy .ensures)
 
 pub add-one-spec : {M : Type 1} → statement M
 add-one-spec =

@@ -10,30 +10,47 @@ use Rattle.udu.proofs.column.by_columns.Statement.{statement}
 use Rattle.udu.proofs.column.by_columns.Tie as tie
 
 crosses-requires : tie.Need-crosses-requires
-crosses-requires c κs = (c .before .before .before .before .pre .1 .0, (c .before .before .before .before .pre .0 .high, (c .before .before .before .before .pre .0 .upper, (c .before .before .before .before .pre .0 .diagonal, c .before .before .before .before .pre .1 .1))))
+crosses-requires c κs =
+    let given = c .before .before .before .before in
+    (given .pre .1 .0, (given .pre .0 .high, (given .pre .0 .upper, (given .pre .0 .diagonal, given .pre .1 .1))))
 
 mul-at : tie.Need-mul-at
-mul-at c = omega (arith, digits-within (c .before .before .before .before .before .before .before .args .n) (c .before .before .before .before .before .before .before .args .n) (c .before .before .before .before .before .before .before .args .j) (c .before .before .before .before .before .before .before .args .j) (c .before .before .before .before .before .before .before .pre .1 .0) (c .before .before .before .before .before .before .before .pre .1 .0), product-small (c .before .before .before .before .before .before .before .args .n) (c .before .before .before .before .before .before .before .args .n) (c .before .before .before .before .before .before .before .pre .0 .high) (c .before .before .before .before .before .before .before .pre .0 .high))
+mul-at c =
+    let given = c .before .before .before .before .before .before .before in
+    omega (arith, digits-within (given .args .n) (given .args .n) (given .args .j) (given .args .j) (given .pre .1 .0) (given .pre .1 .0), product-small (given .args .n) (given .args .n) (given .pre .0 .high) (given .pre .0 .high))
 
 divide-requires : tie.Need-divide-requires
-divide-requires c κs = (omega (arith, c .before .before .before .before .before .before .before .before .pre .0 .matrix, digits-within (c .before .before .before .before .before .before .before .before .args .n) (c .before .before .before .before .before .before .before .before .args .n) (c .before .before .before .before .before .before .before .before .args .j) (c .before .before .before .before .before .before .before .before .args .j) (c .before .before .before .before .before .before .before .before .pre .1 .0) (c .before .before .before .before .before .before .before .before .pre .1 .0)), omega (arith, c .before .before .before .crosses .ensures .long, c .before .before .before .before .before .before .before .before .pre .0 .upper, digits-within (c .before .before .before .before .before .before .before .before .args .n) (c .before .before .before .before .before .before .before .before .args .n) (c .before .before .before .before .before .before .before .before .args .j) (c .before .before .before .before .before .before .before .before .args .j) (c .before .before .before .before .before .before .before .before .pre .1 .0) (c .before .before .before .before .before .before .before .before .pre .1 .0)))
+divide-requires c κs =
+    let given = c .before .before .before .before .before .before .before .before in
+    (omega (arith, given .pre .0 .matrix, digits-within (given .args .n) (given .args .n) (given .args .j) (given .args .j) (given .pre .1 .0) (given .pre .1 .0)), omega (arith, c .before .before .before .crosses .ensures .long, given .pre .0 .upper, digits-within (given .args .n) (given .args .n) (given .args .j) (given .args .j) (given .pre .1 .0) (given .pre .1 .0)))
 
 add-u : tie.Need-add-u
-add-u c = omega (arith, digits-within (c .before .before .before .before .before .before .before .before .before .before .before .args .n) (c .before .before .before .before .before .before .before .before .before .before .before .args .n) (c .before .before .before .before .before .before .before .before .before .before .before .args .j) (c .before .before .before .before .before .before .before .before .before .before .before .args .j) (c .before .before .before .before .before .before .before .before .before .before .before .pre .1 .0) (c .before .before .before .before .before .before .before .before .before .before .before .pre .1 .0), product-small (c .before .before .before .before .before .before .before .before .before .before .before .args .n) (c .before .before .before .before .before .before .before .before .before .before .before .args .n) (c .before .before .before .before .before .before .before .before .before .before .before .pre .0 .high) (c .before .before .before .before .before .before .before .before .before .before .before .pre .0 .high))
+add-u c =
+    let given = c .before .before .before .before .before .before .before .before .before .before .before in
+    omega (arith, digits-within (given .args .n) (given .args .n) (given .args .j) (given .args .j) (given .pre .1 .0) (given .pre .1 .0), product-small (given .args .n) (given .args .n) (given .pre .0 .high) (given .pre .0 .high))
 
 mul-u : tie.Need-mul-u
-mul-u c = omega (arith, digits-within (c .before .before .before .before .before .before .before .before .before .before .before .args .n) (c .before .before .before .before .before .before .before .before .before .before .before .args .n) (c .before .before .before .before .before .before .before .before .before .before .before .args .j) (c .before .before .before .before .before .before .before .before .before .before .before .args .j) (c .before .before .before .before .before .before .before .before .before .before .before .pre .1 .0) (c .before .before .before .before .before .before .before .before .before .before .before .pre .1 .0), product-small (c .before .before .before .before .before .before .before .before .before .before .before .args .n) (c .before .before .before .before .before .before .before .before .before .before .before .args .n) (c .before .before .before .before .before .before .before .before .before .before .before .pre .0 .high) (c .before .before .before .before .before .before .before .before .before .before .before .pre .0 .high))
+mul-u c =
+    let given = c .before .before .before .before .before .before .before .before .before .before .before in
+    omega (arith, digits-within (given .args .n) (given .args .n) (given .args .j) (given .args .j) (given .pre .1 .0) (given .pre .1 .0), product-small (given .args .n) (given .args .n) (given .pre .0 .high) (given .pre .0 .high))
 
 slice-write-u : tie.Need-slice-write-u
-slice-write-u c = omega (arith, c .before .before .divide .ensures .long, c .before .before .before .before .before .before .crosses .ensures .long, c .before .before .before .before .before .before .before .before .before .before .before .pre .0 .upper, digits-within (c .before .before .before .before .before .before .before .before .before .before .before .args .n) (c .before .before .before .before .before .before .before .before .before .before .before .args .n) (c .before .before .before .before .before .before .before .before .before .before .before .args .j) (c .before .before .before .before .before .before .before .before .before .before .before .args .j) (c .before .before .before .before .before .before .before .before .before .before .before .pre .1 .0) (c .before .before .before .before .before .before .before .before .before .before .before .pre .1 .0))
+slice-write-u c =
+    let given = c .before .before .before .before .before .before .before .before .before .before .before in
+    let crosses = c .before .before .before .before .before .before .crosses in
+    omega (arith, c .before .before .divide .ensures .long, crosses .ensures .long, given .pre .0 .upper, digits-within (given .args .n) (given .args .n) (given .args .j) (given .args .j) (given .pre .1 .0) (given .pre .1 .0))
 
 same-length : tie.Need-same-length
-same-length c = simp length-set (c .before .before .divide .ensures .long ∙ c .before .before .before .before .before .before .crosses .ensures .long)
+same-length c =
+    let crosses = c .before .before .before .before .before .before .crosses in
+    simp length-set (c .before .before .divide .ensures .long ∙ crosses .ensures .long)
 
 returns : tie.Need-returns
-returns c = 
-    with-diagonal (c .before .before .before .before .before .before .before .before .before .before .before .args .n) (c .before .before .before .before .before .before .before .before .before .before .before .args .j) (factorsIn (c .before .before .before .before .before .before .before .before .before .before .before .args .n) (now (c .before .before .before .before .before .before .before .before .before .before .before .args .u)) (now (c .before .before .before .before .before .before .before .before .before .before .before .args .d))) (now (c .before .before .before .before .before .before .before .before .before .before .before .args .p)) (c .before .before .before .before .before .before .before .before .before .before .before .args .x) (omega (arith, c .before .before .before .before .before .before .before .before .before .before .before .pre .0 .upper, digits-within (c .before .before .before .before .before .before .before .before .before .before .before .args .n) (c .before .before .before .before .before .before .before .before .before .before .before .args .n) (c .before .before .before .before .before .before .before .before .before .before .before .args .j) (c .before .before .before .before .before .before .before .before .before .before .before .args .j) (c .before .before .before .before .before .before .before .before .before .before .before .pre .1 .0) (c .before .before .before .before .before .before .before .before .before .before .before .pre .1 .0)))
-    (quotient-entry (c .before .before .before .before .before .before .before .before .before .before .before .args .n) (c .before .before .before .before .before .before .before .before .before .before .before .args .j) (factorsIn (c .before .before .before .before .before .before .before .before .before .before .before .args .n) (now (c .before .before .before .before .before .before .before .before .before .before .before .args .u)) (now (c .before .before .before .before .before .before .before .before .before .before .before .args .d))) (now (c .before .before .before .before .before .before .before .before .before .before .before .args .p)) (c .before .before .before .before .before .before .before .before .before .before .before .args .x) (c .before .before .before .before .before .before .before .before .before .before .before .pre .1 .0) (c .before .before .before .before .before .before .crosses .ensures) (c .before .before .divide .ensures))
+returns c =
+    let given = c .before .before .before .before .before .before .before .before .before .before .before in
+    let crosses = c .before .before .before .before .before .before .crosses in
+    with-diagonal (given .args .n) (given .args .j) (factorsIn (given .args .n) (now (given .args .u)) (now (given .args .d))) (now (given .args .p)) (given .args .x) (omega (arith, given .pre .0 .upper, digits-within (given .args .n) (given .args .n) (given .args .j) (given .args .j) (given .pre .1 .0) (given .pre .1 .0)))
+    (quotient-entry (given .args .n) (given .args .j) (factorsIn (given .args .n) (now (given .args .u)) (now (given .args .d))) (now (given .args .p)) (given .args .x) (given .pre .1 .0) (crosses .ensures) (c .before .before .divide .ensures))
 
 pub by-columns-spec : {M : Type 1} → statement M
 by-columns-spec =

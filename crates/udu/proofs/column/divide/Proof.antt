@@ -55,9 +55,10 @@ loop-less : tie.Need-loop-less Inv-loop μ-loop
 loop-less c = search needs
 
 loop-again : tie.Need-loop-again Inv-loop μ-loop
-loop-again c = 
-    strip-more _ (c .before .before .before .loop .inv) (c .before .before .loop-test .taken) (c .before .before .before .before .pre .1)
-    (ap (λ (y : Float). (getD (now (c .before .before .before .before .args .p)) (c .before .before .before .loop .i + c .before .before .before .before .args .at) nan ⊖ y) ⊘ c .before .before .before .before .args .x) (strip-ahead (c .before .before .before .loop .inv)))
+loop-again c =
+    let given = c .before .before .before .before in
+    strip-more _ (c .before .before .before .loop .inv) (c .before .before .loop-test .taken) (given .pre .1)
+    (ap (λ (y : Float). (getD (now (given .args .p)) (c .before .before .before .loop .i + given .args .at) nan ⊖ y) ⊘ given .args .x) (strip-ahead (c .before .before .before .loop .inv)))
 
 same-length : tie.Need-same-length Inv-loop μ-loop
 same-length c = search needs

@@ -21,7 +21,9 @@ mul-x : tie.Need-mul-x
 mul-x c = omega (arith, digits-within (c .before .before .before .args .n) (c .before .before .before .args .n) (c .before .before .before .args .n - 1) (c .before .before .before .args .n - 1) (omega (arith, c .before .before .before .pre .low)) (omega (arith, c .before .before .before .pre .low)), product-small (c .before .before .before .args .n) (c .before .before .before .args .n) (c .before .before .before .pre .high) (c .before .before .before .pre .high))
 
 shared-slice-read-x : tie.Need-shared-slice-read-x
-shared-slice-read-x c = omega (arith, c .before .before .before .before .pre .matrix, digits-within (c .before .before .before .before .args .n) (c .before .before .before .before .args .n) (c .before .before .before .before .args .n - 1) (c .before .before .before .before .args .n - 1) (omega (arith, c .before .before .before .before .pre .low)) (omega (arith, c .before .before .before .before .pre .low)))
+shared-slice-read-x c =
+    let given = c .before .before .before .before in
+    omega (arith, given .pre .matrix, digits-within (given .args .n) (given .args .n) (given .args .n - 1) (given .args .n - 1) (omega (arith, given .pre .low)) (omega (arith, given .pre .low)))
 
 mul-d : tie.Need-mul-d
 mul-d c = search needs
@@ -33,10 +35,14 @@ same-length : tie.Need-same-length
 same-length c = search needs
 
 returns : tie.Need-returns
-returns c = last-zero (c .before .before .before .before .before .args .n) (now (c .before .before .before .before .before .args .p)) (now (c .before .before .before .before .before .args .u)) (now (c .before .before .before .before .before .args .d)) (c .before .before .before .before .before .pre .low) (c .if1 .taken)
+returns c =
+    let given = c .before .before .before .before .before in
+    last-zero (given .args .n) (now (given .args .p)) (now (given .args .u)) (now (given .args .d)) (given .pre .low) (c .if1 .taken)
 
 multiply-requires : tie.Need-multiply-requires
-multiply-requires c κs = (omega (arith, c .before .before .before .before .before .before .pre .matrix, digits-within (c .before .before .before .before .before .before .args .n) (c .before .before .before .before .before .before .args .n) (c .before .before .before .before .before .before .args .n - 1) (c .before .before .before .before .before .before .args .n - 1) (omega (arith, c .before .before .before .before .before .before .pre .low)) (omega (arith, c .before .before .before .before .before .before .pre .low))), omega (arith, c .before .before .before .before .before .before .pre .upper, digits-within (c .before .before .before .before .before .before .args .n) (c .before .before .before .before .before .before .args .n) (c .before .before .before .before .before .before .args .n - 1) (c .before .before .before .before .before .before .args .n - 1) (omega (arith, c .before .before .before .before .before .before .pre .low)) (omega (arith, c .before .before .before .before .before .before .pre .low))))
+multiply-requires c κs =
+    let given = c .before .before .before .before .before .before in
+    (omega (arith, given .pre .matrix, digits-within (given .args .n) (given .args .n) (given .args .n - 1) (given .args .n - 1) (omega (arith, given .pre .low)) (omega (arith, given .pre .low))), omega (arith, given .pre .upper, digits-within (given .args .n) (given .args .n) (given .args .n - 1) (given .args .n - 1) (omega (arith, given .pre .low)) (omega (arith, given .pre .low))))
 
 same-length-2 : tie.Need-same-length-2
 same-length-2 c = search needs
@@ -45,7 +51,10 @@ same-length-3 : tie.Need-same-length-3
 same-length-3 c = search needs
 
 returns-2 : tie.Need-returns-2
-returns-2 c = last-stepped (c .before .before .before .before .before .before .before .before .before .args .n) (now (c .before .before .before .before .before .before .before .before .before .args .p)) (now (c .before .before .before .before .before .before .before .before .before .args .u)) (now (c .before .before .before .before .before .before .before .before .before .args .d)) (c .before .before .before .before .before .before .before .before .before .pre .low) (c .before .before .before .before .if1 .left) (c .before .before .multiply .ensures)
+returns-2 c =
+    let given = c .before .before .before .before .before .before .before .before .before in
+    let if1 = c .before .before .before .before .if1 in
+    last-stepped (given .args .n) (now (given .args .p)) (now (given .args .u)) (now (given .args .d)) (given .pre .low) (if1 .left) (c .before .before .multiply .ensures)
 
 pub last-spec : {M : Type 1} → statement M
 last-spec =

@@ -39,16 +39,25 @@ mul-sum-2 : tie.Need-mul-sum-2 Inv-loop μ-loop
 mul-sum-2 c = omega (arith, digits-within (c .before .before .before .args .n) (c .before .before .before .args .n) (c .before .before .before .args .j) (c .before .before .loop .k) (c .before .before .before .pre .1 .0) (c .before .loop-test .taken))
 
 shared-slice-read-sum-2 : tie.Need-shared-slice-read-sum-2 Inv-loop μ-loop
-shared-slice-read-sum-2 c = omega (arith, digits-within (c .before .before .before .before .args .n) (c .before .before .before .before .args .n) (c .before .before .before .before .args .j) (c .before .before .before .loop .k) (c .before .before .before .before .pre .1 .0) (c .before .before .loop-test .taken))
+shared-slice-read-sum-2 c =
+    let given = c .before .before .before .before in
+    omega (arith, digits-within (given .args .n) (given .args .n) (given .args .j) (c .before .before .before .loop .k) (given .pre .1 .0) (c .before .before .loop-test .taken))
 
 add-sum-2 : tie.Need-add-sum-2 Inv-loop μ-loop
-add-sum-2 c = omega (arith, digits-within (c .before .before .before .before .args .n) (c .before .before .before .before .args .n) (c .before .before .before .before .args .i) (c .before .before .before .loop .k) (omega (arith, c .before .before .before .before .pre .0, c .before .before .before .before .pre .1 .0)) (c .before .before .loop-test .taken))
+add-sum-2 c =
+    let given = c .before .before .before .before in
+    omega (arith, digits-within (given .args .n) (given .args .n) (given .args .i) (c .before .before .before .loop .k) (omega (arith, given .pre .0, given .pre .1 .0)) (c .before .before .loop-test .taken))
 
 mul-sum-3 : tie.Need-mul-sum-3 Inv-loop μ-loop
-mul-sum-3 c = omega (arith, digits-within (c .before .before .before .before .args .n) (c .before .before .before .before .args .n) (c .before .before .before .before .args .i) (c .before .before .before .loop .k) (omega (arith, c .before .before .before .before .pre .0, c .before .before .before .before .pre .1 .0)) (c .before .before .loop-test .taken))
+mul-sum-3 c =
+    let given = c .before .before .before .before in
+    omega (arith, digits-within (given .args .n) (given .args .n) (given .args .i) (c .before .before .before .loop .k) (omega (arith, given .pre .0, given .pre .1 .0)) (c .before .before .loop-test .taken))
 
 shared-slice-read-sum-3 : tie.Need-shared-slice-read-sum-3 Inv-loop μ-loop
-shared-slice-read-sum-3 c = omega (arith, digits-within (c .before .before .before .before .before .args .n) (c .before .before .before .before .before .args .n) (c .before .before .before .before .before .args .i) (c .before .before .before .before .loop .k) (omega (arith, c .before .before .before .before .before .pre .0, c .before .before .before .before .before .pre .1 .0)) (c .before .before .before .loop-test .taken))
+shared-slice-read-sum-3 c =
+    let given = c .before .before .before .before .before in
+    let loop = c .before .before .before .before .loop in
+    omega (arith, digits-within (given .args .n) (given .args .n) (given .args .i) (loop .k) (omega (arith, given .pre .0, given .pre .1 .0)) (c .before .before .before .loop-test .taken))
 
 add-k-2 : tie.Need-add-k-2 Inv-loop μ-loop
 add-k-2 c = search needs
@@ -57,7 +66,9 @@ loop-less : tie.Need-loop-less Inv-loop μ-loop
 loop-less c = search needs
 
 loop-again : tie.Need-loop-again Inv-loop μ-loop
-loop-again c = ran-more (c .before .before .before .before .loop .inv) (c .before .before .before .loop-test .taken) refl
+loop-again c =
+    let loop = c .before .before .before .before .loop in
+    ran-more (loop .inv) (c .before .before .before .loop-test .taken) refl
 
 returns : tie.Need-returns Inv-loop μ-loop
 unfolding crossSum

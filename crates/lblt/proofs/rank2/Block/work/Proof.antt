@@ -10,7 +10,9 @@ multiplier-requires c κs = search needs
 
 returns : tie.Need-returns
 unfolding workBy work1 work2
-returns c = rw (c .before .before .before .before .multiplier .ensures)
+returns c =
+    let multiplier = c .before .before .before .before .multiplier in
+    rw (multiplier .ensures)
 
 pub work-spec : {M : Type 1} → statement M
 work-spec = tie.close (tie.spec multiplier-requires returns)
