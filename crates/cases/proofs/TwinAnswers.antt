@@ -8,9 +8,10 @@ use native.Mathlib.Omega.{arith}
 use lib.Dec.{lit<}
 use lib.Ieee.{Float, binary64, ofBits, eq}
 use Rattle.answer.specs.Number.{isDone}
+use Rattle.answer.specs.Refusals.{tested}
 use Rattle.matrix.specs.Matrix.{Matrix}
 use Rattle.matrix.specs.Grid.{load}
-use Rattle.matrix.specs.Layouts.{startOf, inLower, placeIn, lower}
+use Rattle.matrix.specs.Layouts.{startOf, sizeOf, inLower, placeIn, lower}
 use Rattle.twins.specs.declared.Twin.the-variants.{Nothing, Pair}
 use Rattle.twins.specs.Twins.{symmetric, Twins}
 use Rattle.twins.specs.First.{rowsIn, sizeAnswer, none, pair, FirstTwinSince, FirstTwin}
@@ -59,23 +60,23 @@ both M first second k below = by (decLe k 0)
 -- ---- twins by the upper part alone, which UDU reads: by the lower part, which `first_twin` reads, they differ in column 0, 1 and 0
 
 pub none-by-the-lower : FirstTwin (floats upperTwins) 2 2 Nothing
-unfolding symmetric load lower inLower placeIn startOf floats ofBits eq
+unfolding tested sizeOf symmetric load lower inLower placeIn startOf floats ofBits eq
 none-by-the-lower = no-twins 0 upperTwins refl (λ same. true≢false (ap (λ (y : Float). eq y (ofBits binary64 0)) (same 0 (lit< tt))))
 
 -- ---- row 1 as a second batch, over the rows as they came
 
 pub second-came-twice : FirstTwinSince (floats cameTwice) 2 1 2 (Pair 0 1)
-unfolding symmetric load lower inLower placeIn startOf floats
+unfolding tested sizeOf symmetric load lower inLower placeIn startOf floats
 second-came-twice = are-twins 1 cameTwice refl (omega arith) (both (rowsIn 2 2 (floats cameTwice)) refl refl)
 
 pub second-came-once : FirstTwinSince (floats cameOnce) 2 1 2 Nothing
-unfolding symmetric load lower inLower placeIn startOf floats ofBits eq
+unfolding tested sizeOf symmetric load lower inLower placeIn startOf floats ofBits eq
 second-came-once = no-twins 1 cameOnce refl (λ same. true≢false (ap (λ (y : Float). eq y (ofBits binary64 0x4000_0000_0000_0000)) (same 0 (lit< tt))))
 
 -- ---- and over a buffer in which row 0 is factored: the twin is missed, and a good row is told
 
 pub twin-missed : FirstTwinSince (floats factoredTwice) 2 1 2 Nothing
-unfolding symmetric load lower inLower placeIn startOf floats ofBits eq
+unfolding tested sizeOf symmetric load lower inLower placeIn startOf floats ofBits eq
 twin-missed = no-twins 1 factoredTwice refl (λ same. true≢false (ap (λ (y : Float). eq y (ofBits binary64 0x4000_0000_0000_0000)) (same 0 (lit< tt))))
 
 pub twin-invented : FirstTwinSince (floats factoredOnce) 2 1 2 (Pair 0 1)

@@ -27,7 +27,7 @@ subnormal-root-requires c κs = record { least = omega (arith, c .if3 .left); mo
 returns-3 : tie.Need-returns-3
 returns-3 c =
     let given = c .before .before .before .before in
-    c .subnormal-root .ensures ∙ root-of-bits (given .args .x) (toBits binary64 (given .args .x)) (held (c .before .before .before .before)) refl
+    c .subnormal-root .ensures ∙ root-of-bits (given .args .x) (toBits binary64 (given .args .x)) (held given) refl
 
 normal-root-requires : tie.Need-normal-root-requires
 normal-root-requires c κs = record { least = c .before .if2 .left; most = c .if4 .taken }
@@ -35,23 +35,23 @@ normal-root-requires c κs = record { least = c .before .if2 .left; most = c .if
 returns-4 : tie.Need-returns-4
 returns-4 c =
     let given = c .before .before .before .before in
-    c .normal-root .ensures ∙ root-of-bits (given .args .x) (toBits binary64 (given .args .x)) (held (c .before .before .before .before)) refl
+    c .normal-root .ensures ∙ root-of-bits (given .args .x) (toBits binary64 (given .args .x)) (held given) refl
 
 returns-5 : tie.Need-returns-5
 returns-5 c =
     let given = c .before .before .before .before in
-    root-infinity (given .args .x) (held (c .before .before .before .before)) (c .if5 .taken)
+    root-infinity (given .args .x) (held given) (c .if5 .taken)
 
 returns-6 : tie.Need-returns-6
 returns-6 c =
     let given = c .before .before .before .before .before in
-    root-minus-zero (given .args .x) (held (c .before .before .before .before .before)) (c .if6 .taken)
+    root-minus-zero (given .args .x) (held given) (c .if6 .taken)
 
 returns-7 : tie.Need-returns-7
 returns-7 c =
     let given = c .before .before .before .before .before in
     let if1 = c .before .before .before .before .if1 in
-    zero-by-zero ∙ sym (root-negative (given .args .x) (held (c .before .before .before .before .before)) (no-nan (given .args .x) (if1 .left)) (c .before .before .if4 .left) (c .before .if5 .left) (c .if6 .left))
+    zero-by-zero ∙ sym (root-negative (given .args .x) (held given) (no-nan (given .args .x) (if1 .left)) (c .before .before .if4 .left) (c .before .if5 .left) (c .if6 .left))
 
 pub root-spec : {M : Type 1} → statement M
 root-spec =

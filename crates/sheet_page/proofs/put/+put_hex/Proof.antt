@@ -67,7 +67,11 @@ put-hex-returns-2 : (t : ℕ) → put-hex-lts.Need-returns-2 (
   put-digit-reads.Asked,
   put-digit-reads.Learnt,
 ) (put-hex-at t) put-hex.Post
-put-hex-returns-2 t c = hex-more (c .before .before .before .before .before .before .before .before .before .before .args .digits) (c .before .before .before .before .before .before .before .before .before .before .args .bits) (c .before .before .before .before .before .before .before .before .if1 .left) (c .before .before .before .before .before .before .put-hex .ensures) (c .before .before .put-digit .ensures)
+put-hex-returns-2 t c =
+    let given = c .before .before .before .before .before .before .before .before .before .before in
+    let if1 = c .before .before .before .before .before .before .before .before .if1 in
+    let put-hex = c .before .before .before .before .before .before .put-hex in
+    hex-more (given .args .digits) (given .args .bits) (if1 .left) (put-hex .ensures) (c .before .before .put-digit .ensures)
 
 pub +put-hex-spec : {M : Type 1} → statement M
 +put-hex-spec = close μ-put-hex λ t. put-hex-lts.spec (

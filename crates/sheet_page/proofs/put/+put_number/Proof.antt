@@ -47,7 +47,10 @@ put-number-returns : (t : ℕ) → put-number-lts.Need-returns (
   put-number-below t,
   put-number.Post,
 ) (put-number-at t) put-number.Post
-put-number-returns t c = put-same (sym (decimal-one (c .before .before .before .before .before .before .args .v) (c .before .before .before .before .if1 .taken))) (c .before .before .put-digit .ensures)
+put-number-returns t c =
+    let given = c .before .before .before .before .before .before in
+    let if1 = c .before .before .before .before .if1 in
+    put-same (sym (decimal-one (given .args .v) (if1 .taken))) (c .before .before .put-digit .ensures)
 
 put-number-put-number-requires : (t : ℕ) → put-number-lts.Need-put-number-requires (
   put-digit-reads.Asked,
@@ -79,7 +82,11 @@ put-number-returns-2 : (t : ℕ) → put-number-lts.Need-returns-2 (
   put-number-below t,
   put-number.Post,
 ) (put-number-at t) put-number.Post
-put-number-returns-2 t c = number-more (c .before .before .before .before .before .before .before .before .before .before .args .v) (c .before .before .before .before .before .before .before .before .if1 .left) (c .before .before .before .before .before .before .put-number .ensures) (c .before .before .put-digit2 .ensures)
+put-number-returns-2 t c =
+    let given = c .before .before .before .before .before .before .before .before .before .before in
+    let if1 = c .before .before .before .before .before .before .before .before .if1 in
+    let put-number = c .before .before .before .before .before .before .put-number in
+    number-more (given .args .v) (if1 .left) (put-number .ensures) (c .before .before .put-digit2 .ensures)
 
 pub +put-number-spec : {M : Type 1} → statement M
 +put-number-spec = close μ-put-number λ t. put-number-lts.spec (
