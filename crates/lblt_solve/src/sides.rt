@@ -1,4 +1,4 @@
-// The columns of `solve_mut`: four at a time, or row by row where the order is small and the columns are many.
+// The columns of `solve_mut`: few of them one by one; else four at a time, or row by row where the order is small and the columns are many.
 ghost use mathlib.Core.Path.{_≡_};
 ghost use Rattle.matrix.specs.Grid.{load};
 ghost use Rattle.matrix.specs.Layouts.{lower};
@@ -6,6 +6,7 @@ ghost use Rattle.matrix.specs.Columns.{eachColumn, Lined};
 ghost use Rattle.lblt_solve_one.specs.Column.{solveColumn};
 ghost use Rattle.lblt_solve_one.specs.inner.Engine.{Readable};
 use lblt_solve_four::solve_fours;
+use lblt_solve_one::solve_columns;
 use lblt_solve_rows::solve_rows;
 use matrix::Layout;
 
@@ -14,6 +15,10 @@ pub fn solve(y: Layout, a: &[f64], words: &[u32], b: &mut [f64], columns: usize)
     requires { ⌜ Lined (y .order) columns (now b) ⌝ }
     ensures { λ _. ⌜ now (b .exit) ≡ eachColumn (y .order) columns (solveColumn (y .order) (load (lower y) (now (a .entry))) (now (words .entry))) (now (b .entry)) ⌝ }
 {
+    if columns < 4 {
+        solve_columns(y, a, words, b, columns);
+        return;
+    }
     if y.order < 8 {
         if 2 * y.order < columns {
             solve_rows(y, a, words, b, columns);

@@ -1,10 +1,10 @@
-// `solve_mut` on one column of right-hand sides.
+// `solve_mut` on one column of right-hand sides, and on columns one by one.
 ghost use mathlib.Core.Path.{_≡_};
 ghost use Prim.Native.Nat.{_+_, _-_, _<_};
 ghost use lib.ListN.{length};
 ghost use Rattle.matrix.specs.Grid.{load};
 ghost use Rattle.matrix.specs.Layouts.{lower};
-ghost use Rattle.matrix.specs.Columns.{atColumn, Lined};
+ghost use Rattle.matrix.specs.Columns.{atColumn, eachColumn, Lined};
 ghost use Rattle.pivots.specs.Blocks.{rowsOf, forwards, backwards};
 ghost use Rattle.pivots.specs.inner.Block.{BlockAt, BlockBefore};
 ghost use Rattle.substitution_one.specs.inner.Sides.{Sides};
@@ -128,4 +128,16 @@ pub fn solve_at(y: Layout, a: &[f64], words: &[u32], b: &mut [f64], columns: usi
     let at = j * n;
     let end = at + n;
     solve_column(y, a, words, &mut b[at..end]);
+}
+
+pub fn solve_columns(y: Layout, a: &[f64], words: &[u32], b: &mut [f64], columns: usize)
+    requires { ⌜ Readable y (now a) (now words) ⌝ }
+    requires { ⌜ Lined (y .order) columns (now b) ⌝ }
+    ensures { λ _. ⌜ now (b .exit) ≡ eachColumn (y .order) columns (solveColumn (y .order) (load (lower y) (now (a .entry))) (now (words .entry))) (now (b .entry)) ⌝ }
+{
+    let mut j: usize = 0;
+    while j < columns {
+        solve_at(y, a, words, b, columns, j);
+        j += 1;
+    }
 }
