@@ -1,4 +1,5 @@
 pub mod Back
 pub mod Done
 pub mod Tested
+pub mod Tests
 pub mod Within

@@ -7,12 +7,12 @@ use Prim.Native.Nat.{ℕ, zero, suc, _+_, _≤_, _<_}
 use native.Mathlib.Numerals.{add-one}
 use native.Mathlib.Omega.{arith}
 use lib.Dec.{ltb}
-use lib.Ieee.{binary64, div}
 use borrow.Author.Tests.{lt-ltb, le-ltb, ltb-true, ltb-false}
 use Rattle.answer.specs.declared.Answer.the-variants.{Done}
 use Rattle.answer.specs.Number.{isDone}
 use Rattle.matrix.specs.Matrix.{Matrix, entry}
 use Rattle.matrix.specs.Loop.{for}
+use Rattle.matrix.specs.Rounded.{_⊘_}
 use Rattle.matrix.proofs.Loops.{for-none, for-more, for-same, for-join}
 use Rattle.matrix.proofs.Stores.{entry-row}
 use Rattle.cholesky.specs.Run.{Rule, Outcome, updates, below, continued, judgedColumn, worked, factorColumn, started, factorColumns}
@@ -111,7 +111,7 @@ module _ (ρ : Rule) (m n : ℕ) (A M : Matrix) (le : m ≤ n) where
           let apart : i ≡ j → ⊥ = λ e. omega arith in
           ap (λ (N : Matrix). N i j) two-cells
           ∙ below-in m j (updates m j W) i from
-          ∙ ap₂ (div binary64)
+          ∙ ap₂ _⊘_
           (updates-in m j W i from
           ∙ updated-agree W U j j i (so .new i j (omega arith) from under) (λ c h. so .new i c (omega arith) from under) row
           ∙ sym (updates-in j j U i (omega arith))

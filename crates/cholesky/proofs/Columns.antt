@@ -7,18 +7,19 @@ use native.Mathlib.Nat.{mul-le-mul-right, suc-mul}
 use native.Mathlib.Numerals.{add-one}
 use native.Mathlib.Omega.{arith}
 use lib.ListN.{length, getD}
-use lib.Ieee.{Float, nan, binary64, add, mul, neg, div}
+use lib.Ieee.{Float, nan, neg}
 use Rattle.matrix.specs.declared.Layout.{Layout}
 use Rattle.matrix.specs.Matrix.{Matrix}
 use Rattle.matrix.specs.Loop.{for}
 use Rattle.matrix.specs.Grid.{Sound, load}
 use Rattle.matrix.specs.Layouts.{Roomy, startOf, lower, Laid}
+use Rattle.matrix.specs.Rounded.{_⊕_, _⊗_, _⊘_}
 use Rattle.matrix.proofs.Loops.{for-none, for-same, for-one, for-four, for-join}
 use Rattle.matrix.proofs.Places.{lower-at, lower-within}
 use Rattle.strips.specs.declared.Source.{Source}
 use Rattle.cholesky.specs.Column.{less, updated, divided, part}
 use Rattle.cholesky.specs.Run.{updates, below}
-use Rattle.strips.specs.Strip.{rowAt, Strip, Elsewhere, plus, axpyOf, axpy4Of, ratioOf}
+use Rattle.strips.specs.inner.Strip.{rowAt, Strip, Elsewhere, plus, axpyOf, axpy4Of, ratioOf}
 use Rattle.cholesky.specs.Leaves.{Leaves}
 use Rattle.cholesky.specs.inner.Engine.{Reach, Sourced, lessColumns, TakenOff}
 use Rattle.cholesky.proofs.Parts.{Where, within, above, beside, where?, part-in, part-above, part-beside, Agree, agree-same, part-agree, leaves-agree, leaves-none, leaves-as, leaves-then, strip-leaves}
@@ -53,7 +54,7 @@ module _ (y : Layout) (j : ℕ) (l₀ : List Float) where
   plus-less : (k : ℕ) (s : Source) → k < j → Sourced y l₀ j k s → (i : ℕ) (x x' : Float) → j ≤ i → i < y .order → x ≡ x' → plus l₀ s i x ≡ less (load (lower y) l₀) i j k x'
   unfolding plus less
   plus-less k s before is i x x' a b e =
-      ap₂ (add binary64) e (ap₂ (mul binary64) (is .scale) (ap (λ (s : ℕ). getD l₀ (i + s) nan) (is .start) ∙ sym (lower-at y l₀ i k (omega arith) b)))
+      ap₂ _⊕_ e (ap₂ _⊗_ (is .scale) (ap (λ (s : ℕ). getD l₀ (i + s) nan) (is .start) ∙ sym (lower-at y l₀ i k (omega arith) b)))
 
 module _ {y : Layout} {r j : ℕ} {l₀ l : List Float} (laid : Laid y l₀) where
   -- a strip of column j whose rows are v
@@ -86,11 +87,11 @@ module _ {y : Layout} {r j : ℕ} {l₀ l : List Float} (laid : Laid y l₀) whe
       → Strip at r (y .order) (ratioOf l₀ at d) l₀ l → Leaves y l₀ l (below r j (load (lower y) l₀))
   unfolding ratioOf below divided
   divide-leaves {at} {d} from at-is d-is strip =
-      part-leaves from at (ratioOf l₀ at d) (divided (load (lower y) l₀) j (load (lower y) l₀ j j)) at-is strip (λ i a b. ap₂ (div binary64) (given y j l₀ at at-is i a b) d-is)
+      part-leaves from at (ratioOf l₀ at d) (divided (load (lower y) l₀) j (load (lower y) l₀ j j)) at-is strip (λ i a b. ap₂ _⊘_ (given y j l₀ at at-is i a b) d-is)
 
 less-same : (M N : Matrix) (i j k : ℕ) (x : Float) → M j k ≡ N j k → M i k ≡ N i k → less M i j k x ≡ less N i j k x
 unfolding less
-less-same M N i j k x pivot row = ap₂ (λ (p q : Float). add binary64 x (mul binary64 (neg p) q)) pivot row
+less-same M N i j k x pivot row = ap₂ (λ (p q : Float). x ⊕ neg p ⊗ q) pivot row
 
 -- the first k columns are taken off
 pub record Updating (y : Layout) (r j : ℕ) (l₀ : List Float) (k : ℕ) (l : List Float) : Type 0 where

@@ -5,13 +5,14 @@ use mathlib.Core.Bool.{Bool, true, false, cond}
 use Prim.Native.Nat.{ℕ, _+_, _≤_, _<_}
 use native.Mathlib.Omega.{arith}
 use lib.Dec.{ltb}
-use lib.Ieee.{Float, binary64, div}
+use lib.Ieee.{Float}
 use borrow.Author.Tests.{ltb-true}
 use Rattle.answer.specs.declared.Answer.{Answer}
 use Rattle.answer.specs.declared.Answer.the-variants.{Done}
 use Rattle.answer.specs.Number.{isDone}
 use Rattle.matrix.specs.Matrix.{Matrix, entry}
 use Rattle.matrix.specs.Loop.{for}
+use Rattle.matrix.specs.Rounded.{_⊘_}
 use Rattle.matrix.proofs.Loops.{for-related, for-keeps}
 use Rattle.cholesky.specs.Column.{updated, divided}
 use Rattle.cholesky.specs.Run.{Rule, Outcome, updates, below, continued, judgedColumn, worked, factorColumn}
@@ -31,7 +32,7 @@ pub below-agree : {n : ℕ} {M N : Matrix} (r j : ℕ) → j ≤ r → Agree n M
 unfolding below divided
 below-agree {n} {M} {N} r j le same =
     part-agree r j (divided M j (M j j)) (divided N j (N j j)) same
-    (λ i from upto. ap₂ (div binary64) (same .at i j (omega arith) upto) (same .at j j (omega arith) (omega arith)))
+    (λ i from upto. ap₂ _⊘_ (same .at i j (omega arith) upto) (same .at j j (omega arith) (omega arith)))
 
 pub judged-like : {n : ℕ} {M N : Matrix} (ρ : Rule) (j : ℕ) → j < n → Agree n M N → Like n (judgedColumn ρ j M) (judgedColumn ρ j N)
 unfolding judgedColumn

@@ -3,25 +3,25 @@
 use mathlib.Core.Path.{_≡_, refl, sym, _∙_, ap, ap₂, subst}
 use mathlib.Core.Bool.{Bool, true, false, cond, _&&_}
 use mathlib.Core.List.{List}
-use mathlib.Core.Logic.{_⊎_, inl, inr, ⊎-elim}
-use Prim.Native.Nat.{ℕ, _+_, _≤_, _<_}
+use Prim.Native.Nat.{ℕ, _≤_, _<_}
 use native.Mathlib.Omega.{arith}
 use lib.Dec.{T, eqb, leb, ltb, leb→le, ltb→lt}
-use lib.ListN.{getD}
-use lib.Ieee.{Float, nan, binary64, add, mul, neg}
+use lib.Ieee.{Float, neg}
 use lib.Ieee.Fits.{and-l, and-r}
 use borrow.Author.Tests.{le-leb, lt-leb, leb-true, leb-false, eq-eqb, eqb-true, eqb-false, ne-eqb}
 use Rattle.matrix.specs.declared.Layout.{Layout}
 use Rattle.matrix.specs.Matrix.{Matrix, entry}
 use Rattle.matrix.specs.Loop.{for}
 use Rattle.matrix.specs.Grid.{Sound, load, mask}
-use Rattle.matrix.specs.Layouts.{startOf, inLower, placeIn, lower, Laid}
+use Rattle.matrix.specs.Layouts.{startOf, inLower, lower, Laid}
+use Rattle.matrix.specs.Rounded.{_⊕_, _⊗_}
 use Rattle.matrix.proofs.Grids.{load-in, load-is, mask-in, same-cells}
 use Rattle.matrix.proofs.Loops.{for-same}
-use Rattle.matrix.proofs.Places.{in-lower}
+use Rattle.matrix.proofs.Places.{in-lower, lower-place}
 use Rattle.matrix.proofs.Sizes.{laid-after}
 use Rattle.cholesky.specs.Column.{less, updated, part}
-use Rattle.strips.specs.Strip.{Strip}
+use Rattle.strips.specs.inner.Strip.{Strip}
+use Rattle.strips.proofs.Strips.{strip-holds}
 use Rattle.cholesky.specs.Leaves.{Leaves}
 
 -- ---- a part replaced
@@ -77,7 +77,7 @@ part-agree {n} {M} {N} r j v w same each = record { at = λ i c le lt. cell i c 
 pub updated-agree : (M N : Matrix) (j k i : ℕ) → M i j ≡ N i j → ((c : ℕ) → c < k → M i c ≡ N i c) → ((c : ℕ) → c < k → M j c ≡ N j c) → updated M j k i ≡ updated N j k i
 unfolding updated less
 updated-agree M N j k i given row pivot =
-    for-same 0 k (less M i j) (less N i j) (M i j) (λ c x from upto. ap₂ (λ (p q : Float). add binary64 x (mul binary64 (neg p) q)) (pivot c upto) (row c upto))
+    for-same 0 k (less M i j) (less N i j) (M i j) (λ c x from upto. ap₂ (λ (p q : Float). x ⊕ neg p ⊗ q) (pivot c upto) (row c upto))
     ∙ ap (for 0 k (less N i j)) given
 
 pub entry-agree : {n : ℕ} {M N : Matrix} (i j : ℕ) {v w : Float} → Agree n M N → v ≡ w → Agree n (entry M i j v) (entry N i j w)
@@ -130,32 +130,16 @@ leaves-then {y} before step same = record {
   };
 }
 
-module _ (y : Layout) where
-  -- a strip of column j
-  pub strip-leaves : (r j : ℕ) (v : ℕ → Float) (l₀ l : List Float) → Sound (lower y) l₀ → j ≤ r → Strip (startOf y j) r (y .order) v l₀ l
-      → Leaves y l₀ l (part r j v (load (lower y) l₀))
-  unfolding lower placeIn
-  strip-leaves r j v l₀ l good from strip = record {
-    holds = record {
-      sound = record { fair = good .fair; long = strip .long ∙ good .long };
-      cells = load-is (lower y) l (part r j v (load (lower y) l₀)) (λ i c t. at i c t (where? r j i c));
-      kept = λ p free. strip .outside p (λ i a b e. free i j (in-lower y i j (omega arith) b) e);
-    };
-  }
-    where
-      other : (i c : ℕ) → T (lower y .inside i c) → ((i < r) ⊎ (c ≡ j → ⊥)) → getD l (i + startOf y c) nan ≡ load (lower y) l₀ i c
-      other i c t off =
-          strip .outside (i + startOf y c)
-          (λ k a b e.
-          let here : T (lower y .inside k j) = in-lower y k j (omega arith) b in
-          let row : i ≡ k = good .fair .row i c k j t here e in
-          let column : c ≡ j = good .fair .column i c k j t here e in
-          ⊎-elim (λ (h : i < r). omega arith) (λ h. h column) off)
-          ∙ sym (load-in (lower y) l₀ i c t)
-
-      at : (i c : ℕ) → T (lower y .inside i c) → Where r j i c → getD l (i + startOf y c) nan ≡ part r j v (load (lower y) l₀) i c
-      at i c t (within a e) =
-          subst (λ (c : ℕ). getD l (i + startOf y c) nan ≡ part r j v (load (lower y) l₀) i c) (sym e)
-          (strip .inside i a (entry-low y i c t) ∙ sym (part-in r j v (load (lower y) l₀) i a))
-      at i c t (above h) = other i c t (inl h) ∙ sym (part-above r j v (load (lower y) l₀) i c h)
-      at i c t (beside h) = other i c t (inr h) ∙ sym (part-beside r j v (load (lower y) l₀) i c h)
+-- a strip of column j
+pub strip-leaves : (y : Layout) (r j : ℕ) (v : ℕ → Float) (l₀ l : List Float) → Sound (lower y) l₀ → j ≤ r → Strip (startOf y j) r (y .order) v l₀ l
+    → Leaves y l₀ l (part r j v (load (lower y) l₀))
+strip-leaves y r j v l₀ l good from strip = record {
+  holds =
+      strip-holds j good (λ i a b. in-lower y i j (omega arith) b) (λ i a b. lower-place y i j)
+      (part r j v (load (lower y) l₀)) (λ i a b. sym (part-in r j v (load (lower y) l₀) i a)) (λ i c t off. sym (kept i c t off (where? r j i c))) strip;
+}
+  where
+    kept : (i c : ℕ) → T (lower y .inside i c) → (r ≤ i → i < y .order → c ≡ j → ⊥) → Where r j i c → part r j v (load (lower y) l₀) i c ≡ load (lower y) l₀ i c
+    kept i c t off (within a e) = absurd (off a (entry-low y i c t) e)
+    kept i c t off (above h) = part-above r j v (load (lower y) l₀) i c h
+    kept i c t off (beside h) = part-beside r j v (load (lower y) l₀) i c h

@@ -9,14 +9,14 @@ use lib.ListN.{length, getD}
 use lib.Ieee.{Float, nan}
 use borrow.Author.Tests.{le-leb, lt-leb}
 use Rattle.matrix.specs.declared.Layout.{Layout}
-use Rattle.matrix.specs.Matrix.{Matrix}
+use Rattle.matrix.specs.Matrix.{Matrix, allZero}
 use Rattle.matrix.specs.Grid.{Holds, load, mask}
 use Rattle.matrix.specs.Layouts.{Roomy, startOf, placeIn, lower, strict, square, Laid, Fills}
 use Rattle.matrix.proofs.Grids.{load-is}
 use Rattle.matrix.proofs.Places.{digits-column, digits-within, strict-low, strict-left, in-strict, strict-fair, lower-at}
 use Rattle.matrix.proofs.Squares.{fills-each}
-use Rattle.strips.specs.Strip.{Strip, rowAt, zeroAt}
-use Rattle.cholesky.specs.Readers.{triangle, zeroes}
+use Rattle.strips.specs.inner.Strip.{Strip, rowAt, zeroAt}
+use Rattle.cholesky.specs.Readers.{triangle}
 use Rattle.cholesky.specs.inner.Engine.{down}
 use Rattle.strips.proofs.Strips.{strip-as, strip-join}
 
@@ -62,7 +62,7 @@ filling-all {n} {N} {j} {l} f past = fills-each n l N (f .long) (λ i c row colu
 pub record Unpacking (y : Layout) (l₀ : List Float) (j : ℕ) (l : List Float) : Type 0 where
   pub upto : j ≤ y .order
   pub long : length l ≡ length l₀
-  pub each : (i c : ℕ) → i < c → c < j → getD l (i + startOf y c) nan ≡ zeroes i c
+  pub each : (i c : ℕ) → i < c → c < j → getD l (i + startOf y c) nan ≡ allZero i c
   pub kept : (p : ℕ) → ((i c : ℕ) → i < c → c < j → p ≡ i + startOf y c → ⊥) → getD l p nan ≡ getD l₀ p nan
 
 pub unpacking-none : {y : Layout} {l : List Float} → Unpacking y l 0 l
@@ -80,20 +80,20 @@ unpacking-more {y} {l₀} {j} {l} {l'} s f roomy lt is strip' = record {
     strip : Strip (startOf y j) 0 j zeroAt l l'
     strip = subst (λ (s : ℕ). Strip s 0 j zeroAt l l') is strip'
 
-    each : (i c : ℕ) → i < c → c < j + 1 → getD l' (i + startOf y c) nan ≡ zeroes i c
+    each : (i c : ℕ) → i < c → c < j + 1 → getD l' (i + startOf y c) nan ≡ allZero i c
     each i c row column =
         ⊎-elim
-        (λ (same : c ≡ j). subst (λ (c : ℕ). getD l' (i + startOf y c) nan ≡ zeroes i c) (sym same) (strip .inside i (omega arith) (omega arith)))
+        (λ (same : c ≡ j). subst (λ (c : ℕ). getD l' (i + startOf y c) nan ≡ allZero i c) (sym same) (strip .inside i (omega arith) (omega arith)))
         (λ (less : c < j).
         strip .outside (i + startOf y c)
         (λ k low under e. let same : c ≡ j = digits-column (y .room) i c k j (omega arith) (omega arith) e in omega arith)
         ∙ f .each i c row less)
         (eq-or-lt-of-le {n = c} {m = j} (omega arith))
 
-pub unpacking-all : {y : Layout} {l₀ : List Float} {j : ℕ} {l : List Float} → Unpacking y l₀ j l → y .order ≤ j → Laid y l₀ → Holds (strict y) l₀ l (mask (strict y) zeroes)
+pub unpacking-all : {y : Layout} {l₀ : List Float} {j : ℕ} {l : List Float} → Unpacking y l₀ j l → y .order ≤ j → Laid y l₀ → Holds (strict y) l₀ l (mask (strict y) allZero)
 unfolding strict lower placeIn
 unpacking-all {y} {l₀} {j} {l} f past laid = record {
   sound = record { fair = strict-fair y (laid .roomy); long = f .long ∙ laid .sound .long };
-  cells = load-is (strict y) l zeroes (λ i c t. let b = strict-left y i c t in f .each i c (strict-low y i c t) (omega arith));
+  cells = load-is (strict y) l allZero (λ i c t. let b = strict-left y i c t in f .each i c (strict-low y i c t) (omega arith));
   kept = λ p free. f .kept p (λ i c row column e. free i c (in-strict y i c row (let h = f .upto in omega arith)) e);
 }

@@ -14,6 +14,7 @@ use Rattle.answer.specs.Refusals.{tested}
 use Rattle.answer.proofs.Done.{value-alike}
 use Rattle.answer.proofs.Tested.{here, tested-all, tested-at, tested-first, leaving-done, leaving-refused, leaving-alike}
 use Rattle.matrix.specs.declared.Layout.{Layout}
+use Rattle.matrix.specs.Matrix.{allZero}
 use Rattle.matrix.specs.Grid.{Holds, load, mask}
 use Rattle.matrix.specs.Layouts.{lower, strict, square, Fills}
 use Rattle.matrix.specs.Rounded.{_⊗_, plusZero}
@@ -21,7 +22,7 @@ use Rattle.matrix.specs.Sizes.{sizeTests, Fits}
 use Rattle.matrix.proofs.Grids.{holds-unique}
 use Rattle.matrix.proofs.Sizes.{fits-pass, fits-then}
 use Rattle.matrix.proofs.Squares.{fills-unique}
-use Rattle.cholesky.specs.Readers.{productOf, timesItself, CholeskyDetermined, triangle, Copied, zeroes, Unpacked}
+use Rattle.cholesky.specs.Readers.{productOf, timesItself, CholeskyDetermined, triangle, Copied, Unpacked}
 
 module _ {y : Layout} where
   pub determined-unfit : {l : List Float} {x : Answer} → x ≡ tested (sizeTests y 0 (length l)) Done → isDone x ≡ false → CholeskyDetermined y l (record { answer = x; value = plusZero })
@@ -43,7 +44,7 @@ module _ {y : Layout} where
   pub unpacked-unfit : {l : List Float} {x : Answer} → x ≡ tested (sizeTests y 0 (length l)) Done → isDone x ≡ false → Unpacked y l l x
   unpacked-unfit is refused = record { answer = is; left = leaving-refused refused refl }
 
-  pub unpacked-fit : {l₀ l : List Float} → Fits y 0 (length l₀) → Holds (strict y) l₀ l (mask (strict y) zeroes) → Unpacked y l₀ l Done
+  pub unpacked-fit : {l₀ l : List Float} → Fits y 0 (length l₀) → Holds (strict y) l₀ l (mask (strict y) allZero) → Unpacked y l₀ l Done
   unpacked-fit {l₀} f held = record { answer = sym (fits-pass y 0 (length l₀) f Done); left = leaving-done refl held }
 
   -- ---- of the layout under its other name

@@ -18,7 +18,7 @@ use Rattle.matrix.specs.Grid.{load}
 use Rattle.matrix.specs.Layouts.{lower}
 use Rattle.matrix.specs.Rounded.{plusZero}
 use Rattle.matrix.specs.Sizes.{Fits}
-use Rattle.matrix.proofs.Tests.{either}
+use Rattle.answer.proofs.Tests.{either}
 use Rattle.matrix.proofs.Loops.{for-keeps}
 use Rattle.cholesky.specs.Run.{Rule, Outcome, updates, continued, judgedColumn, worked, factorColumn, started, factorColumns}
 use Rattle.cholesky.specs.Crate.{positive, crateRule}

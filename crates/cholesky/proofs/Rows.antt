@@ -5,12 +5,13 @@ use mathlib.Core.Logic.{_⊎_, inl, inr}
 use Prim.Native.Nat.{ℕ, _+_, _≤_, _<_}
 use native.Mathlib.Omega.{arith}
 use lib.Dec.{ltb}
-use lib.Ieee.{Float, binary64, div}
+use lib.Ieee.{Float}
 use borrow.Author.Tests.{ltb-true}
 use Rattle.answer.specs.Number.{isDone}
 use Rattle.matrix.specs.Matrix.{Matrix, entry}
 use Rattle.matrix.specs.Loop.{for}
-use Rattle.matrix.proofs.Tests.{either}
+use Rattle.matrix.specs.Rounded.{_⊘_}
+use Rattle.answer.proofs.Tests.{either}
 use Rattle.matrix.proofs.Loops.{for-still}
 use Rattle.matrix.proofs.Stores.{entry-skip}
 use Rattle.cholesky.specs.Column.{updated, divided, part}
@@ -28,7 +29,7 @@ module _ (r j : ℕ) (M : Matrix) (i : ℕ) where
   unfolding updates
   updates-above c h = part-above r j (updated M j j) M i c h
 
-  pub below-in : r ≤ i → below r j M i j ≡ div binary64 (M i j) (M j j)
+  pub below-in : r ≤ i → below r j M i j ≡ M i j ⊘ M j j
   unfolding below divided
   below-in from = part-in r j (divided M j (M j j)) M i from
 

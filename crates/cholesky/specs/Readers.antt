@@ -12,7 +12,7 @@ use Rattle.answer.specs.declared.Valued.{Valued}
 use Rattle.answer.specs.Number.{isDone}
 use Rattle.answer.specs.Refusals.{Test, _otherwise_, tested, Leaving}
 use Rattle.matrix.specs.declared.Layout.{Layout}
-use Rattle.matrix.specs.Matrix.{Matrix}
+use Rattle.matrix.specs.Matrix.{Matrix, allZero}
 use Rattle.matrix.specs.Loop.{for}
 use Rattle.matrix.specs.Grid.{Holds, load, mask}
 use Rattle.matrix.specs.Layouts.{lower, strict, square, Fills}
@@ -52,9 +52,6 @@ pub record Copied (y : Layout) (a l₀ l : List Float) (r : Answer) : Type 0 whe
 
 -- ---- unpack
 
-abbrev pub zeroes : Matrix
-zeroes i j = plusZero
-
 pub record Unpacked (y : Layout) (l₀ l : List Float) (r : Answer) : Type 0 where
   pub answer : r ≡ tested (sizeTests y 0 (length l₀)) Done
-  pub left : Leaving r (Holds (strict y) l₀ l (mask (strict y) zeroes)) (l ≡ l₀)
+  pub left : Leaving r (Holds (strict y) l₀ l (mask (strict y) allZero)) (l ≡ l₀)

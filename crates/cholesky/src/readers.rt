@@ -2,10 +2,11 @@
 ghost use mathlib.Core.Path.{_≡_};
 ghost use Prim.Native.Nat.{_*_, _<_};
 ghost use lib.ListN.{length};
+ghost use Rattle.matrix.specs.Matrix.{allZero};
 ghost use Rattle.matrix.specs.Grid.{Holds, load, mask};
 ghost use Rattle.matrix.specs.Layouts.{lower, strict, square, Laid, Fills};
-ghost use Rattle.strips.specs.Strip.{Strip};
-ghost use Rattle.cholesky.specs.Readers.{productOf, triangle, zeroes};
+ghost use Rattle.strips.specs.inner.Strip.{Strip};
+ghost use Rattle.cholesky.specs.Readers.{productOf, triangle};
 ghost use Rattle.cholesky.specs.inner.Engine.{down};
 use matrix::Layout;
 
@@ -27,7 +28,7 @@ pub fn diagonal(y: Layout, a: &[f64]) -> f64
 // The strict upper part becomes +0.
 pub fn clear_above(y: Layout, a: &mut [f64])
     requires { ⌜ Laid y (now a) ⌝ }
-    ensures { λ _. ⌜ Holds (strict y) (now (a .entry)) (now (a .exit)) (mask (strict y) zeroes) ⌝ }
+    ensures { λ _. ⌜ Holds (strict y) (now (a .entry)) (now (a .exit)) (mask (strict y) allZero) ⌝ }
 {
     let n = y.order;
     let mut j: usize = 0;

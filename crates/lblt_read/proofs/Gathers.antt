@@ -1,28 +1,35 @@
 -- Loops over the rows of a matrix, and over the columns that are added to one column.
 --     rows-loop       a loop whose turn r changes row r alone, from row r alone
---     identity-loop, swap-loop, plus-loop     the three loops of that kind
---     gather-loop     later columns added to column k one after the other
+--     identity-loop, swap-loop     the two loops of that kind
+--     adding-none, adding-more, adding-all     later columns added to column k one after the other
 use mathlib.Core.Bool.{Bool, true, false, cond, _&&_}
 use mathlib.Core.List.{List}
-use mathlib.Core.Path.{_≡_, refl, sym, ap, fun-ext, _∙_}
-use Prim.Native.Nat.{ℕ, zero, suc, _+_, _-_, _<_, _≤_}
+use mathlib.Core.Logic.{inr}
+use mathlib.Core.Path.{_≡_, refl, sym, ap, ap₂, subst, fun-ext, _∙_}
+use Prim.Native.Nat.{ℕ, zero, suc, _+_, _-_, _*_, _<_, _≤_}
 use native.Mathlib.Numerals.{add-one}
 use native.Mathlib.Omega.{arith}
-use borrow.Author.Tests.{eq-eqb, ne-eqb, eqb-true, eqb-false, lt-ltb, le-ltb, ltb-true, ltb-false}
-use lib.Dec.{eqb, ltb}
-use lib.ListN.{getD}
-use lib.Ieee.{Float, nan}
-use Rattle.matrix.specs.Matrix.{Matrix, entry, exchange}
+use borrow.Author.Tests.{eq-eqb, eqb-true, eqb-false, lt-ltb, le-ltb, ltb-true, ltb-false}
+use lib.Dec.{T, eqb, ltb}
+use lib.ListN.{length, getD}
+use lib.Ieee.{Float, nan, binary64}
+use Rattle.matrix.specs.Matrix.{Matrix, allZero, entry, exchange}
 use Rattle.matrix.specs.Loop.{for}
 use Rattle.matrix.specs.declared.Layout.{Layout}
-use Rattle.matrix.specs.Grid.{load, mask}
+use Rattle.matrix.specs.Grid.{load, mask, Holds}
 use Rattle.matrix.specs.Layouts.{lower, startOf, square, inSquare}
 use Rattle.matrix.proofs.Loops.{for-none, for-more, for-same}
+use Rattle.matrix.proofs.Grids.{holds-as}
+use Rattle.matrix.proofs.Places.{digits-within, in-square, square-at, square-place}
+use Rattle.matrix.proofs.Products.{mul-commutes}
+use Rattle.matrix.proofs.Squares.{square-sound}
 use Rattle.matrix.specs.Rounded.{_⊕_, _⊗_, plusZero, one}
-use Rattle.lblt_read.specs.Diagonal.{allZero}
+use Rattle.strips.specs.declared.Source.{Source}
+use Rattle.strips.specs.inner.Strip.{rowAt, Strip, Elsewhere, plus, axpyOf, Gathered}
+use Rattle.strips.proofs.Strips.{strip-holds}
+use Rattle.strips.proofs.Gathering.{gathered-none, gathered-axpy, gathered-then}
 use Rattle.substitution_one.proofs.Offsets.{offset-at}
 use Rattle.lblt_read.specs.Permuted.{identity, swapColumns, gatherProduct, gatherColumn}
-use Rattle.lblt_read.specs.inner.Engine.{plusColumn}
 
 abbrev Row : Type 0
 Row = ℕ → Float
@@ -82,7 +89,7 @@ abbrev pub putOne : ℕ → Matrix → Matrix
 putOne k M = entry M k k one
 
 pub identity-loop : (n : ℕ) → for 0 n putOne (mask (square n) allZero) ≡ mask (square n) identity
-unfolding mask square inSquare allZero identity
+unfolding mask square inSquare identity
 identity-loop n =
     rows-loop (λ r v c. cond (eqb c r) one (v c)) putOne n (mask (square n) allZero) (mask (square n) identity)
     (λ r i j L. stored r r one L i j)
@@ -125,104 +132,91 @@ swap-loop n p q M =
     end i j true e = rw e
     end i j false e = rw e
 
--- ---- a column plus another times x
-
-abbrev pub plusRow : ℕ → ℕ → Float → ℕ → Matrix → Matrix
-plusRow k i x row L = entry L row k (L row k ⊕ L row i ⊗ x)
-
-pub plus-loop : (n k i : ℕ) (x : Float) (M : Matrix) → for 0 n (plusRow k i x) M ≡ plusColumn n k i x M
-unfolding plusColumn
-plus-loop n k i x M =
-    rows-loop (λ r v c. cond (eqb c k) (v k ⊕ v i ⊗ x) (v c)) (plusRow k i x) n M (plusColumn n k i x M)
-    (λ r s j L. stored r k (L r k ⊕ L r i ⊗ x) L s j)
-    (λ s j. end s j (ltb s n) refl)
-  where
-    end : (s j : ℕ) (t : Bool) → ltb s n ≡ t
-        → cond (ltb s n) (λ c. cond (eqb c k) (M s k ⊕ M s i ⊗ x) (M s c)) (M s) j
-        ≡ cond (ltb s n && eqb j k) (M s k ⊕ M s i ⊗ x) (M s j)
-    end s j true e = rw e
-    end s j false e = rw e
-
 -- ---- later columns added to column k
 
-module _ (n : ℕ) (A : Matrix) (k from : ℕ) (below : k < from) (M : Matrix) where
-  abbrev plusNext : ℕ → Matrix → Matrix
-  plusNext i = plusColumn n k i (A i k)
+-- column i, and what it is multiplied by: a(i, k), where column k of a starts at `start`
+abbrev pub columnTimes : ℕ → List Float → ℕ → ℕ → Source
+columnTimes n a start i = record { start = i * n; scale = getD a (i + start) nan }
 
-  Q : ℕ → Matrix
-  Q d = for from (from + d) plusNext M
+-- it stands behind column k
+pub column-elsewhere : (n k i : ℕ) {l : List Float} (s : Source) → s .start ≡ i * n → length l ≡ n * n → k < i → i < n → Elsewhere 0 n (k * n) l s
+column-elsewhere n k i s starts long behind below = record {
+  within = omega (arith, digits-within n n (n - 1) i (omega arith) below);
+  beside = inr (omega (arith, digits-within n i (n - 1) k (omega arith) behind));
+}
 
-  -- what column k holds in row r after d columns
-  chain : ℕ → ℕ → Float
-  chain d r = for from (from + d) (gatherProduct A M k r) (M r k)
+-- the columns from `from` up to i are added
+pub record Adding (n k start from : ℕ) (a l₀ : List Float) (i : ℕ) (l : List Float) : Type 0 where
+  pub upto : i ≤ n
+  pub columns : Gathered (k * n) 0 n (columnTimes n a start) from l₀ i l
 
-  abbrev Gathered : ℕ → ℕ → ℕ → Type 0
-  Gathered d r c = Q d r c ≡ cond (ltb r n && eqb c k) (chain d r) (M r c)
+pub adding-none : {n k start from : ℕ} {a l : List Float} → from ≤ n → Adding n k start from a l from l
+adding-none within = record { upto = within; columns = gathered-none }
 
-  start-with : (r c : ℕ) → Gathered zero r c
-  unfolding Q chain
-  start-with r c =
-      ap (λ (N : Matrix). N r c) (ap (λ (m : ℕ). for from m plusNext M) none ∙ for-none from plusNext M)
-      ∙ at (ltb r n) (eqb c k) refl
+pub adding-more : {n k start from : ℕ} {a l₀ : List Float} {i : ℕ} {l l' : List Float} → Adding n k start from a l₀ i l → length l₀ ≡ n * n → k < from → i < n
+    → Strip (k * n) 0 n (axpyOf l (k * n) (columnTimes n a start i)) l l' → Adding n k start from a l₀ (i + 1) l'
+adding-more {n} {k} {start} {from} {a} {l₀} {i} w long behind below step = record {
+  upto = omega arith;
+  columns =
+      let first = w .columns .from in
+      gathered-then (w .columns) (gathered-axpy refl step) (λ c low high. refl) (λ c low high. column-elsewhere n k c (columnTimes n a start c) refl long (omega arith) (omega arith));
+}
+
+module _ (y : Layout) (a : List Float) (k start from : ℕ) (starts : start ≡ startOf y k) (behind : k < from) (within : from ≤ y .order) (l₀ : List Float) where
+  abbrev n : ℕ
+  n = y .order
+
+  abbrev A : Matrix
+  A = load (lower y) a
+
+  abbrev L : Matrix
+  L = load (square n) l₀
+
+  gathers : Matrix
+  gathers = gatherColumn n A k from L
+
+  column : k < n
+  column = omega arith
+
+  written : (i : ℕ) → 0 ≤ i → i < n → for from n (λ c. plus l₀ (columnTimes n a start c) i) (rowAt l₀ (k * n) i) ≡ gathers i k
+  unfolding gathers gatherColumn gatherProduct plus
+  written i low row =
+      rw (lt-ltb i n row, eq-eqb k k refl)
+      (for-same from n (λ c. plus l₀ (columnTimes n a start c) i) (gatherProduct A L k i) (rowAt l₀ (k * n) i) (λ c x after upto.
+      ap (λ (z : Float). x ⊕ z)
+      (mul-commutes binary64 (getD a (c + start) nan) (rowAt l₀ (c * n) i)
+      ∙ ap₂ (λ (u v : Float). u ⊗ v) (sym (square-at n l₀ i c row upto)) (offset-at y a k c start starts (omega arith) upto)))
+      ∙ ap (for from n (gatherProduct A L k i)) (sym (square-at n l₀ i k row column)))
+
+  kept : (i c : ℕ) → T (square n .inside i c) → (0 ≤ i → i < n → c ≡ k → ⊥) → L i c ≡ gathers i c
+  unfolding gathers gatherColumn
+  kept i c t off = at (ltb i n) (eqb c k) refl refl
     where
-      none : from + zero ≡ from
-      none = omega arith
+      at : (p q : Bool) → ltb i n ≡ p → eqb c k ≡ q → L i c ≡ cond (ltb i n && eqb c k) (for from n (gatherProduct A L k i) (L i k)) (L i c)
+      at true true e f = absurd (off (omega arith) (ltb-true i n e) (eqb-true c k f))
+      at true false e f = rw (e, f)
+      at false q e f = rw e
 
-      at : (a b : Bool) → eqb c k ≡ b → M r c ≡ cond (a && b) (for from (from + zero) (gatherProduct A M k r) (M r k)) (M r c)
-      at true true e =
-          let same : c ≡ k = eqb-true c k e in
-          ap (M r) same ∙ sym (ap (λ (m : ℕ). for from m (gatherProduct A M k r) (M r k)) none ∙ for-none from (gatherProduct A M k r) (M r k))
-      at true false e = refl
-      at false b e = refl
-
-  chain-more : (d r : ℕ) → chain (suc d) r ≡ gatherProduct A M k r (from + d) (chain d r)
-  unfolding chain
-  chain-more d r =
-      ap (λ (m : ℕ). for from m (gatherProduct A M k r) (M r k)) (let next : from + suc d ≡ from + d + 1 = omega arith in next)
-      ∙ for-more from (from + d) (gatherProduct A M k r) (M r k) (omega arith)
-
-  turn : (d r c : ℕ) → Gathered d r k → Gathered d r (from + d) → Gathered d r c → plusNext (from + d) (Q d) r c ≡ cond (ltb r n && eqb c k) (chain (suc d) r) (M r c)
-  unfolding plusColumn gatherProduct
-  turn d r c at-k at-i at-c = at (ltb r n) (eqb c k) refl refl
+  -- nothing stands outside
+  outside : mask (square n) gathers ≡ gathers
+  unfolding gathers gatherColumn mask load square inSquare
+  outside = fun-ext (λ i. fun-ext (λ c. at i c (ltb i n) (ltb c n) (eqb c k) refl refl refl))
     where
-      other : eqb (from + d) k ≡ false
-      other = ne-eqb (from + d) k (λ (e : from + d ≡ k). omega arith)
+      at : (i c : ℕ) (p q r : Bool) → ltb i n ≡ p → ltb c n ≡ q → eqb c k ≡ r → mask (square n) gathers i c ≡ gathers i c
+      at i c false q r e f h = rw e
+      at i c true true r e f h = rw (e, f)
+      at i c true false true e f h =
+          let past : n ≤ c = ltb-false c n f in
+          let same : c ≡ k = eqb-true c k h in
+          absurd (omega arith)
+      at i c true false false e f h = rw (e, f, h)
 
-      at : (a b : Bool) → ltb r n ≡ a → eqb c k ≡ b
-          → cond (ltb r n && eqb c k) (Q d r k ⊕ Q d r (from + d) ⊗ A (from + d) k) (Q d r c) ≡ cond (ltb r n && eqb c k) (chain (suc d) r) (M r c)
-      at true true e f =
-          let x : Q d r k ≡ chain d r = at-k ∙ rw (e, eq-eqb k k refl) in
-          let y : Q d r (from + d) ≡ M r (from + d) = at-i ∙ rw (e, other) in
-          rw (e, f, x, y) (sym (chain-more d r))
-      at true false e f = rw (e, f) (at-c ∙ rw (e, f))
-      at false b e f = rw e (at-c ∙ rw e)
-
-  more : (d r c : ℕ) → Q (suc d) r c ≡ plusNext (from + d) (Q d) r c
-  unfolding Q
-  more d r c =
-      ap (λ (N : Matrix). N r c)
-      (ap (λ (m : ℕ). for from m plusNext M) (let next : from + suc d ≡ from + d + 1 = omega arith in next) ∙ for-more from (from + d) plusNext M (omega arith))
-
-  each : (d r c : ℕ) → Gathered d r c
-  each zero r c = start-with r c
-  each (suc d) r c = more d r c ∙ turn d r c (each d r k) (each d r (from + d)) (each d r c)
-
-  pub gather-loop : from ≤ n → for from n plusNext M ≡ gatherColumn n A k from M
-  unfolding gatherColumn Q chain
-  gather-loop h =
-      fun-ext (λ r. fun-ext (λ c. rw count at (each (n - from) r c)))
+  pub adding-all : {i : ℕ} {l : List Float} → Adding n k start from a l₀ i l → n ≤ i → length l₀ ≡ n * n → Holds (square n) l₀ l (gatherColumn n A k from L)
+  unfolding gathers
+  adding-all {i} {l} w past long =
+      holds-as
+      (strip-holds k (square-sound n l₀ long) (λ i low row. in-square n i k row column) (λ i low row. square-place n i k) gathers written kept (all .sums))
+      outside
     where
-      count : from + (n - from) ≡ n
-      count = omega arith
-
--- the same at plain offsets
-abbrev pub plusAt : ℕ → List Float → ℕ → ℕ → ℕ → Matrix → Matrix
-plusAt n a start k i = plusColumn n k i (getD a (i + start) nan)
-
-pub gather-at
-    : (y : Layout) (a : List Float) (k start : ℕ) → start ≡ startOf y k → (from : ℕ) → k < from → from ≤ y .order → (M : Matrix)
-    → for from (y .order) (plusAt (y .order) a start k) M ≡ gatherColumn (y .order) (load (lower y) a) k from M
-gather-at y a k start starts from below within M =
-    for-same from (y .order) (plusAt (y .order) a start k) (plusNext (y .order) (load (lower y) a) k from below M) M
-    (λ i L low high. ap (λ (x : Float). plusColumn (y .order) k i x L) (offset-at y a k i start starts (omega arith) high))
-    ∙ gather-loop (y .order) (load (lower y) a) k from below M within
+      all : Gathered (k * n) 0 n (columnTimes n a start) from l₀ n l
+      all = subst (λ (i : ℕ). Gathered (k * n) 0 n (columnTimes n a start) from l₀ i l) (omega (arith, w .upto)) (w .columns)

@@ -1,21 +1,16 @@
 -- Writing a lent n·n matrix at plain offsets.
 use mathlib.Core.List.{List}
-use mathlib.Core.Logic.{⊎-elim}
-use mathlib.Core.Path.{_≡_, refl, _∙_}
+use mathlib.Core.Path.{_≡_, _∙_}
 use Prim.Native.Nat.{ℕ, _+_, _*_, _<_, _≤_}
-use native.Mathlib.Nat.{eq-or-lt-of-le}
 use native.Mathlib.Omega.{arith}
 use lib.Ieee.{Float, nan}
 use lib.ListN.{length, getD, set, length-set}
-use lib.Seq.{getD-set-same, getD-set-other}
 use Rattle.matrix.specs.Matrix.{Matrix, entry, exchange}
-use Rattle.matrix.specs.Grid.{load, mask, Sound, Holds}
+use Rattle.matrix.specs.Grid.{load, Sound, Holds}
 use Rattle.matrix.specs.Layouts.{square, placeSquare, Fills}
 use Rattle.matrix.proofs.Grids.{holds-put, holds-then, holds-as}
 use Rattle.matrix.proofs.Places.{in-square, square-at, digits-within, product-small}
-use Rattle.matrix.proofs.Squares.{square-sound, fills-each}
-use Rattle.matrix.specs.Rounded.{_⊕_, _⊗_, plusZero}
-use Rattle.lblt_read.specs.Diagonal.{allZero}
+use Rattle.matrix.proofs.Squares.{square-sound}
 use Rattle.lblt_read.specs.inner.Engine.{Squared}
 
 pub sound-of : {n : ℕ} {l : List Float} → Squared n l → Sound (square n) l
@@ -43,33 +38,7 @@ pub put-square : (n : ℕ) (l : List Float) (i j : ℕ) (x : Float) → length l
 unfolding square placeSquare
 put-square n l i j x long row column = holds-put (square n) l (square-sound n l long) i j (in-square n i j row column) x
 
--- ---- all zero
-
-pub record Cleared (l₀ : List Float) (p : ℕ) (l : List Float) : Type 0 where
-  pub long : length l ≡ length l₀
-  pub zero : (k : ℕ) → k < p → getD l k nan ≡ plusZero
-
-pub cleared-none : (l : List Float) → Cleared l 0 l
-cleared-none l = record { long = refl; zero = λ k h. absurd (omega arith) }
-
-pub cleared-more : {l₀ l : List Float} {p : ℕ} → Cleared l₀ p l → p < length l → Cleared l₀ (p + 1) (set l p plusZero)
-cleared-more {l₀} {l} {p} c below = record { long = length-set l p plusZero ∙ c .long; zero = at }
-  where
-    at : (k : ℕ) → k < p + 1 → getD (set l p plusZero) k nan ≡ plusZero
-    at k h =
-        ⊎-elim (λ e. rw e (getD-set-same l p plusZero nan below))
-        (λ lower. getD-set-other l p k plusZero nan (λ (e : k ≡ p). omega arith) ∙ c .zero k lower)
-        (eq-or-lt-of-le (let h' : k ≤ p = omega arith in h'))
-
-pub cleared-all : {n : ℕ} {l₀ l : List Float} {p : ℕ} → Cleared l₀ p l → length l ≤ p → length l₀ ≡ n * n → Fills n l (mask (square n) allZero)
-unfolding allZero
-cleared-all {n} {l₀} {l} {p} c past long =
-    fills-each n l allZero (c .long ∙ long)
-    (λ i j row column.
-    let within : i + j * n < length l = place-within n l i j (c .long ∙ long) row column in
-    c .zero (i + j * n) (omega arith))
-
--- ---- two entries of a row exchanged, and one added to another
+-- ---- two entries of a row exchanged
 
 module _ (n : ℕ) (l : List Float) (row : ℕ) (long : length l ≡ n * n) (below : row < n) where
   pub exchange-square
@@ -82,13 +51,6 @@ module _ (n : ℕ) (l : List Float) (row : ℕ) (long : length l ≡ n * n) (bel
       (put-square n l row p (getD l (row + q * n) nan) long below hp)
       (put-square n (set l (row + p * n) (getD l (row + q * n) nan)) row q (getD l (row + p * n) nan) (length-set l (row + p * n) (getD l (row + q * n) nan) ∙ long) below hq))
       (rw (square-at n l row p below hp, square-at n l row q below hq))
-
-  pub plus-square
-      : (k i : ℕ) (x : Float) → k < n → i < n
-      → Holds (square n) l (set l (row + k * n) (getD l (row + k * n) nan ⊕ getD l (row + i * n) nan ⊗ x))
-      (entry (load (square n) l) row k (load (square n) l row k ⊕ load (square n) l row i ⊗ x))
-  plus-square k i x hk hi =
-      holds-as (put-square n l row k _ long below hk) (rw (square-at n l row k below hk, square-at n l row i below hi))
 
 -- the matrix under another name
 pub fills-as : {n : ℕ} {l : List Float} {M N : Matrix} → Fills n l M → M ≡ N → Fills n l N

@@ -2,10 +2,10 @@
 use mathlib.Core.List.{List}
 use Prim.Native.Nat.{ℕ, _+_}
 use lib.Ieee.{Float}
-use Rattle.matrix.specs.Matrix.{Matrix, entry}
+use Rattle.matrix.specs.Matrix.{Matrix, allZero, entry}
 use Rattle.matrix.specs.Grid.{mask}
 use Rattle.matrix.specs.Layouts.{square}
-use Rattle.matrix.specs.Rounded.{_⊗_, plusZero, one}
+use Rattle.matrix.specs.Rounded.{_⊗_, one}
 use Rattle.pivots.specs.Blocks.{bySize, forwards}
 use Rattle.lblt_solve_one.specs.Column.{blockDeterminant}
 
@@ -18,9 +18,6 @@ unfoldable pub determinantOf : ℕ → Matrix → List ℕ → Float
 determinantOf n A words = forwards n words (timesBlock A words) one
 
 -- ---- the block diagonal matrix
-
-unfoldable pub allZero : ℕ → ℕ → Float
-allZero i j = plusZero
 
 unfoldable pub diagonalTwo : Matrix → ℕ → Matrix → Matrix
 diagonalTwo A k D =

@@ -9,6 +9,7 @@ ghost use Rattle.pivots.specs.inner.Block.{BlockAt};
 ghost use Rattle.lblt_read.specs.inner.Engine.{Squared, Placed};
 use crate::square;
 use matrix::Layout;
+use strips::Source;
 
 // Column k plus each later column i, from `from` on, times a(i, k).
 fn gather_column(y: Layout, a: &[f64], l: &mut [f64], k: usize, from: usize)
@@ -20,9 +21,14 @@ fn gather_column(y: Layout, a: &[f64], l: &mut [f64], k: usize, from: usize)
 {
     let n = y.order;
     let start = y.start(k);
+    let to = k * n;
     let mut i = from;
     while i < n {
-        square::add_column(l, n, k, i, a[i + start]);
+        let s = Source {
+            start: i * n,
+            scale: a[i + start],
+        };
+        strips::axpy(l, to, 0, n, s);
         i += 1;
     }
 }

@@ -1,11 +1,10 @@
 // A lent n·n matrix, written whole.
 ghost use Prim.Native.Nat.{_<_};
-ghost use Rattle.matrix.specs.Matrix.{entry};
+ghost use Rattle.matrix.specs.Matrix.{allZero, entry};
 ghost use Rattle.matrix.specs.Grid.{load, mask, Holds};
 ghost use Rattle.matrix.specs.Layouts.{square, Fills};
-ghost use Rattle.lblt_read.specs.Diagonal.{allZero};
 ghost use Rattle.lblt_read.specs.Permuted.{identity, swapColumns};
-ghost use Rattle.lblt_read.specs.inner.Engine.{Squared, plusColumn};
+ghost use Rattle.lblt_read.specs.inner.Engine.{Squared};
 
 pub fn put(l: &mut [f64], n: usize, i: usize, j: usize, x: f64)
     requires { ⌜ Squared n (now l) ⌝ }
@@ -20,11 +19,7 @@ pub fn clear(l: &mut [f64], n: usize)
     requires { ⌜ Squared n (now l) ⌝ }
     ensures { λ _. ⌜ Fills n (now (l .exit)) (mask (square n) allZero) ⌝ }
 {
-    let mut p: usize = 0;
-    while p < l.len() {
-        l[p] = 0.0;
-        p += 1;
-    }
+    strips::clear(l, 0, 0, n * n);
 }
 
 pub fn put_identity(l: &mut [f64], n: usize)
@@ -52,22 +47,6 @@ pub fn swap_columns(l: &mut [f64], n: usize, p: usize, q: usize)
         let x = l[row + first];
         l[row + first] = l[row + second];
         l[row + second] = x;
-        row += 1;
-    }
-}
-
-// Column k plus column i times x.
-pub fn add_column(l: &mut [f64], n: usize, k: usize, i: usize, x: f64)
-    requires { ⌜ Squared n (now l) ⌝ }
-    requires { ⌜ k < n ⌝ }
-    requires { ⌜ i < n ⌝ }
-    ensures { λ _. ⌜ Holds (square n) (now (l .entry)) (now (l .exit)) (plusColumn n k i x (load (square n) (now (l .entry)))) ⌝ }
-{
-    let to = k * n;
-    let from = i * n;
-    let mut row: usize = 0;
-    while row < n {
-        l[row + to] = l[row + to] + l[row + from] * x;
         row += 1;
     }
 }

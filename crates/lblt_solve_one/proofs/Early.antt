@@ -8,13 +8,14 @@ use native.Mathlib.Omega.{arith}
 use lib.Ieee.{Float, nan}
 use lib.ListN.{set}
 use lib.Seq.{getD-set-other, set-comm}
+use Rattle.answer.proofs.Tests.{eq-or-ne}
 use Rattle.matrix.specs.Matrix.{Matrix}
 use Rattle.matrix.specs.Columns.{at}
 use Rattle.pivots.specs.Words.{indexAt, sizeAt}
 use Rattle.pivots.specs.Rule.{Accepted}
 use Rattle.pivots.specs.Blocks.{rowsOf, forwards}
 use Rattle.pivots.proofs.Boundaries.{Boundary, is-one, is-two}
-use Rattle.pivots.proofs.Walks.{size-one, size-two, rows-one, rows-two, decEq}
+use Rattle.pivots.proofs.Walks.{size-one, size-two, rows-one, rows-two}
 use Rattle.pivots.proofs.WholeWalks.{fused}
 use Rattle.substitution_one.proofs.Beyond.{Beyond, beyond-less, beyond-then, beyond-same, over-two, read-after, eliminate-one-beyond, eliminate-two-beyond, divide-one-early}
 use Rattle.lblt_solve_one.specs.Column.{swapRows, forwardBlock, divideTwo, divideBlock}
@@ -35,7 +36,7 @@ swap-beyond {low} p q hp hq = record {
 -- a block of an accepted record has its pivot among its own rows and those after it
 forward-beyond : (n : ℕ) (A : Matrix) {words : List ℕ} {j : ℕ} → Boundary n words j → j < n → Beyond j (forwardBlock n A words j)
 unfolding forwardBlock
-forward-beyond n A {words} {j} b below = go (decEq (sizeAt words j) 1)
+forward-beyond n A {words} {j} b below = go (eq-or-ne (sizeAt words j) 1)
   where
     go : (sizeAt words j ≡ 1) ⊎ (sizeAt words j ≡ 1 → ⊥) → Beyond j (forwardBlock n A words j)
     go (inl one) =
@@ -60,7 +61,7 @@ module _ (A : Matrix) {f : List Float → List Float} where
 
   divide-early : (words : List ℕ) (k : ℕ) → Beyond (k + rowsOf words k) f → (b : List Float) → f (divideBlock A words k b) ≡ divideBlock A words k (f b)
   unfolding divideBlock
-  divide-early words k h b = go (decEq (sizeAt words k) 1)
+  divide-early words k h b = go (eq-or-ne (sizeAt words k) 1)
     where
       go : (sizeAt words k ≡ 1) ⊎ (sizeAt words k ≡ 1 → ⊥) → f (divideBlock A words k b) ≡ divideBlock A words k (f b)
       go (inl one) =

@@ -1,4 +1,3 @@
-pub mod Tests
 pub mod Loops
 pub mod Turning
 pub mod Stores

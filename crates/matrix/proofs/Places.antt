@@ -102,6 +102,14 @@ pub in-square : (n i j : ℕ) → i < n → j < n → T (square n .inside i j)
 unfolding square inSquare
 in-square n i j row column = and-i (ltb i n) (ltb j n) (lt→ltb i n row) (lt→ltb j n column)
 
+pub lower-place : (y : Layout) (i j : ℕ) → lower y .place i j ≡ i + startOf y j
+unfolding lower placeIn
+lower-place y i j = refl
+
+pub square-place : (n i j : ℕ) → square n .place i j ≡ i + j * n
+unfolding square placeSquare
+square-place n i j = refl
+
 pub lower-at : (y : Layout) (l : List Float) (i j : ℕ) → j ≤ i → i < y .order → load (lower y) l i j ≡ getD l (i + startOf y j) nan
 unfolding lower placeIn
 lower-at y l i j le lt = load-in (lower y) l i j (in-lower y i j le lt)

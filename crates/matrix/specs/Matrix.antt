@@ -3,9 +3,13 @@ use mathlib.Core.Bool.{cond, _&&_}
 use Prim.Native.Nat.{ℕ}
 use lib.Dec.{eqb}
 use lib.Ieee.{Float}
+use Rattle.matrix.specs.Rounded.{plusZero}
 
 abbrev pub Matrix : Type 0
 Matrix = ℕ → ℕ → Float
+
+abbrev pub allZero : Matrix
+allZero i j = plusZero
 
 -- v at (i, j), all else as in M
 unfoldable pub entry : Matrix → ℕ → ℕ → Float → Matrix

@@ -4,14 +4,13 @@
 --     block-at, block-before      what the step at a row may ask of the record
 --     boundary-next               where the block at a boundary ends
 --     one-is, two-is, reads-one, reads-two     by the size as it is read
-use mathlib.Core.Bool.{Bool, true, false}
 use mathlib.Core.List.{List}
 use mathlib.Core.Logic.{_⊎_, inl, inr, ⊎-elim}
 use mathlib.Core.Path.{_≡_, refl, sym, subst, _∙_}
 use Prim.Native.Nat.{ℕ, zero, suc, _+_, _-_, _<_, _≤_}
 use native.Mathlib.Omega.{arith}
-use borrow.Author.Tests.{eq-eqb, ne-eqb, eqb-true, eqb-false, lt-ltb, le-ltb}
-use lib.Dec.{eqb}
+use borrow.Author.Tests.{eq-eqb, ne-eqb, lt-ltb, le-ltb}
+use Rattle.answer.proofs.Tests.{eq-or-ne}
 use Rattle.pivots.specs.Words.{sizeAt}
 use Rattle.pivots.specs.Rule.{Accepted}
 use Rattle.pivots.proofs.Boundaries.{Boundary, boundary-none, boundary-all, is-one, is-two, boundary-one, boundary-two, last-one, last-two}
@@ -48,16 +47,9 @@ module _ (words : List ℕ) (row : ℕ) {size : ℕ} (reads : size ≡ sizeAt wo
   pub reads-two : (size ≡ 1 → ⊥) → rowsOf words row ≡ 2
   reads-two other = rows-two words row (λ e. other (reads ∙ e))
 
-pub decEq : (a b : ℕ) → (a ≡ b) ⊎ (a ≡ b → ⊥)
-decEq a b = at (eqb a b) refl
-  where
-    at : (t : Bool) → eqb a b ≡ t → (a ≡ b) ⊎ (a ≡ b → ⊥)
-    at true e = inl (eqb-true a b e)
-    at false e = inr (eqb-false a b e)
-
 pub rows-positive : (words : List ℕ) (row : ℕ) → 0 < rowsOf words row
 rows-positive words row =
-    ⊎-elim (λ e. omega (arith, rows-one words row e)) (λ other. omega (arith, rows-two words row other)) (decEq (sizeAt words row) 1)
+    ⊎-elim (λ e. omega (arith, rows-one words row e)) (λ other. omega (arith, rows-two words row other)) (eq-or-ne (sizeAt words row) 1)
 
 -- ---- forwards
 
@@ -69,7 +61,7 @@ pub record Along {S : Type 0} (n : ℕ) (words : List ℕ) (f : ℕ → S → S)
 
 -- the block at a boundary
 pub block-at : {n : ℕ} {words : List ℕ} {k : ℕ} → Accepted n words → Boundary n words k → k < n → BlockAt n words k
-block-at {n} {words} {k} a b below = at (decEq (sizeAt words k) 1)
+block-at {n} {words} {k} a b below = at (eq-or-ne (sizeAt words k) 1)
   where
     at : (sizeAt words k ≡ 1) ⊎ (sizeAt words k ≡ 1 → ⊥) → BlockAt n words k
     at (inl e) =
@@ -81,7 +73,7 @@ block-at {n} {words} {k} a b below = at (decEq (sizeAt words k) 1)
 
 -- the boundary after it
 pub boundary-next : {n : ℕ} {words : List ℕ} {k : ℕ} → Boundary n words k → k < n → Boundary n words (k + rowsOf words k)
-boundary-next {n} {words} {k} b below = at (decEq (sizeAt words k) 1)
+boundary-next {n} {words} {k} b below = at (eq-or-ne (sizeAt words k) 1)
   where
     at : (sizeAt words k ≡ 1) ⊎ (sizeAt words k ≡ 1 → ⊥) → Boundary n words (k + rowsOf words k)
     at (inl e) = rw (rows-one words k e) (boundary-one b (is-one b below e))
@@ -135,7 +127,7 @@ pub record Back {S : Type 0} (n : ℕ) (words : List ℕ) (f : ℕ → S → S) 
 
 -- the block that ends at a boundary
 pub block-before : {n : ℕ} {words : List ℕ} {k : ℕ} → Accepted n words → Boundary n words k → 0 < k → BlockBefore n words k
-block-before {n} {words} {k} a b below = at (decEq (sizeAt words (k - 1)) 1)
+block-before {n} {words} {k} a b below = at (eq-or-ne (sizeAt words (k - 1)) 1)
   where
     at : (sizeAt words (k - 1) ≡ 1) ⊎ (sizeAt words (k - 1) ≡ 1 → ⊥) → BlockBefore n words k
     at (inl e) =
@@ -154,7 +146,7 @@ block-before {n} {words} {k} a b below = at (decEq (sizeAt words (k - 1)) 1)
 
 -- the boundary before it
 boundary-last : {n : ℕ} {words : List ℕ} {k : ℕ} → Boundary n words k → 0 < k → Boundary n words (k - rowsOf words (k - 1))
-boundary-last {n} {words} {k} b below = at (decEq (sizeAt words (k - 1)) 1)
+boundary-last {n} {words} {k} b below = at (eq-or-ne (sizeAt words (k - 1)) 1)
   where
     at : (sizeAt words (k - 1) ≡ 1) ⊎ (sizeAt words (k - 1) ≡ 1 → ⊥) → Boundary n words (k - rowsOf words (k - 1))
     at (inl e) = rw (rows-one words (k - 1) e) (last-one b below e .boundary)

@@ -1,19 +1,32 @@
--- The laws of a loop over a strip: rows lo up to i are done.
--- Assumes nothing.
+-- The laws of strips. Assumes nothing.
+--     Partway                                   a loop over a strip: rows lo up to i are done
+--     strip-none, strip-more, strip-all         no row, one row more, all rows
+--     strip-ahead, strip-apart                  a row that is not done yet, a row of another column
+--     strip-nothing, strip-then, strip-as, strip-join   strips that meet
+--     axpy-row, axpy4-row, ratio-row            what the loops store
+--     strip-holds                               a strip of a column of a grid
+--     cleared-square                            a square matrix that is cleared
 use mathlib.Core.Path.{_≡_, refl, sym, _∙_, ap, ap₂, subst}
 use mathlib.Core.Bool.{Bool, true, false}
 use mathlib.Core.List.{List}
 use mathlib.Core.Logic.{_⊎_, inl, inr, ⊎-elim}
-use Prim.Native.Nat.{ℕ, _+_, _≤_, _<_}
+use Prim.Native.Nat.{ℕ, _+_, _*_, _≤_, _<_}
 use native.Mathlib.Nat.{eq-or-lt-of-le}
 use native.Mathlib.Omega.{arith}
-use lib.Dec.{ltb}
-use lib.ListN.{length, set, length-set}
+use lib.Dec.{T, leb, ltb, eqb}
+use lib.ListN.{length, getD, set, length-set}
 use lib.Seq.{getD-set-same, getD-set-other}
-use lib.Ieee.{Float, nan, binary64, add, mul, div}
-use borrow.Author.Tests.{ltb-true, ltb-false}
+use lib.Ieee.{Float, nan}
+use borrow.Author.Tests.{leb-true, leb-false, ltb-true, ltb-false, eqb-true, eqb-false}
+use Rattle.matrix.specs.Matrix.{Matrix, allZero}
+use Rattle.matrix.specs.Grid.{Grid, Sound, load, mask, Holds}
+use Rattle.matrix.specs.Layouts.{square, Fills}
+use Rattle.matrix.specs.Rounded.{_⊕_, _⊗_, _⊘_, plusZero}
+use Rattle.matrix.proofs.Grids.{load-in, load-is}
+use Rattle.matrix.proofs.Places.{digits-within}
+use Rattle.matrix.proofs.Squares.{fills-each}
 use Rattle.strips.specs.declared.Source.{Source}
-use Rattle.strips.specs.Strip.{rowAt, Strip, Elsewhere, plus, axpyOf, axpy4Of, ratioOf}
+use Rattle.strips.specs.inner.Strip.{rowAt, Strip, Elsewhere, plus, axpyOf, axpy4Of, ratioOf, zeroAt}
 
 pub record Partway (s lo hi : ℕ) (v : ℕ → Float) (l₀ : List Float) (i : ℕ) (l : List Float) : Type 0 where
   pub from : lo ≤ i
@@ -54,13 +67,14 @@ strip-all {s} {lo} {hi} {v} {l₀} {i} {l} d past = subst (λ (k : ℕ). Strip s
 pub strip-ahead : {s lo hi : ℕ} {v : ℕ → Float} {l₀ : List Float} {i : ℕ} {l : List Float} → Partway s lo hi v l₀ i l → rowAt l s i ≡ rowAt l₀ s i
 strip-ahead {s} {i = i} d = d .strip .outside (i + s) (λ r a b e. omega arith)
 
--- a row of a column apart from this one
-strip-apart : {to lo hi : ℕ} {v : ℕ → Float} {l₀ : List Float} {i : ℕ} {l : List Float} (s : Source) → Partway to lo hi v l₀ i l → i < hi → Elsewhere lo hi to l₀ s → rowAt l (s .start) i ≡ rowAt l₀ (s .start) i
-strip-apart {to} {lo} {hi} {i = i} s d below side = d .strip .outside (i + s .start) (λ k a b e. off k a b e (side .beside))
+-- a row of another column
+pub strip-apart : {to lo hi m : ℕ} {v : ℕ → Float} {l₀ l : List Float} (s : Source) → Strip to lo m v l₀ l → m ≤ hi → Elsewhere lo hi to l₀ s
+    → (i : ℕ) → lo ≤ i → i < hi → rowAt l (s .start) i ≡ rowAt l₀ (s .start) i
+strip-apart {to} {lo} {hi} {m} s strip upto side i from below = strip .outside (i + s .start) (λ k a b e. off k a b e (side .beside))
   where
-    off : (k : ℕ) → lo ≤ k → k < i → i + s .start ≡ k + to → ((hi + s .start ≤ lo + to) ⊎ (hi + to ≤ lo + s .start)) → ⊥
+    off : (k : ℕ) → lo ≤ k → k < m → i + s .start ≡ k + to → ((hi + s .start ≤ lo + to) ⊎ (hi + to ≤ lo + s .start)) → ⊥
     off k a b e (inl before) = omega arith
-    off k a b e (inr after) = omega (arith, d .from)
+    off k a b e (inr after) = omega arith
 
 -- ---- strips that meet
 
@@ -85,30 +99,71 @@ strip-join {s} {lo} {mid} {hi} {v} {l₀} {l} {l'} from upto p q = record {
     pick i a b true e = let under : i < mid = ltb-true i mid e in q .outside (i + s) (λ k x y z. omega arith) ∙ p .inside i a under
     pick i a b false e = q .inside i (ltb-false i mid e) b
 
--- ---- the strips of the engine
+-- ---- what the loops store
 
--- a row of another column
-plus-same : {to lo hi : ℕ} {v : ℕ → Float} {l₀ : List Float} {i : ℕ} {l : List Float} (s : Source) (x x' : Float)
-    → Partway to lo hi v l₀ i l → i < hi → Elsewhere lo hi to l₀ s → x ≡ x' → add binary64 x (mul binary64 (s .scale) (rowAt l (s .start) i)) ≡ plus l₀ s i x'
+-- what another column adds, before and after
+pub plus-kept : {to lo hi m : ℕ} {v : ℕ → Float} {l₀ l : List Float} (s : Source) → Strip to lo m v l₀ l → m ≤ hi → Elsewhere lo hi to l₀ s
+    → (i : ℕ) → lo ≤ i → i < hi → {x x' : Float} → x ≡ x' → plus l s i x ≡ plus l₀ s i x'
 unfolding plus
-plus-same s x x' d below apart e = ap₂ (λ (x y : Float). add binary64 x (mul binary64 (s .scale) y)) e (strip-apart s d below apart)
+plus-kept s strip upto apart i from below e = ap₂ (λ (x y : Float). x ⊕ s .scale ⊗ y) e (strip-apart s strip upto apart i from below)
 
-pub axpy-row : {to lo hi : ℕ} {l₀ : List Float} {i : ℕ} {l : List Float} (s : Source)
-    → Partway to lo hi (axpyOf l₀ to s) l₀ i l → i < hi → Elsewhere lo hi to l₀ s
-    → add binary64 (rowAt l to i) (mul binary64 (s .scale) (rowAt l (s .start) i)) ≡ axpyOf l₀ to s i
-unfolding axpyOf
-axpy-row s d below apart = plus-same s _ _ d below apart (strip-ahead d)
+module _ {to lo hi : ℕ} {l₀ : List Float} {i : ℕ} {l : List Float} where
+  -- at row i, which is not done yet
+  plus-next : {v : ℕ → Float} (s : Source) → Partway to lo hi v l₀ i l → i < hi → Elsewhere lo hi to l₀ s → {x x' : Float} → x ≡ x' → plus l s i x ≡ plus l₀ s i x'
+  plus-next s d below apart e = plus-kept s (d .strip) (omega arith) apart i (d .from) below e
 
-pub axpy4-row : {to lo hi : ℕ} {l₀ : List Float} {i : ℕ} {l : List Float} (s t u v : Source)
-    → Partway to lo hi (axpy4Of l₀ to s t u v) l₀ i l → i < hi → Elsewhere lo hi to l₀ s → Elsewhere lo hi to l₀ t → Elsewhere lo hi to l₀ u → Elsewhere lo hi to l₀ v
-    → add binary64 (add binary64 (add binary64 (add binary64 (rowAt l to i)
-    (mul binary64 (s .scale) (rowAt l (s .start) i))) (mul binary64 (t .scale) (rowAt l (t .start) i))) (mul binary64 (u .scale) (rowAt l (u .start) i))) (mul binary64 (v .scale) (rowAt l (v .start) i))
-    ≡ axpy4Of l₀ to s t u v i
-unfolding axpy4Of
-axpy4-row s t u v d below at-s at-t at-u at-v =
-    plus-same v _ _ d below at-v (plus-same u _ _ d below at-u (plus-same t _ _ d below at-t (plus-same s _ _ d below at-s (strip-ahead d))))
+  pub axpy-row : (s : Source) → Partway to lo hi (axpyOf l₀ to s) l₀ i l → i < hi → Elsewhere lo hi to l₀ s → rowAt l to i ⊕ s .scale ⊗ rowAt l (s .start) i ≡ axpyOf l₀ to s i
+  unfolding axpyOf plus
+  axpy-row s d below apart = plus-next s d below apart (strip-ahead d)
+
+  pub axpy4-row : (s t u v : Source) → Partway to lo hi (axpy4Of l₀ to s t u v) l₀ i l → i < hi → Elsewhere lo hi to l₀ s → Elsewhere lo hi to l₀ t → Elsewhere lo hi to l₀ u → Elsewhere lo hi to l₀ v
+      → rowAt l to i ⊕ s .scale ⊗ rowAt l (s .start) i ⊕ t .scale ⊗ rowAt l (t .start) i ⊕ u .scale ⊗ rowAt l (u .start) i ⊕ v .scale ⊗ rowAt l (v .start) i ≡ axpy4Of l₀ to s t u v i
+  unfolding axpy4Of plus
+  axpy4-row s t u v d below at-s at-t at-u at-v =
+      plus-next v d below at-v (plus-next u d below at-u (plus-next t d below at-t (plus-next s d below at-s (strip-ahead d))))
 
 pub ratio-row : {s lo hi : ℕ} (d : Float) {l₀ : List Float} {i : ℕ} {l : List Float}
-    → Partway s lo hi (ratioOf l₀ s d) l₀ i l → div binary64 (rowAt l s i) d ≡ ratioOf l₀ s d i
+    → Partway s lo hi (ratioOf l₀ s d) l₀ i l → rowAt l s i ⊘ d ≡ ratioOf l₀ s d i
 unfolding ratioOf
-ratio-row d p = ap (λ (x : Float). div binary64 x d) (strip-ahead p)
+ratio-row d p = ap (λ (x : Float). x ⊘ d) (strip-ahead p)
+
+-- ---- a strip of column j of a grid
+
+module _ {g : Grid} {s lo hi : ℕ} (j : ℕ) {v : ℕ → Float} {l₀ l : List Float} (good : Sound g l₀)
+    (here : (i : ℕ) → lo ≤ i → i < hi → T (g .inside i j)) (place : (i : ℕ) → lo ≤ i → i < hi → g .place i j ≡ i + s) where
+  -- what stands in M is the strip's rows, and what stood before elsewhere
+  pub strip-holds : (M : Matrix) → ((i : ℕ) → lo ≤ i → i < hi → v i ≡ M i j) → ((i c : ℕ) → T (g .inside i c) → (lo ≤ i → i < hi → c ≡ j → ⊥) → load g l₀ i c ≡ M i c)
+      → Strip s lo hi v l₀ l → Holds g l₀ l (mask g M)
+  strip-holds M written kept strip = record {
+    sound = record { fair = good .fair; long = strip .long ∙ good .long };
+    cells = load-is g l M (λ i c t. at i c t (leb lo i) (ltb i hi) (eqb c j) refl refl refl);
+    kept = λ p free. strip .outside p (λ i a b e. free i j (here i a b) (e ∙ sym (place i a b)));
+  }
+    where
+      other : (i c : ℕ) → T (g .inside i c) → (lo ≤ i → i < hi → c ≡ j → ⊥) → getD l (g .place i c) nan ≡ M i c
+      other i c t off =
+          strip .outside (g .place i c)
+          (λ k a b e.
+          let same : g .place i c ≡ g .place k j = e ∙ sym (place k a b) in
+          let row : i ≡ k = good .fair .row i c k j t (here k a b) same in
+          off (omega arith) (omega arith) (good .fair .column i c k j t (here k a b) same))
+          ∙ sym (load-in g l₀ i c t)
+          ∙ kept i c t off
+
+      at : (i c : ℕ) → T (g .inside i c) → (a b e : Bool) → leb lo i ≡ a → ltb i hi ≡ b → eqb c j ≡ e → getD l (g .place i c) nan ≡ M i c
+      at i c t true true true p q r =
+          let from : lo ≤ i = leb-true lo i p in
+          let below : i < hi = ltb-true i hi q in
+          subst (λ (c : ℕ). getD l (g .place i c) nan ≡ M i c) (sym (eqb-true c j r))
+          (ap (λ (k : ℕ). getD l k nan) (place i from below) ∙ strip .inside i from below ∙ written i from below)
+      at i c t false b e p q r = other i c t (λ from below same. omega (arith, leb-false lo i p))
+      at i c t true false e p q r = other i c t (λ from below same. omega (arith, ltb-false i hi q))
+      at i c t true true false p q r = other i c t (λ from below same. eqb-false c j r same)
+
+-- ---- slices that are cleared
+
+pub cleared : {l₀ l : List Float} {c : ℕ} → Strip 0 0 c zeroAt l₀ l → (q : ℕ) → q < c → getD l q nan ≡ plusZero
+cleared {l = l} w q below = ap (λ (k : ℕ). getD l k nan) (let start : q ≡ q + 0 = omega arith in start) ∙ w .inside q (omega arith) below
+
+pub cleared-square : {n : ℕ} {l₀ l : List Float} → length l₀ ≡ n * n → Strip 0 0 (n * n) zeroAt l₀ l → Fills n l (mask (square n) allZero)
+cleared-square {n} {l = l} long clear = fills-each n l allZero (clear .long ∙ long) (λ i k row column. cleared clear (i + k * n) (digits-within n n i k row column))

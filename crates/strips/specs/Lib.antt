@@ -1,1 +1,1 @@
-pub mod Strip
+pub mod inner

@@ -1,7 +1,7 @@
 // Loops over rows of one column, on plain places: row i of a column that starts at s stands at i + s.
 ghost use Prim.Native.Nat.{_+_, _≤_};
 ghost use lib.ListN.{length};
-ghost use Rattle.strips.specs.Strip.{Strip, Elsewhere, axpyOf, axpy4Of, ratioOf, zeroAt, rowAt};
+ghost use Rattle.strips.specs.inner.Strip.{Strip, Elsewhere, axpyOf, axpy4Of, ratioOf, zeroAt, rowAt};
 
 // A column that starts at `start`, and what it is multiplied by.
 pub struct Source {

@@ -19,7 +19,7 @@ use Rattle.matrix.specs.Layouts.{upper}
 use Rattle.matrix.specs.Rounded.{_⊕_, _⊖_, _⊗_, _⊘_, plusZero, one}
 use Rattle.matrix.proofs.Loops.{for-same}
 use Rattle.matrix.proofs.Places.{upper-at, digits-column}
-use Rattle.strips.specs.Strip.{rowAt, Strip}
+use Rattle.strips.specs.inner.Strip.{rowAt, Strip}
 use Rattle.strips.proofs.Strips.{Partway, strip-nothing, strip-more, strip-all, strip-as, strip-then}
 use Rattle.udu.specs.Columns.{Factors, plusCross, squareSum, crossSum, uduDiagonal, lastEntry, furtherEntry, uduEntry}
 use Rattle.udu.specs.inner.Contracts.{factorsIn, multiplesOf, quotientsOf, diagonalIn, ColumnStep}

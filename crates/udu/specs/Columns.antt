@@ -3,7 +3,7 @@ use mathlib.Core.Bool.{Bool, true, false, cond, _&&_}
 use Prim.Native.Nat.{ℕ, _+_}
 use lib.Dec.{leb, eqb}
 use lib.Ieee.{Float, eq}
-use Rattle.matrix.specs.Matrix.{Matrix}
+use Rattle.matrix.specs.Matrix.{Matrix, allZero}
 use Rattle.matrix.specs.Loop.{for, falling}
 use Rattle.matrix.specs.Rounded.{_⊕_, _⊖_, _⊗_, _⊘_, plusZero, one}
 
@@ -13,7 +13,7 @@ pub record Factors : Type 0 where
   pub d : ℕ → Float
 
 unfoldable pub nothing : Factors
-nothing = record { u = λ i k. plusZero; d = λ k. plusZero }
+nothing = record { u = allZero; d = λ k. plusZero }
 
 -- column j's two sums, from +0 over the columns k after it, upwards: of d(k)·(u(j,k)·u(j,k)), and of (d(k)·u(j,k))·u(i,k)
 abbrev pub plusSquare : Factors → ℕ → ℕ → Float → Float

@@ -4,10 +4,10 @@ ghost use Prim.Native.Nat.{_+_, _-_, _*_, _≤_, _<_};
 ghost use lib.ListN.{length};
 ghost use Rattle.matrix.specs.Grid.{load};
 ghost use Rattle.matrix.specs.Layouts.{upper};
-ghost use Rattle.strips.specs.Strip.{Strip};
+ghost use Rattle.strips.specs.inner.Strip.{Strip, Gathered};
 ghost use Rattle.udu.specs.Columns.{squareSum, crossSum, furtherEntry};
 ghost use Rattle.udu.specs.Promise.{UduSized};
-ghost use Rattle.udu.specs.inner.Contracts.{Zeros, factorsIn, multiplesOf, quotientsOf, sourceOf, Added, ColumnStep};
+ghost use Rattle.udu.specs.inner.Contracts.{Zeros, factorsIn, multiplesOf, quotientsOf, sourceOf, ColumnStep};
 use strips::Source;
 
 // The last column: its diagonal and, unless that is zero, p times the diagonal's inverse. Answers whether it is zero.
@@ -150,7 +150,7 @@ fn add_one(u: &mut [f64], d: &[f64], j: usize, k: usize, n: usize)
     requires { ⌜ n ≤ 1024 ⌝ }
     requires { ⌜ length (now u) ≡ n * n ⌝ }
     requires { ⌜ length (now d) ≡ n ⌝ }
-    ensures { λ _. ⌜ Added n j k (now (u .entry)) (now (d .entry)) (now (u .exit)) (k + 1) ⌝ }
+    ensures { λ _. ⌜ Gathered (j * n) 0 j (sourceOf n (now (u .entry)) (now (d .entry)) j) k (now (u .entry)) (k + 1) (now (u .exit)) ⌝ }
 {
     let to = j * n;
     let s = source(u, d, j, k, n);
@@ -164,7 +164,7 @@ fn add_four(u: &mut [f64], d: &[f64], j: usize, k: usize, n: usize)
     requires { ⌜ n ≤ 1024 ⌝ }
     requires { ⌜ length (now u) ≡ n * n ⌝ }
     requires { ⌜ length (now d) ≡ n ⌝ }
-    ensures { λ _. ⌜ Added n j k (now (u .entry)) (now (d .entry)) (now (u .exit)) (k + 4) ⌝ }
+    ensures { λ _. ⌜ Gathered (j * n) 0 j (sourceOf n (now (u .entry)) (now (d .entry)) j) k (now (u .entry)) (k + 4) (now (u .exit)) ⌝ }
 {
     let to = j * n;
     let s = source(u, d, j, k, n);

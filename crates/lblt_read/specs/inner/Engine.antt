@@ -1,12 +1,9 @@
--- What the engines leave behind at a block, and the step of a column.
-use mathlib.Core.Bool.{cond, _&&_}
+-- What the engines leave behind at a block.
 use mathlib.Core.List.{List}
 use mathlib.Core.Path.{_≡_}
 use Prim.Native.Nat.{ℕ, _*_, _≤_}
-use lib.Dec.{eqb, ltb}
 use lib.Ieee.{Float}
 use lib.ListN.{length}
-use Rattle.matrix.specs.Rounded.{_⊕_, _⊗_}
 use Rattle.matrix.specs.Matrix.{Matrix}
 use Rattle.matrix.specs.Grid.{Holds}
 use Rattle.matrix.specs.Layouts.{square}
@@ -25,7 +22,3 @@ pub record Squared (n : ℕ) (l : List Float) : Type 0 where
 pub record Placed (next r n : ℕ) (l l' : List Float) (M : Matrix) : Type 0 where
   pub row : r ≡ next
   pub holds : Holds (square n) l l' M
-
--- column k, in the rows below n, plus column i times x
-unfoldable pub plusColumn : ℕ → ℕ → ℕ → Float → Matrix → Matrix
-plusColumn n k i x L row c = cond (ltb row n && eqb c k) (L row k ⊕ L row i ⊗ x) (L row c)

@@ -24,10 +24,9 @@ returns : tie.Need-returns
 unfolding solveColumn
 returns c =
     let given = c .before .before .before .before .before .before .before .before .before .before .before in
-    let reduce-step = c .before .before .before .before .before .before .reduce in
+    let reduce = c .before .before .before .before .before .before .reduce in
     let pre = given .pre in
     let backward = c .before .before .backward in
-    let reduce = reduce-step in
     backward .ensures ∙ ap (backwards _ _ _) (reduce .ensures ∙ sym (early _ _ (pre .0 .accepted) _))
 
 pub solve-column-spec : {M : Type 1} → statement M

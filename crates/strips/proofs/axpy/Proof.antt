@@ -1,7 +1,7 @@
 -- `axpy` meets its contract. Assumes nothing.
 use Prim.Native.Nat.{_-_}
 use native.Mathlib.Omega.{arith}
-use Rattle.strips.specs.Strip.{axpyOf}
+use Rattle.strips.specs.inner.Strip.{axpyOf}
 use Rattle.strips.proofs.Strips.{Partway, strip-none, strip-more, strip-all, axpy-row}
 use borrow.Author.Needs.{needs}
 use Rattle.strips.proofs.axpy.Statement.{statement}

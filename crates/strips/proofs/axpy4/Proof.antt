@@ -1,7 +1,7 @@
 -- `axpy4` meets its contract. Assumes nothing.
 use Prim.Native.Nat.{_-_}
 use native.Mathlib.Omega.{arith}
-use Rattle.strips.specs.Strip.{axpy4Of}
+use Rattle.strips.specs.inner.Strip.{axpy4Of}
 use Rattle.strips.proofs.Strips.{Partway, strip-none, strip-more, strip-all, axpy4-row}
 use borrow.Author.Needs.{needs}
 use Rattle.strips.proofs.axpy4.Statement.{statement}

@@ -2,7 +2,7 @@
 use Prim.Native.Nat.{_-_}
 use native.Mathlib.Omega.{arith}
 use borrow.Author.Needs.{needs}
-use Rattle.strips.specs.Strip.{ratioOf}
+use Rattle.strips.specs.inner.Strip.{ratioOf}
 use Rattle.strips.proofs.Strips.{Partway, strip-none, strip-more, strip-all, ratio-row}
 use Rattle.strips.proofs.unscale.Statement.{statement}
 use Rattle.strips.proofs.unscale.Tie as tie

@@ -2,17 +2,16 @@
 use mathlib.Core.Bool.{Bool, cond}
 use mathlib.Core.List.{List}
 use mathlib.Core.Path.{_≡_}
-use Prim.Native.Nat.{ℕ, _+_, _*_, _≤_, _<_}
+use Prim.Native.Nat.{ℕ, _+_, _*_, _<_}
 use lib.ListN.{getD, set}
 use lib.Ieee.{Float, nan, eq}
 use Rattle.answer.specs.declared.Answer.{Answer}
-use Rattle.matrix.specs.Loop.{for}
 use Rattle.matrix.specs.Grid.{load}
 use Rattle.matrix.specs.Layouts.{upper}
 use Rattle.matrix.specs.Rounded.{_⊖_, _⊗_, _⊘_, plusZero}
 use Rattle.strips.specs.declared.Source.{Source}
-use Rattle.strips.specs.Strip.{rowAt, Strip}
-use Rattle.udu.specs.Columns.{Factors, UduRun, plusCross, uduDiagonal, uduEntry}
+use Rattle.strips.specs.inner.Strip.{rowAt, Strip}
+use Rattle.udu.specs.Columns.{Factors, UduRun, uduDiagonal, uduEntry}
 use Rattle.udu.specs.Promise.{Holding, uduAnswer, factorsOf}
 
 -- the first c columns of u are +0
@@ -36,12 +35,6 @@ quotientsOf p u at x i = (rowAt p at i ⊖ rowAt u at i) ⊘ x
 -- column k, and what it is multiplied by in the sums of column j
 abbrev pub sourceOf : ℕ → List Float → List Float → ℕ → ℕ → Source
 sourceOf n u d j k = record { start = k * n; scale = getD d k nan ⊗ rowAt u (k * n) j }
-
--- to the sums that stand in column j the columns from k up to `next` are added
-pub record Added (n j k : ℕ) (u₀ d u : List Float) (next : ℕ) : Type 0 where
-  pub from : k < next
-  pub upto : next ≤ n
-  pub sums : Strip (j * n) 0 j (λ i. for k next (plusCross (factorsIn n u₀ d) j i) (rowAt u₀ (j * n) i)) u₀ u
 
 -- ---- columns
 

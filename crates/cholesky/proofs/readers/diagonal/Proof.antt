@@ -2,11 +2,10 @@
 use mathlib.Core.Path.{ap}
 use Prim.Native.Nat.{_-_}
 use native.Mathlib.Omega.{arith}
-use lib.Ieee.{binary64, mul}
 use Rattle.matrix.specs.Grid.{load}
 use Rattle.matrix.specs.Layouts.{lower}
 use Rattle.matrix.proofs.Loops.{Ran, ran-none, ran-more, ran-all}
-use Rattle.matrix.specs.Rounded.{one}
+use Rattle.matrix.specs.Rounded.{_⊗_, one}
 use Rattle.cholesky.specs.Readers.{times, productOf}
 use borrow.Author.Needs.{needs}
 use Rattle.cholesky.proofs.readers.diagonal.Statement.{statement}
@@ -32,7 +31,7 @@ loop-less c = search needs
 
 loop-again : tie.Need-loop-again Inv-loop μ-loop
 unfolding times
-loop-again c = ran-more (c .before .before .loop .inv) (c .before .loop-test .taken) (ap (mul binary64 (c .before .before .loop .product)) (c .get .ensures))
+loop-again c = ran-more (c .before .before .loop .inv) (c .before .loop-test .taken) (ap (_⊗_ (c .before .before .loop .product)) (c .get .ensures))
 
 returns : tie.Need-returns Inv-loop μ-loop
 unfolding productOf

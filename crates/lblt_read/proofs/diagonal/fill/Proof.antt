@@ -23,9 +23,8 @@ same-length c = search needs
 returns : tie.Need-returns
 unfolding dOf
 returns c =
-    let clear-step = c .before .before .before .before .before .before .clear in
+    let clear = c .before .before .before .before .before .before .clear in
     let put-blocks = c .before .before .put-blocks in
-    let clear = clear-step in
     fills-as (put-blocks .ensures) (ap (forwards _ _ _) (clear .ensures .cells))
 
 pub fill-spec : {M : Type 1} → statement M

@@ -35,10 +35,8 @@ same-length c = search needs
 returns : tie.Need-returns
 unfolding diagonalBlock
 returns c =
-    let size-step = c .before .before .before .before .before .before .size in
-    let if1-step = c .before .before .before .before .before .if1 in
-    let size = size-step in
-    let if1 = if1-step in
+    let size = c .before .before .before .before .before .before .size in
+    let if1 = c .before .before .before .before .before .if1 in
     let put = c .before .before .put in
     let get = c .before .before .before .get in
     placed-one _ _ (size .ensures) (_+_ _) _ (if1 .taken) (holds-as (put .ensures) (ap (entry _ _ _) (get .ensures)))
@@ -60,10 +58,8 @@ same-length-2 c = search needs
 returns-2 : tie.Need-returns-2
 unfolding diagonalBlock
 returns-2 c =
-    let size-step = c .before .before .before .before .before .size in
-    let if1-step = c .before .before .before .before .if1 in
-    let size = size-step in
-    let if1 = if1-step in
+    let size = c .before .before .before .before .before .size in
+    let if1 = c .before .before .before .before .if1 in
     let put-two = c .before .before .put-two in
     placed-two _ _ (size .ensures) (_+_ _) _ (if1 .left) (put-two .ensures)
 

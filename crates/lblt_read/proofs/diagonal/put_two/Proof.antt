@@ -70,18 +70,12 @@ same-length c = search needs
 
 returns : tie.Need-returns
 returns c =
-    let get-step = c .before .before .before .before .before .before .before .before .before .before .before .before .before .before .before .before .before .before .get in
-    let get2-step = c .before .before .before .before .before .before .before .before .before .before .before .before .before .before .before .before .before .get2 in
-    let get3-step = c .before .before .before .before .before .before .before .before .before .before .before .before .before .before .before .before .get3 in
-    let put-step = c .before .before .before .before .before .before .before .before .before .before .before .before .before .before .put in
-    let put2-step = c .before .before .before .before .before .before .before .before .before .before .put2 in
-    let put3-step = c .before .before .before .before .before .before .put3 in
-    let get2 = get2-step in
-    let get = get-step in
-    let get3 = get3-step in
-    let put = put-step in
-    let put2 = put2-step in
-    let put3 = put3-step in
+    let get = c .before .before .before .before .before .before .before .before .before .before .before .before .before .before .before .before .before .before .get in
+    let get2 = c .before .before .before .before .before .before .before .before .before .before .before .before .before .before .before .before .before .get2 in
+    let get3 = c .before .before .before .before .before .before .before .before .before .before .before .before .before .before .before .before .get3 in
+    let put = c .before .before .before .before .before .before .before .before .before .before .before .before .before .before .put in
+    let put2 = c .before .before .before .before .before .before .before .before .before .before .put2 in
+    let put3 = c .before .before .before .before .before .before .put3 in
     let put4 = c .before .before .put4 in
     put-four _ _ _ (get2 .ensures) (get .ensures) (get3 .ensures) (put .ensures) (put2 .ensures) (put3 .ensures) (put4 .ensures)
 

@@ -23,9 +23,8 @@ same-length c = search needs
 returns : tie.Need-returns
 unfolding lPermutedOf
 returns c =
-    let put-identity-step = c .before .before .before .before .before .before .put-identity in
+    let put-identity = c .before .before .before .before .before .before .put-identity in
     let permute-blocks = c .before .before .permute-blocks in
-    let put-identity = put-identity-step in
     fills-as (permute-blocks .ensures) (ap (forwards _ _ _) (put-identity .ensures .cells))
 
 pub fill-spec : {M : Type 1} → statement M

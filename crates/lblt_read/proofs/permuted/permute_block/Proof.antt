@@ -38,15 +38,11 @@ returns : tie.Need-returns
 unfolding permutedBlock
 returns c =
     let given = c .before .before .before .before .before .before .before .before .before .before .before .before .before .before in
-    let index-step = c .before .before .before .before .before .before .before .before .before .before .index in
-    let size-step = c .before .before .before .before .before .before .before .before .before .size in
-    let if1-step = c .before .before .before .before .before .before .before .before .if1 in
-    let swap-columns-step = c .before .before .before .before .before .before .swap-columns in
-    let size = size-step in
-    let if1 = if1-step in
+    let index = c .before .before .before .before .before .before .before .before .before .before .index in
+    let size = c .before .before .before .before .before .before .before .before .before .size in
+    let if1 = c .before .before .before .before .before .before .before .before .if1 in
+    let swap-columns = c .before .before .before .before .before .before .swap-columns in
     let args = given .args in
-    let index = index-step in
-    let swap-columns = swap-columns-step in
     let gather-column = c .before .before .gather-column in
     placed-one _ _ (size .ensures) (_+_ _) _ (if1 .taken) (permuted-one _ _ (args .words .now) (args .k) (index .ensures) (swap-columns .ensures) (gather-column .ensures))
 
@@ -68,13 +64,11 @@ add-gather-column-2 c = search needs
 gather-column-requires-2 : tie.Need-gather-column-requires-2
 gather-column-requires-2 c κs =
     let given = c .before .before .before .before .before .before .before .before .before .before .before in
-    let size-step = c .before .before .before .before .before .before .size in
-    let if1-step = c .before .before .before .before .before .if1 in
+    let size = c .before .before .before .before .before .before .size in
+    let if1 = c .before .before .before .before .before .if1 in
     let pre = given .pre in
     let swap-columns2 = c .before .before .before .swap-columns2 in
     let args = given .args in
-    let size = size-step in
-    let if1 = if1-step in
     (pre .0, (squared-of (pre .1 .0 .small) (swap-columns2 .ensures), (omega arith, omega (arith, pre .1 .1 .rows, reads-two (args .words .now) (args .k) (size .ensures) (if1 .left)))))
 
 add-gather-column-3 : tie.Need-add-gather-column-3
@@ -86,13 +80,11 @@ add-gather-column-4 c = search needs
 gather-column-requires-3 : tie.Need-gather-column-requires-3
 gather-column-requires-3 c κs =
     let given = c .before .before .before .before .before .before .before .before .before .before .before .before .before .before .before in
-    let size-step = c .before .before .before .before .before .before .before .before .before .before .size in
-    let if1-step = c .before .before .before .before .before .before .before .before .before .if1 in
+    let size = c .before .before .before .before .before .before .before .before .before .before .size in
+    let if1 = c .before .before .before .before .before .before .before .before .before .if1 in
     let pre = given .pre in
     let gather-column2 = c .before .before .before .gather-column2 in
     let args = given .args in
-    let size = size-step in
-    let if1 = if1-step in
     (pre .0, (squared-of (pre .1 .0 .small) (gather-column2 .ensures), (omega arith, omega (arith, pre .1 .1 .rows, reads-two (args .words .now) (args .k) (size .ensures) (if1 .left)))))
 
 add-result-2 : tie.Need-add-result-2
@@ -105,17 +97,12 @@ returns-2 : tie.Need-returns-2
 unfolding permutedBlock
 returns-2 c =
     let given = c .before .before .before .before .before .before .before .before .before .before .before .before .before .before .before .before .before .before in
-    let index-step = c .before .before .before .before .before .before .before .before .before .before .before .before .before .before .index in
-    let size-step = c .before .before .before .before .before .before .before .before .before .before .before .before .before .size in
-    let if1-step = c .before .before .before .before .before .before .before .before .before .before .before .before .if1 in
-    let swap-columns2-step = c .before .before .before .before .before .before .before .before .before .before .swap-columns2 in
-    let gather-column2-step = c .before .before .before .before .before .before .gather-column2 in
-    let size = size-step in
-    let if1 = if1-step in
+    let index = c .before .before .before .before .before .before .before .before .before .before .before .before .before .before .index in
+    let size = c .before .before .before .before .before .before .before .before .before .before .before .before .before .size in
+    let if1 = c .before .before .before .before .before .before .before .before .before .before .before .before .if1 in
+    let swap-columns2 = c .before .before .before .before .before .before .before .before .before .before .swap-columns2 in
+    let gather-column2 = c .before .before .before .before .before .before .gather-column2 in
     let args = given .args in
-    let index = index-step in
-    let swap-columns2 = swap-columns2-step in
-    let gather-column2 = gather-column2-step in
     let gather-column3 = c .before .before .gather-column3 in
     placed-two _ _ (size .ensures) (_+_ _) _ (if1 .left) (permuted-two _ _ (args .words .now) (args .k) (index .ensures) (swap-columns2 .ensures) (gather-column2 .ensures) (gather-column3 .ensures))
 

@@ -40,10 +40,8 @@ loop-less c = search needs
 
 loop-again : tie.Need-loop-again Inv-loop μ-loop
 loop-again c =
-    let loop-step = c .before .before .before .before .before .loop in
-    let loop-test-step = c .before .before .before .before .loop-test in
-    let loop = loop-step in
-    let loop-test = loop-test-step in
+    let loop = c .before .before .before .before .before .loop in
+    let loop-test = c .before .before .before .before .loop-test in
     let put = c .before .before .put in
     turned-more (loop .inv) (loop-test .taken) (put .ensures)
 
@@ -55,8 +53,7 @@ same-length c =
 
 returns : tie.Need-returns Inv-loop μ-loop
 returns c =
-    let clear-step = c .before .before .before .before .clear in
-    let clear = clear-step in
+    let clear = c .before .before .before .before .clear in
     fills-holds (holds-as (turned-all (c .before .loop .inv) (c .loop-test .left)) (ap (for 0 _ putOne) (clear .ensures .cells) ∙ identity-loop _))
 
 pub put-identity-spec : {M : Type 1} → statement M

@@ -2,7 +2,8 @@
 use native.Mathlib.Omega.{arith}
 use denote.Ref.{now}
 use Rattle.matrix.proofs.Places.{digits-within, product-small}
-use Rattle.udu.proofs.Crossing.{source-elsewhere, added-four}
+use Rattle.strips.proofs.Gathering.{gathered-axpy4}
+use Rattle.udu.proofs.Crossing.{source-elsewhere}
 use Rattle.udu.proofs.column.add_four.Statement.{statement}
 use Rattle.udu.proofs.column.add_four.Tie as tie
 
@@ -56,12 +57,11 @@ same-length c = c .before .before .axpy4 .ensures .long
 
 returns : tie.Need-returns
 returns c =
-    let given = c .before .before .before .before .before .before .before .before .before .before .before .before .before .before in
     let source = c .before .before .before .before .before .before .before .before .before .before .source in
     let source2 = c .before .before .before .before .before .before .before .before .source2 in
     let source3 = c .before .before .before .before .before .before .source3 in
     let source4 = c .before .before .before .before .source4 in
-    added-four (given .args .n) (given .args .j) (given .args .k) (now (given .args .u)) (now (given .args .d)) (source .ensures) (given .pre .1 .0) (source2 .ensures) (source3 .ensures) (source4 .ensures) (c .before .before .axpy4 .ensures)
+    gathered-axpy4 (source .ensures) (source2 .ensures) (source3 .ensures) (source4 .ensures) (c .before .before .axpy4 .ensures)
 
 pub add-four-spec : {M : Type 1} → statement M
 add-four-spec =

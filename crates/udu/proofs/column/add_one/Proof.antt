@@ -2,7 +2,8 @@
 use native.Mathlib.Omega.{arith}
 use denote.Ref.{now}
 use Rattle.matrix.proofs.Places.{digits-within, product-small}
-use Rattle.udu.proofs.Crossing.{source-elsewhere, added-one}
+use Rattle.strips.proofs.Gathering.{gathered-axpy}
+use Rattle.udu.proofs.Crossing.{source-elsewhere}
 use Rattle.udu.proofs.column.add_one.Statement.{statement}
 use Rattle.udu.proofs.column.add_one.Tie as tie
 
@@ -22,9 +23,8 @@ same-length c = c .before .before .axpy .ensures .long
 
 returns : tie.Need-returns
 returns c =
-    let given = c .before .before .before .before .before .before .before .before in
     let source = c .before .before .before .before .source in
-    added-one (given .args .n) (given .args .j) (given .args .k) (now (given .args .u)) (now (given .args .d)) (source .ensures) (given .pre .1 .0) (c .before .before .axpy .ensures)
+    gathered-axpy (source .ensures) (c .before .before .axpy .ensures)
 
 pub add-one-spec : {M : Type 1} → statement M
 add-one-spec =

@@ -23,7 +23,7 @@ add-k : tie.Need-add-k Inv-loop μ-loop Inv-loop2 μ-loop2
 add-k c = omega (arith, c .before .before .pre .0, c .before .before .pre .1 .0)
 
 loop-holds : tie.Need-loop-holds Inv-loop μ-loop Inv-loop2 μ-loop2
-loop-holds c = crossing-none (c .before .before .pre .0) (c .before .before .pre .1 .1 .1 .1)
+loop-holds c = crossing-none (c .before .before .pre .0)
 
 add-loop : tie.Need-add-loop Inv-loop μ-loop Inv-loop2 μ-loop2
 add-loop c = omega (arith, c .loop .inv .upto, c .before .before .before .pre .1 .0)
@@ -31,7 +31,7 @@ add-loop c = omega (arith, c .loop .inv .upto, c .before .before .before .pre .1
 add-four-requires : tie.Need-add-four-requires Inv-loop μ-loop Inv-loop2 μ-loop2
 add-four-requires c κs =
     let given = c .before .before .before .before .before in
-    (omega (arith, c .before .before .loop .inv .from), (c .before .loop-test .taken, (given .pre .1 .0, (c .before .before .loop .inv .sums .long ∙ given .pre .1 .1 .0, given .pre .1 .1 .1 .0))))
+    (omega (arith, c .before .before .loop .inv .gathered .from), (c .before .loop-test .taken, (given .pre .1 .0, (c .before .before .loop .inv .gathered .sums .long ∙ given .pre .1 .1 .0, given .pre .1 .1 .1 .0))))
 
 add-k-2 : tie.Need-add-k-2 Inv-loop μ-loop Inv-loop2 μ-loop2
 add-k-2 c =
@@ -48,16 +48,18 @@ loop-again : tie.Need-loop-again Inv-loop μ-loop Inv-loop2 μ-loop2
 loop-again c =
     let given = c .before .before .before .before .before .before .before .before in
     let loop = c .before .before .before .before .before .loop in
-    crossing-more (loop .inv) (given .pre .0) (c .before .before .add-four .ensures)
+    let loop-test = c .before .before .before .before .loop-test in
+    crossing-more (loop .inv) (given .pre .1 .1 .0) (loop-test .taken) (c .before .before .add-four .ensures)
 
 loop2-holds : tie.Need-loop2-holds Inv-loop μ-loop Inv-loop2 μ-loop2
-loop2-holds c = record { kept = λ u₀ w. w }
+loop2-holds c = record { kept = λ u₀ long w. w }
 
 add-one-requires : tie.Need-add-one-requires Inv-loop μ-loop Inv-loop2 μ-loop2
 add-one-requires c κs =
     let given = c .before .before .before .before .before .before .before in
     let loop = c .before .before .before .before .loop in
-    (omega (arith, (c .before .before .loop2 .inv .kept (now (given .args .u)) (loop .inv)) .from), (c .before .loop2-test .taken, (given .pre .1 .0, ((c .before .before .loop2 .inv .kept (now (given .args .u)) (loop .inv)) .sums .long ∙ given .pre .1 .1 .0, given .pre .1 .1 .1 .0))))
+    let reached = c .before .before .loop2 .inv .kept (now (given .args .u)) (given .pre .1 .1 .0) (loop .inv) in
+    (omega (arith, reached .gathered .from), (c .before .loop2-test .taken, (given .pre .1 .0, (reached .gathered .sums .long ∙ given .pre .1 .1 .0, given .pre .1 .1 .1 .0))))
 
 add-k-3 : tie.Need-add-k-3 Inv-loop μ-loop Inv-loop2 μ-loop2
 add-k-3 c =
@@ -72,19 +74,19 @@ loop2-less c =
 
 loop2-again : tie.Need-loop2-again Inv-loop μ-loop Inv-loop2 μ-loop2
 loop2-again c =
-    let given = c .before .before .before .before .before .before .before .before .before .before in
     let loop2 = c .before .before .before .before .before .loop2 in
-    record { kept = λ u₀ w. crossing-more (loop2 .inv .kept u₀ w) (given .pre .0) (c .before .before .add-one .ensures) }
+    let loop2-test = c .before .before .before .before .loop2-test in
+    record { kept = λ u₀ long w. crossing-more (loop2 .inv .kept u₀ long w) long (omega (arith, loop2-test .taken)) (c .before .before .add-one .ensures) }
 
 same-length : tie.Need-same-length Inv-loop μ-loop Inv-loop2 μ-loop2
 same-length c =
     let given = c .before .before .before .before .before .before in
-    (c .before .loop2 .inv .kept (now (given .args .u)) (c .before .before .before .loop .inv)) .sums .long
+    (c .before .loop2 .inv .kept (now (given .args .u)) (given .pre .1 .1 .0) (c .before .before .before .loop .inv)) .gathered .sums .long
 
 returns : tie.Need-returns Inv-loop μ-loop Inv-loop2 μ-loop2
 returns c =
     let given = c .before .before .before .before .before .before in
-    crossing-all (c .before .loop2 .inv .kept (now (given .args .u)) (c .before .before .before .loop .inv)) (c .loop2-test .left)
+    crossing-all (c .before .loop2 .inv .kept (now (given .args .u)) (given .pre .1 .1 .0) (c .before .before .before .loop .inv)) (c .loop2-test .left) (given .pre .0) (given .pre .1 .1 .1 .1)
 
 pub crosses-spec : {M : Type 1} → statement M
 crosses-spec =

@@ -5,6 +5,7 @@ use mathlib.Core.Logic.{_⊎_}
 use Prim.Native.Nat.{ℕ, _+_, _≤_, _<_}
 use lib.ListN.{length, getD}
 use lib.Ieee.{Float, nan}
+use Rattle.matrix.specs.Loop.{for}
 use Rattle.matrix.specs.Rounded.{_⊕_, _⊗_, _⊘_, plusZero}
 use Rattle.strips.specs.declared.Source.{Source}
 
@@ -34,6 +35,11 @@ axpyOf l to s i = plus l s i (rowAt l to i)
 unfoldable pub axpy4Of : List Float → ℕ → Source → Source → Source → Source → ℕ → Float
 unfolding plus
 axpy4Of l to s t u v i = plus l v i (plus l u i (plus l t i (plus l s i (rowAt l to i))))
+
+-- of the columns `term c`, those from `first` up to k are added, one after the other
+pub record Gathered (to lo hi : ℕ) (term : ℕ → Source) (first : ℕ) (l₀ : List Float) (k : ℕ) (l : List Float) : Type 0 where
+  pub from : first ≤ k
+  pub sums : Strip to lo hi (λ i. for first k (λ c. plus l₀ (term c) i) (rowAt l₀ to i)) l₀ l
 
 unfoldable pub ratioOf : List Float → ℕ → Float → ℕ → Float
 ratioOf l s d i = rowAt l s i ⊘ d
