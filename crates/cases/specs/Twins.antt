@@ -2,10 +2,8 @@
 use mathlib.Core.List.{List, [], _∷_}
 use Prim.Native.Nat.{ℕ}
 use Rattle.cases.specs.Calls.{stray, lbltFactor, choleskyFactor, uduFactor, Case, _⇒_}
-use Rattle.cases.specs.Table.{zero, belowOne, one, two, three, four, fortyNine, done, refused}
-
-abbrev pub seven : ℕ
-seven = 0x401c_0000_0000_0000
+use Rattle.cases.specs.Bits as bits
+use Rattle.cases.specs.Table.{done, refused}
 
 -- slices of order 2: [x / x x] by the lower part, and by the upper part
 abbrev pub twins : ℕ → List ℕ
@@ -16,18 +14,18 @@ twinsAbove x = x ∷ stray ∷ x ∷ x ∷ []
 
 -- 1 and 0 in column 0, 1 and 1 in column 1: the rows are twins by the upper part, not by the lower
 abbrev pub upperTwins : List ℕ
-upperTwins = one ∷ zero ∷ one ∷ one ∷ []
+upperTwins = bits.one ∷ bits.zero ∷ bits.one ∷ bits.one ∷ []
 
 -- slices of room 2: the rows 2 and then 2, 2, as they came; the rows 4 and then 2, 2
 abbrev pub cameTwice : List ℕ
-cameTwice = two ∷ two ∷ zero ∷ two ∷ []
+cameTwice = bits.two ∷ bits.two ∷ bits.zero ∷ bits.two ∷ []
 
 abbrev pub cameOnce : List ℕ
-cameOnce = four ∷ two ∷ zero ∷ two ∷ []
+cameOnce = bits.four ∷ bits.two ∷ bits.zero ∷ bits.two ∷ []
 
 -- the same with row 0 factored: √2 for 2; 2 for 4, so that the numbers are those of the rows that came twice
 abbrev pub factoredTwice : List ℕ
-factoredTwice = 0x3ff6_a09e_667f_3bcd ∷ two ∷ zero ∷ two ∷ []
+factoredTwice = 0x3ff6_a09e_667f_3bcd ∷ bits.two ∷ bits.zero ∷ bits.two ∷ []
 
 abbrev pub factoredOnce : List ℕ
 factoredOnce = cameTwice
@@ -35,30 +33,30 @@ factoredOnce = cameTwice
 abbrev pub twinTable : List Case
 twinTable =
     -- x = 1
-    (lbltFactor 2 (twins one) ⇒ done ∷ (0 ∷ 1 ∷ 1 ∷ 1 ∷ 2 ∷ []) ∷ (one ∷ one ∷ stray ∷ zero ∷ []) ∷ [])
-    ∷ (choleskyFactor 2 2 (twins one) ⇒ refused 7 1 ∷ (one ∷ one ∷ stray ∷ zero ∷ []) ∷ [])
-    ∷ (uduFactor 2 (twinsAbove one) ⇒ refused 8 0 ∷ (zero ∷ zero ∷ one ∷ one ∷ []) ∷ (zero ∷ one ∷ []) ∷ [])
+    (lbltFactor 2 (twins bits.one) ⇒ done ∷ (0 ∷ 1 ∷ 1 ∷ 1 ∷ 2 ∷ []) ∷ (bits.one ∷ bits.one ∷ stray ∷ bits.zero ∷ []) ∷ [])
+    ∷ (choleskyFactor 2 2 (twins bits.one) ⇒ refused 7 1 ∷ (bits.one ∷ bits.one ∷ stray ∷ bits.zero ∷ []) ∷ [])
+    ∷ (uduFactor 2 (twinsAbove bits.one) ⇒ refused 8 0 ∷ (bits.zero ∷ bits.zero ∷ bits.one ∷ bits.one ∷ []) ∷ (bits.zero ∷ bits.one ∷ []) ∷ [])
     -- x = 2
-    ∷ (lbltFactor 2 (twins two) ⇒ done ∷ (0 ∷ 1 ∷ 1 ∷ 1 ∷ 2 ∷ []) ∷ (two ∷ one ∷ stray ∷ zero ∷ []) ∷ [])
-    ∷ (choleskyFactor 2 2 (twins two) ⇒ done ∷ (0x3ff6_a09e_667f_3bcd ∷ 0x3ff6_a09e_667f_3bcc ∷ stray ∷ 0x3e56_a09e_667f_3bcd ∷ []) ∷ [])
-    ∷ (uduFactor 2 (twinsAbove two) ⇒ refused 8 0 ∷ (zero ∷ zero ∷ one ∷ one ∷ []) ∷ (zero ∷ two ∷ []) ∷ [])
+    ∷ (lbltFactor 2 (twins bits.two) ⇒ done ∷ (0 ∷ 1 ∷ 1 ∷ 1 ∷ 2 ∷ []) ∷ (bits.two ∷ bits.one ∷ stray ∷ bits.zero ∷ []) ∷ [])
+    ∷ (choleskyFactor 2 2 (twins bits.two) ⇒ done ∷ (0x3ff6_a09e_667f_3bcd ∷ 0x3ff6_a09e_667f_3bcc ∷ stray ∷ 0x3e56_a09e_667f_3bcd ∷ []) ∷ [])
+    ∷ (uduFactor 2 (twinsAbove bits.two) ⇒ refused 8 0 ∷ (bits.zero ∷ bits.zero ∷ bits.one ∷ bits.one ∷ []) ∷ (bits.zero ∷ bits.two ∷ []) ∷ [])
     -- x = 3
-    ∷ (lbltFactor 2 (twins three) ⇒ done ∷ (0 ∷ 1 ∷ 1 ∷ 1 ∷ 2 ∷ []) ∷ (three ∷ one ∷ stray ∷ zero ∷ []) ∷ [])
-    ∷ (choleskyFactor 2 2 (twins three) ⇒ refused 7 1 ∷ (0x3ffb_b67a_e858_4caa ∷ 0x3ffb_b67a_e858_4cab ∷ stray ∷ 0xbcc0_0000_0000_0000 ∷ []) ∷ [])
-    ∷ (uduFactor 2 (twinsAbove three) ⇒ refused 8 0 ∷ (zero ∷ zero ∷ one ∷ one ∷ []) ∷ (zero ∷ three ∷ []) ∷ [])
+    ∷ (lbltFactor 2 (twins bits.three) ⇒ done ∷ (0 ∷ 1 ∷ 1 ∷ 1 ∷ 2 ∷ []) ∷ (bits.three ∷ bits.one ∷ stray ∷ bits.zero ∷ []) ∷ [])
+    ∷ (choleskyFactor 2 2 (twins bits.three) ⇒ refused 7 1 ∷ (0x3ffb_b67a_e858_4caa ∷ 0x3ffb_b67a_e858_4cab ∷ stray ∷ 0xbcc0_0000_0000_0000 ∷ []) ∷ [])
+    ∷ (uduFactor 2 (twinsAbove bits.three) ⇒ refused 8 0 ∷ (bits.zero ∷ bits.zero ∷ bits.one ∷ bits.one ∷ []) ∷ (bits.zero ∷ bits.three ∷ []) ∷ [])
     -- x = 7
-    ∷ (lbltFactor 2 (twins seven) ⇒ done ∷ (0 ∷ 1 ∷ 1 ∷ 1 ∷ 2 ∷ []) ∷ (seven ∷ one ∷ stray ∷ zero ∷ []) ∷ [])
-    ∷ (choleskyFactor 2 2 (twins seven) ⇒ done ∷ (0x4005_2a7f_a9d2_f8ea ∷ 0x4005_2a7f_a9d2_f8e9 ∷ stray ∷ 0x3e66_a09e_667f_3bcd ∷ []) ∷ [])
-    ∷ (uduFactor 2 (twinsAbove seven) ⇒ refused 8 0 ∷ (zero ∷ zero ∷ one ∷ one ∷ []) ∷ (zero ∷ seven ∷ []) ∷ [])
+    ∷ (lbltFactor 2 (twins bits.seven) ⇒ done ∷ (0 ∷ 1 ∷ 1 ∷ 1 ∷ 2 ∷ []) ∷ (bits.seven ∷ bits.one ∷ stray ∷ bits.zero ∷ []) ∷ [])
+    ∷ (choleskyFactor 2 2 (twins bits.seven) ⇒ done ∷ (0x4005_2a7f_a9d2_f8ea ∷ 0x4005_2a7f_a9d2_f8e9 ∷ stray ∷ 0x3e66_a09e_667f_3bcd ∷ []) ∷ [])
+    ∷ (uduFactor 2 (twinsAbove bits.seven) ⇒ refused 8 0 ∷ (bits.zero ∷ bits.zero ∷ bits.one ∷ bits.one ∷ []) ∷ (bits.zero ∷ bits.seven ∷ []) ∷ [])
     -- x = 49
-    ∷ (lbltFactor 2 (twins fortyNine) ⇒ done ∷ (0 ∷ 1 ∷ 1 ∷ 1 ∷ 0 ∷ []) ∷ (fortyNine ∷ belowOne ∷ stray ∷ 0x3d00_0000_0000_0000 ∷ []) ∷ [])
-    ∷ (choleskyFactor 2 2 (twins fortyNine) ⇒ refused 7 1 ∷ (seven ∷ seven ∷ stray ∷ zero ∷ []) ∷ [])
-    ∷ (uduFactor 2 (twinsAbove fortyNine) ⇒ done ∷ (one ∷ zero ∷ belowOne ∷ belowOne ∷ []) ∷ (0x3d10_0000_0000_0000 ∷ fortyNine ∷ []) ∷ [])
+    ∷ (lbltFactor 2 (twins bits.fortyNine) ⇒ done ∷ (0 ∷ 1 ∷ 1 ∷ 1 ∷ 0 ∷ []) ∷ (bits.fortyNine ∷ bits.belowOne ∷ stray ∷ 0x3d00_0000_0000_0000 ∷ []) ∷ [])
+    ∷ (choleskyFactor 2 2 (twins bits.fortyNine) ⇒ refused 7 1 ∷ (bits.seven ∷ bits.seven ∷ stray ∷ bits.zero ∷ []) ∷ [])
+    ∷ (uduFactor 2 (twinsAbove bits.fortyNine) ⇒ done ∷ (bits.one ∷ bits.zero ∷ bits.belowOne ∷ bits.belowOne ∷ []) ∷ (0x3d10_0000_0000_0000 ∷ bits.fortyNine ∷ []) ∷ [])
     -- x = 0006200000000000, below the normal numbers: (1/x)·x, which is u(0,1), is not 1, and what is left is zero all the same
-    ∷ (uduFactor 2 (twinsAbove 0x0006_2000_0000_0000) ⇒ refused 8 0 ∷ (zero ∷ zero ∷ belowOne ∷ belowOne ∷ []) ∷ (zero ∷ 0x0006_2000_0000_0000 ∷ []) ∷ [])
+    ∷ (uduFactor 2 (twinsAbove 0x0006_2000_0000_0000) ⇒ refused 8 0 ∷ (bits.zero ∷ bits.zero ∷ bits.belowOne ∷ bits.belowOne ∷ []) ∷ (bits.zero ∷ 0x0006_2000_0000_0000 ∷ []) ∷ [])
     -- row 0 factored, of 2 and of 4, with row 1 beside it as it came
     ∷ (choleskyFactor 2 1 cameTwice ⇒ done ∷ factoredTwice ∷ [])
     ∷ (choleskyFactor 2 1 cameOnce ⇒ done ∷ factoredOnce ∷ [])
     -- twins by the upper part alone
-    ∷ (uduFactor 2 upperTwins ⇒ refused 8 0 ∷ (zero ∷ zero ∷ one ∷ one ∷ []) ∷ (zero ∷ one ∷ []) ∷ [])
+    ∷ (uduFactor 2 upperTwins ⇒ refused 8 0 ∷ (bits.zero ∷ bits.zero ∷ bits.one ∷ bits.one ∷ []) ∷ (bits.zero ∷ bits.one ∷ []) ∷ [])
     ∷ []

@@ -17,7 +17,7 @@ use Rattle.matrix.specs.Matrix.{Matrix}
 use Rattle.matrix.specs.Grid.{load}
 use Rattle.matrix.specs.Layouts.{lower}
 use Rattle.matrix.specs.declared.Layout.{Layout}
-use Rattle.matrix.proofs.Tests.{either}
+use Rattle.answer.proofs.Tests.{either}
 use Rattle.pivots.specs.Words.{indexWord, sizeWord, markWord, markAt, Sized, paired, marked}
 use Rattle.pivots.specs.Rule.{Accepted}
 use Rattle.pivots.proofs.Written.{Written, Marks, written-none, written-one, written-two, written-zero, written-all}

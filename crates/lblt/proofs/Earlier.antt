@@ -7,7 +7,7 @@ use lib.Ieee.{Float}
 use Rattle.matrix.specs.Matrix.{Matrix, entry}
 use Rattle.matrix.specs.Loop.{for}
 use Rattle.matrix.specs.Rounded.{_⊖_, _⊗_}
-use Rattle.matrix.proofs.Tests.{either}
+use Rattle.answer.proofs.Tests.{either}
 use Rattle.matrix.proofs.Loops.{for-still}
 use Rattle.matrix.proofs.Stores.{entry-column, exchange-skip, swaps-skip, column-other}
 use Rattle.lblt.specs.Choice.{choose}

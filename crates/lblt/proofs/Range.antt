@@ -11,7 +11,7 @@ use Rattle.leaf.specs.Abs.{absOf}
 use Rattle.leaf.specs.Maximum.{maximumOf}
 use Rattle.matrix.specs.Matrix.{Matrix}
 use Rattle.matrix.specs.Rounded.{_⊗_, _⊘_, plusZero}
-use Rattle.matrix.proofs.Tests.{either}
+use Rattle.answer.proofs.Tests.{either}
 use Rattle.matrix.proofs.Loops.{for-keeps}
 use Rattle.lblt.specs.Choice.{α, greater, columnMax, rowMax, contest, choiceBy, choose}
 use Rattle.lblt.specs.declared.choice.Largest.{Largest}

@@ -5,7 +5,7 @@ use native.Mathlib.Nat.{lt-of-not-le, mul-le-mul, pow-suc}
 use native.Mathlib.Omega.{arith}
 use mathlib.Core.Bool.{Bool, true, false, not, cond}
 use lib.Dec.{T, leb, leb→le, nleb→lt}
-use Rattle.leaf.specs.Root.{digits}
+use Rattle.leaf.specs.Root.{rootDigits}
 use Rattle.leaf.specs.Cut.{CutRoot}
 
 pub square-mono : (s t : ℕ) → s ≤ t → s * s ≤ t * t
@@ -32,10 +32,10 @@ one-more v r c = go (leb ((2 * r + 1) * (2 * r + 1)) v) (leb→le ((2 * r + 1) *
     go true y n = record { low = y tt; high = omega arith }
     go false y n = record { low = omega arith; high = n tt }
 
-pub digits-cut : (d v : ℕ) → v < 4 ^ d → CutRoot v (digits d v)
-unfolding digits
+pub digits-cut : (d v : ℕ) → v < 4 ^ d → CutRoot v (rootDigits d v)
+unfolding rootDigits
 digits-cut zero v h = record { low = omega arith; high = h }
-digits-cut (suc d) v h = one-more v (digits d (v / 4)) (digits-cut d (v / 4) (quarter (4 ^ d) (subst (λ (x : ℕ). v < x) (pow-suc 4 d) h)))
+digits-cut (suc d) v h = one-more v (rootDigits d (v / 4)) (digits-cut d (v / 4) (quarter (4 ^ d) (subst (λ (x : ℕ). v < x) (pow-suc 4 d) h)))
   where
     quarter : (p : ℕ) → v < p * 4 → v / 4 < p
     quarter p k = omega arith

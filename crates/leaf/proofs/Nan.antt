@@ -2,7 +2,7 @@
 use mathlib.Core.Path.{_≡_, refl, sym, _∙_, subst}
 use Prim.Native.Nat.{ℕ, _%_, _^_, _≤_, _<_}
 use mathlib.Core.Bool.{Bool, true, false, not, true≢false}
-use lib.Dec.{T, ltb, lt→ltb}
+use lib.Dec.{T, lt→ltb}
 use lib.Arith.{le→nltb}
 use lib.Ieee.{Float, nan, inf, fin, binary64, ne, div, isNan, nanBits, ofBits, toBits}
 use lib.Ieee.Compare.{differs-from-itself, nan-differs}

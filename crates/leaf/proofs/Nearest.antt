@@ -11,8 +11,8 @@ use lib.Count.{leadingZeros}
 use lib.Ieee.{Float, nan, inf, fin, binary64, fits, isNan, ofBits, toBits}
 use lib.Ieee.Bits.{ofBits-fits, ofBits-toBits, toBits-ofBits, nanBits-is}
 use lib.Ieee.Positive.{positive, positive-of-value}
-use Rattle.leaf.specs.Root.{unitsOf, digits, rootOf}
-use Rattle.leaf.specs.Nearest.{Nearest, IsRoot, square}
+use Rattle.leaf.specs.Root.{unitsOf, rootDigits, rootOf}
+use Rattle.leaf.specs.Nearest.{Nearest, IsRoot, squareOf}
 use Rattle.leaf.specs.Cut.{CutRoot}
 use Rattle.leaf.specs.Scaled.{Normal, Subnormal, Scaled}
 use Rattle.leaf.proofs.Nan.{no-nan-bits}
@@ -54,7 +54,7 @@ module _ (m at : ℕ) (z : Scaled m at) where
     here : sizeAt (at / 2 * 2 ^ 52 + (s + 1) / 2) ≡ (s + 1) / 2 * 2 ^ (at / 2)
     here = size-here (at / 2) ((s + 1) / 2) place least most
 
-    low : square (sizeAt (at / 2 * 2 ^ 52 + (s + 1) / 2 - 1) + sizeAt (at / 2 * 2 ^ 52 + (s + 1) / 2)) < m * 2 ^ (at % 2) * 2 ^ 54 * (2 ^ (at / 2) * 2 ^ (at / 2))
+    low : squareOf (sizeAt (at / 2 * 2 ^ 52 + (s + 1) / 2 - 1) + sizeAt (at / 2 * 2 ^ 52 + (s + 1) / 2)) < m * 2 ^ (at % 2) * 2 ^ 54 * (2 ^ (at / 2) * 2 ^ (at / 2))
     low = go (eq-or-lt-of-le least)
       where
         step : 2 ^ 52 < (s + 1) / 2 → (s + 1) / 2 ≡ (s + 1) / 2 - 1 + 1
@@ -67,13 +67,13 @@ module _ (m at : ℕ) (z : Scaled m at) where
         up = omega (arith, z .lowest)
 
         go : (2 ^ 52 ≡ (s + 1) / 2) ⊎ (2 ^ 52 < (s + 1) / 2)
-            → square (sizeAt (at / 2 * 2 ^ 52 + (s + 1) / 2 - 1) + sizeAt (at / 2 * 2 ^ 52 + (s + 1) / 2)) < m * 2 ^ (at % 2) * 2 ^ 54 * (2 ^ (at / 2) * 2 ^ (at / 2))
+            → squareOf (sizeAt (at / 2 * 2 ^ 52 + (s + 1) / 2 - 1) + sizeAt (at / 2 * 2 ^ 52 + (s + 1) / 2)) < m * 2 ^ (at % 2) * 2 ^ 54 * (2 ^ (at / 2) * 2 ^ (at / 2))
         go (inl e) = above-half _ s ((s + 1) / 2) (2 ^ (at / 2)) _ _ (pow-pos (at / 2)) c (twice e) here (size-before-power (at / 2) ((s + 1) / 2) place least most (sym e) up)
         go (inr g) =
             above-before (m * 2 ^ (at % 2)) s ((s + 1) / 2 - 1) (2 ^ (at / 2)) _ _ (pow-pos (at / 2)) c (step g) (here ∙ ap (λ (q : ℕ). q * 2 ^ (at / 2)) (step g))
             (size-before (at / 2) ((s + 1) / 2) place least most g)
 
-    high : m * 2 ^ (at % 2) * 2 ^ 54 * (2 ^ (at / 2) * 2 ^ (at / 2)) < square (sizeAt (at / 2 * 2 ^ 52 + (s + 1) / 2) + sizeAt (at / 2 * 2 ^ 52 + (s + 1) / 2 + 1))
+    high : m * 2 ^ (at % 2) * 2 ^ 54 * (2 ^ (at / 2) * 2 ^ (at / 2)) < squareOf (sizeAt (at / 2 * 2 ^ 52 + (s + 1) / 2) + sizeAt (at / 2 * 2 ^ 52 + (s + 1) / 2 + 1))
     high = below-after _ s ((s + 1) / 2) (2 ^ (at / 2)) _ _ (pow-pos (at / 2)) c refl here (size-after (at / 2) ((s + 1) / 2) place least most)
 
     nearest-cut : (x : Float) → RootUnits x (m * 2 ^ (at + 52)) → Nearest x (ofBits binary64 (at / 2 * 2 ^ 52 + (s + 1) / 2))
@@ -86,8 +86,8 @@ module _ (m at : ℕ) (z : Scaled m at) where
         record {
           fits = ofBits-fits binary64 b;
           positive = positive-of-value r ((s + 1) / 2 * 2 ^ (at / 2)) (2 ^ 1074) (counts (at / 2) ((s + 1) / 2) (omega (arith, place)) least most) (mul-pos some (pow-pos (at / 2)));
-          lower = subst (λ (n : ℕ). square (sizeAt (n - 1) + sizeAt b) < 4 * (unitsOf x * 2 ^ 1074)) (sym bits) (subst (λ (n : ℕ). square (sizeAt (b - 1) + sizeAt b) < n) (sym four) low);
-          upper = subst (λ (n : ℕ). 4 * (unitsOf x * 2 ^ 1074) < square (sizeAt b + sizeAt (n + 1))) (sym bits) (subst (λ (n : ℕ). n < square (sizeAt b + sizeAt (b + 1))) (sym four) high);
+          lower = subst (λ (n : ℕ). squareOf (sizeAt (n - 1) + sizeAt b) < 4 * (unitsOf x * 2 ^ 1074)) (sym bits) (subst (λ (n : ℕ). squareOf (sizeAt (b - 1) + sizeAt b) < n) (sym four) low);
+          upper = subst (λ (n : ℕ). 4 * (unitsOf x * 2 ^ 1074) < squareOf (sizeAt b + sizeAt (n + 1))) (sym bits) (subst (λ (n : ℕ). n < squareOf (sizeAt b + sizeAt (b + 1))) (sym four) high);
         }
       where
         some : 0 < (s + 1) / 2
@@ -96,8 +96,8 @@ module _ (m at : ℕ) (z : Scaled m at) where
   nearest-scaled : (x : Float) → RootUnits x (m * 2 ^ (at + 52)) → Nearest x (rootOf x)
   nearest-scaled x u =
       let w = m * 2 ^ (at % 2) * 2 ^ 54 in
-      let c : CutRoot w (digits 54 w) = digits-cut 54 w (shl-lt 54 54 (even-most m at z)) in
-      subst (λ (r : Float). Nearest x r) (sym (rounded-cut m at z (digits 54 w) c) ∙ root-rounded u) (nearest-cut (digits 54 w) c x u)
+      let c : CutRoot w (rootDigits 54 w) = digits-cut 54 w (shl-lt 54 54 (even-most m at z)) in
+      subst (λ (r : Float). Nearest x r) (sym (rounded-cut m at z (rootDigits 54 w) c) ∙ root-rounded u) (nearest-cut (rootDigits 54 w) c x u)
 
 nearest-bits : (b : ℕ) → 0 < b → b < 0x7ff0_0000_0000_0000 → Nearest (ofBits binary64 b) (rootOf (ofBits binary64 b))
 nearest-bits b p h = go (less-or-not b (2 ^ 52))

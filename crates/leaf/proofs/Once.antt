@@ -9,7 +9,7 @@ use lib.Dec.{T}
 use lib.Ieee.{Float, nan, inf, fin, binary64, fits, ofBits, toBits}
 use lib.Ieee.Bits.{ofBits-toBits}
 use Rattle.leaf.specs.Root.{unitsOf}
-use Rattle.leaf.specs.Nearest.{Nearest, IsRoot, square}
+use Rattle.leaf.specs.Nearest.{Nearest, IsRoot, squareOf}
 use Rattle.leaf.proofs.Cut.{square-mono}
 use Rattle.leaf.proofs.Patterns.{positive-bits}
 use Rattle.leaf.proofs.Neighbours.{less-or-not, sizeAt, size-mono}
@@ -34,10 +34,10 @@ not-below : (x r t : Float) → Nearest x r → Nearest x t → toBits binary64 
 not-below x r t m n l =
     let b = toBits binary64 r in
     let c = toBits binary64 t in
-    apart (4 * (unitsOf x * 2 ^ 1074)) (square (sizeAt b + sizeAt (b + 1))) (square (sizeAt (c - 1) + sizeAt c))
-    (subst (λ (k : ℕ). 4 * (unitsOf x * 2 ^ 1074) < square (k + sizeAt (b + 1))) (size-of r (m .fits)) (m .upper))
+    apart (4 * (unitsOf x * 2 ^ 1074)) (squareOf (sizeAt b + sizeAt (b + 1))) (squareOf (sizeAt (c - 1) + sizeAt c))
+    (subst (λ (k : ℕ). 4 * (unitsOf x * 2 ^ 1074) < squareOf (k + sizeAt (b + 1))) (size-of r (m .fits)) (m .upper))
     (square-mono (sizeAt b + sizeAt (b + 1)) (sizeAt (c - 1) + sizeAt c) (midpoints b c l (positive-bits t (n .fits) (n .positive) .1)))
-    (subst (λ (k : ℕ). square (sizeAt (c - 1) + k) < 4 * (unitsOf x * 2 ^ 1074)) (size-of t (n .fits)) (n .lower))
+    (subst (λ (k : ℕ). squareOf (sizeAt (c - 1) + k) < 4 * (unitsOf x * 2 ^ 1074)) (size-of t (n .fits)) (n .lower))
   where
     apart : (v p q : ℕ) → v < p → p ≤ q → q < v → ⊥
     apart v p q a b c = omega arith

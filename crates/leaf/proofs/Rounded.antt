@@ -11,7 +11,7 @@ use lib.Ieee.Digits.{size-lt, size-le}
 use lib.Ieee.Fits.{odd-fits}
 use lib.Ieee.Bits.{is-true, ofBits-fits}
 use lib.Ieee.Exact.{odd-sign}
-use Rattle.leaf.specs.Root.{digits, rounded}
+use Rattle.leaf.specs.Root.{rootDigits, rounded}
 use Rattle.leaf.specs.Cut.{CutRoot}
 use Rattle.leaf.specs.Scaled.{Scaled}
 use Rattle.leaf.proofs.Cut.{square-mono, cut-once, digits-cut}
@@ -56,11 +56,11 @@ units-bits k q h a b =
     units-odd : units binary64 false q k ≡ odd 54 false q k 1074
     units-odd = ap (λ (t : Bool). cond t (odd 54 false q k 1074) (inf false)) (is-true (ltb (q * 2 ^ k) (2 ^ 2098)) (lt→ltb (q * 2 ^ k) (2 ^ 2098) below))
 
-by-parts : (v k w : ℕ) → (size v + 1) / 2 - 54 ≡ k → v / 4 ^ k ≡ w → rounded v ≡ units binary64 false ((digits 54 w + 1) / 2) (k + 1)
+by-parts : (v k w : ℕ) → (size v + 1) / 2 - 54 ≡ k → v / 4 ^ k ≡ w → rounded v ≡ units binary64 false ((rootDigits 54 w + 1) / 2) (k + 1)
 unfolding rounded
 by-parts v k w p q =
-    ap (λ (j : ℕ). units binary64 false ((digits 54 (v / 4 ^ j) + 1) / 2) (j + 1)) p
-    ∙ ap (λ (y : ℕ). units binary64 false ((digits 54 y + 1) / 2) (k + 1)) q
+    ap (λ (j : ℕ). units binary64 false ((rootDigits 54 (v / 4 ^ j) + 1) / 2) (j + 1)) p
+    ∙ ap (λ (y : ℕ). units binary64 false ((rootDigits 54 y + 1) / 2) (k + 1)) q
 
 pub record Long (s : ℕ) : Type 0 where
   pub least : 2 ^ 53 ≤ s
@@ -96,7 +96,7 @@ module _ (m at : ℕ) (z : Scaled m at) where
       ∙ ap (λ (x : ℕ). x * 2 ^ (at / 2 - 1 + (at / 2 - 1))) (sym (mul-assoc m (2 ^ (at % 2)) (2 ^ 54)))
       ∙ ap (λ (x : ℕ). w * x) (sym (fours (at / 2 - 1))))
       ∙ mul-div-cancel w (subst (λ (x : ℕ). 0 < x) (sym (fours (at / 2 - 1))) (pow-pos (at / 2 - 1 + (at / 2 - 1)))) in
-      let e : digits 54 w ≡ s = cut-once w (digits 54 w) s (digits-cut 54 w hi) c in
+      let e : rootDigits 54 w ≡ s = cut-once w (rootDigits 54 w) s (digits-cut 54 w hi) c in
       by-parts (m * 2 ^ (at + 52)) (at / 2 - 1) w (ap (λ (x : ℕ). (x + 1) / 2 - 54) sz ∙ half) cut
       ∙ ap (λ (x : ℕ). units binary64 false ((x + 1) / 2) (at / 2 - 1 + 1)) e
       ∙ ap (λ (x : ℕ). units binary64 false ((s + 1) / 2) x) one

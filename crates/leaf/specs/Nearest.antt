@@ -14,16 +14,16 @@ before r = ofBits binary64 (toBits binary64 r - 1)
 abbrev pub after : Float → Float
 after r = ofBits binary64 (toBits binary64 r + 1)
 
-abbrev pub square : ℕ → ℕ
-square n = n * n
+abbrev pub squareOf : ℕ → ℕ
+squareOf n = n * n
 
 -- r is the f64 nearest the root of x, for an x above zero: that root lies between the lower and the upper midpoint beside r.
 -- With all sizes in units the root is √(x * 2 ^ 1074), and a midpoint is (a + b) / 2; both sides are doubled and squared.
 pub record Nearest (x r : Float) : Type 0 where
   pub fits : T (fits binary64 r)
   pub positive : T (positive r)
-  pub lower : square (unitsOf (before r) + unitsOf r) < 4 * (unitsOf x * 2 ^ 1074)
-  pub upper : 4 * (unitsOf x * 2 ^ 1074) < square (unitsOf r + unitsOf (after r))
+  pub lower : squareOf (unitsOf (before r) + unitsOf r) < 4 * (unitsOf x * 2 ^ 1074)
+  pub upper : 4 * (unitsOf x * 2 ^ 1074) < squareOf (unitsOf r + unitsOf (after r))
 
 -- r is the root of x.
 unfoldable pub IsRoot : Float → Float → Type 0

@@ -11,14 +11,14 @@ unitsOf (inf s) = 0
 unitsOf (fin s m e) = m * up e * 2 ^ 1074 / down e
 
 -- The root of a whole number v below 4 ^ d, cut to a whole number of d binary digits.
-unfoldable pub digits : ℕ → ℕ → ℕ
-digits zero v = 0
-digits (suc d) v = let s = 2 * digits d (v / 4) in cond (leb ((s + 1) * (s + 1)) v) (s + 1) s
+unfoldable pub rootDigits : ℕ → ℕ → ℕ
+rootDigits zero v = 0
+rootDigits (suc d) v = let s = 2 * rootDigits d (v / 4) in cond (leb ((s + 1) * (s + 1)) v) (s + 1) s
 
 -- √v units as an f64. Of the root's binary digits the first 54 are worked out, k are left off, and the last of the 54 rounds.
 unfoldable pub rounded : ℕ → Float
-unfolding digits size units
-rounded v = let k = (size v + 1) / 2 - 54 in units binary64 false ((digits 54 (v / 4 ^ k) + 1) / 2) (k + 1)
+unfolding rootDigits size units
+rounded v = let k = (size v + 1) / 2 - 54 in units binary64 false ((rootDigits 54 (v / 4 ^ k) + 1) / 2) (k + 1)
 
 -- A number of n units has a root of √(n * 2 ^ 1074) units.
 unfoldable pub rootOf : Float → Float

@@ -11,6 +11,7 @@ use Rattle.answer.specs.declared.Answer.{Answer}
 use Rattle.answer.specs.Number.{codeOf}
 use Rattle.matrix.specs.Grid.{load}
 use Rattle.matrix.specs.Layouts.{full, lower}
+use Rattle.matrix.specs.Rounded.{plusZero}
 use Rattle.pivots.specs.Words.{wordsOf}
 use Rattle.twins.specs.declared.Twin.{Twin}
 use Rattle.twins.specs.declared.Twin.the-variants.{Nothing, Pair, Refused}
@@ -32,7 +33,7 @@ pub square-small : (n : ℕ) → n ≤ 64 → n * n ≤ 4096
 square-small n h = mul-le-mul {n₁ = n} {m₁ = n} {n₂ = 64} {m₂ = 64} h h
 
 pub room-length : (a : List Float) (words : List ℕ) → Empty a words → length a ≡ 4096
-room-length a words e = ap length (e .room) ∙ length-replicate 4096 (ofBits binary64 0)
+room-length a words e = ap length (e .room) ∙ length-replicate 4096 plusZero
 
 pub words-length : (a : List Float) (words : List ℕ) → Empty a words → length words ≡ wordsOf 64
 words-length a words e = ap length (e .record-words) ∙ length-replicate {A = ℕ} (wordsOf 64) 0
@@ -51,7 +52,7 @@ pub numbers-length : (n : ℕ) (bits : List ℕ) → n ≤ 64 → length (number
 unfolding numbersOf
 numbers-length n bits small =
     length-take-le (n * n) (stored n (places n) bits emptyRoom)
-    (omega (arith, square-small n small, stored-length n (places n) bits emptyRoom, length-replicate 4096 (ofBits binary64 0)))
+    (omega (arith, square-small n small, stored-length n (places n) bits emptyRoom, length-replicate 4096 plusZero))
 
 -- ---- the warning
 -- what is said of an answer of `first_twin`

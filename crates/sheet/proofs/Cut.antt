@@ -6,6 +6,7 @@ use Prim.Native.Nat.{ℕ, _+_, _-_, _<_, _≤_}
 use native.Mathlib.Omega.{arith}
 use lib.ListN.{length, take, drop, length-replicate, take-append-drop}
 use lib.Seq.{take-all, length-take-le, take-append-add}
+use Rattle.answer.proofs.Tests.{eq-or-ne, lt-or-ge}
 use Rattle.answer.specs.declared.Answer.{Answer}
 use Rattle.answer.specs.declared.Answer.the-variants.{BadLine}
 use Rattle.matrix.specs.Matrix.{Matrix}
@@ -18,8 +19,6 @@ use Rattle.lblt.specs.Factor.{finalState, recorded}
 use Rattle.lblt.proofs.Accepted.{accepted}
 use Rattle.lblt_read.specs.Diagonal.{determinantOf}
 use Rattle.sheet_text.specs.Sheet.{sheetLines, join, sheetOf, IsSheet, Begins, FirstWrong}
-use Rattle.sheet_text.proofs.PlaceLaws.{lt-or-ge}
-use Rattle.sheet_text.proofs.NumberLaws.{eq-or-ne}
 use Rattle.sheet_text.proofs.SheetLaws.{length-lines}
 use Rattle.sheet_text.proofs.Lengths.{few-places, sheet-length, lines-length}
 use Rattle.sheet_page.proofs.PutLaws.{put-whole}

@@ -26,13 +26,13 @@ use Rattle.lblt_read.specs.Diagonal.{determinantOf}
 use Rattle.lblt_read.proofs.Admitted.{reads-done}
 use Rattle.sheet_text.specs.Place.{places}
 use Rattle.sheet_text.proofs.EachPlace.{each-same, each-place}
-use Rattle.sheet_page.specs.Page.{matrixIn, bitsAt, bitsOf, pageLines, pageOf}
+use Rattle.sheet_page.specs.Page.{matrixIn, bitsAt, lowerBits, pageLines, pageOf}
 use Rattle.sheet.specs.Respond.{pageFrom}
 use Rattle.sheet.specs.inner.Parts.{Square}
 
 -- the factor's entries are those that stand in the slice
-bits-same : (n : ℕ) (a : List Float) (F : Matrix) → load (lower (full n)) a ≡ F → bitsOf n (matrixIn n a) ≡ bitsOf n F
-unfolding bitsOf startOf
+bits-same : (n : ℕ) (a : List Float) (F : Matrix) → load (lower (full n)) a ≡ F → lowerBits n (matrixIn n a) ≡ lowerBits n F
+unfolding lowerBits startOf
 bits-same n a F e =
     each-same (bitsAt (matrixIn n a)) (bitsAt F) (places n)
     (each-place (λ p. bitsAt (matrixIn n a) p ≡ bitsAt F p) n

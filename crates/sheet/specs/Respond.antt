@@ -2,13 +2,14 @@
 use mathlib.Core.Path.{_≡_}
 use mathlib.Core.List.{List}
 use Prim.Native.Nat.{ℕ, _*_, _≤_}
-use lib.Ieee.{Float, binary64, ofBits}
+use lib.Ieee.{Float}
 use lib.ListN.{length, take, replicate}
 use Rattle.answer.specs.declared.Answer.{Answer}
 use Rattle.answer.specs.declared.Answer.the-variants.{Done, BadLine}
 use Rattle.matrix.specs.Matrix.{Matrix}
 use Rattle.matrix.specs.Grid.{load}
 use Rattle.matrix.specs.Layouts.{full, lower}
+use Rattle.matrix.specs.Rounded.{plusZero}
 use Rattle.pivots.specs.Words.{wordsOf}
 use Rattle.lblt.specs.Factor.{finalState, recorded}
 use Rattle.lblt_read.specs.Diagonal.{determinantOf}
@@ -25,7 +26,7 @@ pageFrom n M words =
 
 -- room for 4,096 numbers, and for the record of 64 rows
 abbrev pub emptyRoom : List Float
-emptyRoom = replicate 4096 (ofBits binary64 0)
+emptyRoom = replicate 4096 plusZero
 
 abbrev pub emptyWords : List ℕ
 emptyWords = replicate (wordsOf 64) 0

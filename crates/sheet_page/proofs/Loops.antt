@@ -14,7 +14,7 @@ use Rattle.sheet_text.specs.inner.Next.{nextPlace}
 use Rattle.sheet_text.specs.Sheet.{entryLines, join}
 use Rattle.sheet_text.proofs.PlaceLaws.{at as place, Inside, restFrom, rest-all, rest-none, rest-more, next-inside}
 use Rattle.sheet_page.specs.Put.{Put}
-use Rattle.sheet_page.specs.Page.{pivotLine, pivotLines, matrixIn, bitsAt, bitsOf}
+use Rattle.sheet_page.specs.Page.{pivotLine, pivotLines, matrixIn, bitsAt, lowerBits}
 use Rattle.sheet_page.specs.inner.Parts.{EntriesPut}
 use Rattle.sheet_page.proofs.ToGo.{ToGo, to-go-all, to-go-more, to-go-none}
 
@@ -81,7 +81,7 @@ module _ {o₀ : List ℕ} {at n : ℕ} {a : List Float} {o : List ℕ} {p : Pla
       }
 
   pub entries-all : n ≤ p .column → EntriesPut o₀ at n a (record { count = count; next = next }) o
-  unfolding bitsOf entryLines join
+  unfolding lowerBits entryLines join
   entries-all h =
       let none = rest-none n p (so .inside) h in
       let counted = so .counted in

@@ -7,15 +7,15 @@ use native.Mathlib.Omega.{arith}
 use borrow.Author.Tests.{eq-eqb, ne-eqb}
 use lib.Ieee.{Float, binary64, toBits}
 use lib.ListN.{length, length-append}
+use Rattle.answer.proofs.Tests.{eq-or-ne}
 use Rattle.answer.specs.declared.Answer.{Answer}
 use Rattle.answer.specs.Number.{codeOf, placeOf}
 use Rattle.pivots.specs.Words.{indexAt, sizeAt, markAt}
 use Rattle.sheet_text.specs.Text.{bytes, tab, lf, field, numberLine}
 use Rattle.sheet_text.specs.Place.{places}
 use Rattle.sheet_text.specs.Sheet.{entryLines, join}
-use Rattle.sheet_text.proofs.NumberLaws.{eq-or-ne}
 use Rattle.sheet_text.proofs.Lengths.{short-field, long-field, bits-length, line-length, few-places, entry-lines-length}
-use Rattle.sheet_page.specs.Page.{pivotLine, pivotLines, zeroLine, bitsOf, detLine, pageOf, refusalOf, twinLine}
+use Rattle.sheet_page.specs.Page.{pivotLine, pivotLines, zeroLine, lowerBits, detLine, pageOf, refusalOf, twinLine}
 use Rattle.sheet_page.proofs.PageText.{endLine, page-text}
 
 -- the words of a row have at most two digits
@@ -61,13 +61,13 @@ page-length n words M det small rows mark =
     let count = n + length (places n) in
     let pivots = join (pivotLines words 0 n) in
     let zeros = zeroLine (markAt n words) in
-    let entries = join (entryLines (places n) (bitsOf n M)) in
+    let entries = join (entryLines (places n) (lowerBits n M)) in
     let few = few-places n small in
     let l₁ = line-length (bytes "order\t") n in
     let f₁ = short-field n lf (omega arith) in
     let l₂ = pivots-length words 0 n (omega arith) (λ r k. rows r (omega arith)) in
     let l₃ = zero-length (markAt n words) mark in
-    let l₄ = entry-lines-length n (bitsOf n M) small in
+    let l₄ = entry-lines-length n (lowerBits n M) small in
     let l₅ = det-length det in
     let l₆ = line-length (bytes "end\t") count in
     let f₆ = long-field count lf (omega arith) in

@@ -34,8 +34,8 @@ abbrev pub bitsAt : (ℕ → ℕ → Float) → Place → ℕ
 bitsAt M p = toBits binary64 (M (p .row) (p .column))
 
 -- the bits of the lower triangle of order n, column by column
-unfoldable pub bitsOf : ℕ → (ℕ → ℕ → Float) → List ℕ
-bitsOf n M = map (bitsAt M) (places n)
+unfoldable pub lowerBits : ℕ → (ℕ → ℕ → Float) → List ℕ
+lowerBits n M = map (bitsAt M) (places n)
 
 unfoldable pub detLine : Float → List ℕ
 detLine x = bytes "det\t" ++ bitsField (toBits binary64 x)
@@ -43,7 +43,7 @@ detLine x = bytes "det\t" ++ bitsField (toBits binary64 x)
 unfoldable pub pageLines : ℕ → List ℕ → (ℕ → ℕ → Float) → Float → List (List ℕ)
 pageLines n words M det =
     let pivots = pivotLines words 0 n in
-    let entries = entryLines (places n) (bitsOf n M) in
+    let entries = entryLines (places n) (lowerBits n M) in
     numberLine (bytes "order\t") n
     ∷ (pivots ++ (zeroLine (markAt n words)
     ∷ (entries ++ (detLine det ∷ (numberLine (bytes "end\t") (length pivots + length entries) ∷ [])))))

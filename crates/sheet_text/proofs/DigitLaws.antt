@@ -5,10 +5,10 @@ use mathlib.Core.Logic.{_⊎_, inl, inr}
 use Prim.Native.Nat.{ℕ, _-_, _<_, _≤_}
 use native.Mathlib.Omega.{arith}
 use borrow.Author.Tests.{lt-ltb, le-ltb, le-leb, lt-leb}
+use Rattle.answer.proofs.Tests.{lt-or-ge}
 use Rattle.sheet_text.specs.Text.{digit}
 use Rattle.sheet_text.specs.inner.Digit.{digitOf}
 use Rattle.sheet_text.proofs.Table.{table-entry}
-use Rattle.sheet_text.proofs.PlaceLaws.{lt-or-ge}
 
 sixteen : List ℕ
 sixteen = 0 ∷ 1 ∷ 2 ∷ 3 ∷ 4 ∷ 5 ∷ 6 ∷ 7 ∷ 8 ∷ 9 ∷ 10 ∷ 11 ∷ 12 ∷ 13 ∷ 14 ∷ 15 ∷ []

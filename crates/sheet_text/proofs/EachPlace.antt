@@ -4,9 +4,10 @@ use mathlib.Core.List.{List, [], _∷_, _++_, map}
 use mathlib.Core.Logic.{_⊎_, inl, inr}
 use Prim.Native.Nat.{ℕ, zero, suc, _+_, _<_, _≤_}
 use native.Mathlib.Omega.{arith}
+use Rattle.answer.proofs.Tests.{lt-or-ge}
 use Rattle.sheet_text.specs.declared.place.Place.{Place}
 use Rattle.sheet_text.specs.Place.{rows, columns, places}
-use Rattle.sheet_text.proofs.PlaceLaws.{at, lt-or-ge}
+use Rattle.sheet_text.proofs.PlaceLaws.{at}
 
 abbrev pub Each : (Place → Type 0) → List Place → Type 0
 Each P [] = Unit

@@ -9,7 +9,7 @@ use lib.ListN.{drop, set}
 use lib.Seq.{drop-drop}
 use Rattle.sheet_text.specs.Text.{bytes, tab}
 use Rattle.sheet_text.specs.declared.line.Entry.{Entry}
-use Rattle.sheet_text.specs.inner.Parse.{found, missing, startsWith, number, bits, afterColumn, afterRow, entry}
+use Rattle.sheet_text.specs.inner.Parse.{found, missing, startsWith, number, bits, afterColumn, afterRow, anyEntry}
 use Rattle.sheet_text.specs.declared.place.Place.{Place}
 use Rattle.sheet_text.specs.Place.{cell}
 use Rattle.sheet_text.specs.inner.Read.{entryAt, taken, takeEntries}
@@ -31,25 +31,25 @@ unfolding afterRow
 row-no-column row t e = rw e
 
 module _ (s : List ℕ) (at : ℕ) where
-  pub entry-row : (row : ℕ) (rest : List ℕ) → startsWith (bytes "entry\t") (drop at s) ≡ true → number tab (drop (at + 6) s) ≡ found row rest → entry (drop at s) ≡ afterRow row rest
-  unfolding entry
+  pub entry-row : (row : ℕ) (rest : List ℕ) → startsWith (bytes "entry\t") (drop at s) ≡ true → number tab (drop (at + 6) s) ≡ found row rest → anyEntry (drop at s) ≡ afterRow row rest
+  unfolding anyEntry
   entry-row row rest w e = rw (w, drop-drop 6 at s, e)
 
-  pub entry-no-row : startsWith (bytes "entry\t") (drop at s) ≡ true → number tab (drop (at + 6) s) ≡ missing → entry (drop at s) ≡ missing
-  unfolding entry
+  pub entry-no-row : startsWith (bytes "entry\t") (drop at s) ≡ true → number tab (drop (at + 6) s) ≡ missing → anyEntry (drop at s) ≡ missing
+  unfolding anyEntry
   entry-no-row w e = rw (w, drop-drop 6 at s, e)
 
-  pub entry-no-word : startsWith (bytes "entry\t") (drop at s) ≡ false → entry (drop at s) ≡ missing
-  unfolding entry
+  pub entry-no-word : startsWith (bytes "entry\t") (drop at s) ≡ false → anyEntry (drop at s) ≡ missing
+  unfolding anyEntry
   entry-no-word w = rw w
 
 -- ---- the entry line of one place
 module _ (p : Place) (t : List ℕ) where
-  pub place-missing : entry t ≡ missing → entryAt p t ≡ missing
+  pub place-missing : anyEntry t ≡ missing → entryAt p t ≡ missing
   unfolding entryAt
   place-missing e = rw e
 
-  module _ (x : Entry) (rest : List ℕ) (e : entry t ≡ found x rest) where
+  module _ (x : Entry) (rest : List ℕ) (e : anyEntry t ≡ found x rest) where
     pub other-row : (x .row ≡ p .row → ⊥) → entryAt p t ≡ missing
     unfolding entryAt
     other-row n = rw (e, ne-eqb (x .row) (p .row) n)

@@ -5,13 +5,13 @@ use mathlib.Core.Logic.{_⊎_, inl, inr}
 use Prim.Native.Nat.{ℕ, zero, suc, _+_, _*_, _/_, _%_, _^_, _<_, _≤_}
 use native.Mathlib.Nat.{pow-suc, pow-zero, add-zero, zero-add, add-suc, suc-add}
 use native.Mathlib.Omega.{arith}
+use Rattle.answer.proofs.Tests.{eq-or-ne, lt-or-ge}
 use Rattle.sheet_text.specs.Text.{lf, digit, hex, bitsField}
 use Rattle.sheet_text.specs.inner.Digit.{digitOf}
 use Rattle.sheet_text.specs.inner.Parse.{found, lineEnd, hexDigits, bits}
 use Rattle.sheet_text.proofs.Steps.{hex-byte, hex-other, line-ends, line-goes-on}
-use Rattle.sheet_text.proofs.PlaceLaws.{lt-or-ge}
 use Rattle.sheet_text.proofs.DigitLaws.{digit-value, digit-back}
-use Rattle.sheet_text.proofs.NumberLaws.{eq-or-ne, Spelled, not-missing}
+use Rattle.sheet_text.proofs.NumberLaws.{Spelled, not-missing}
 
 -- ---- the text is read
 reads : (k m b : ℕ) (t : List ℕ) → b < 16 ^ k → hexDigits (k + m) 0 (hex k b ++ t) ≡ hexDigits m b t

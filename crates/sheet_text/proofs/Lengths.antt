@@ -6,11 +6,12 @@ use Prim.Native.Nat.{ℕ, zero, suc, _+_, _*_, _/_, _%_, _<_, _≤_}
 use native.Mathlib.Nat.{suc-mul, mul-suc, mul-le-mul}
 use native.Mathlib.Omega.{arith}
 use lib.ListN.{length, take, drop, length-append, take-append-drop}
+use Rattle.answer.proofs.Tests.{lt-or-ge}
 use Rattle.sheet_text.specs.declared.place.Place.{Place}
 use Rattle.sheet_text.specs.Text.{bytes, tab, lf, digit, decimal, hex, field, bitsField, numberLine, entryLine}
 use Rattle.sheet_text.specs.Place.{rows, columns, places}
 use Rattle.sheet_text.specs.Sheet.{entryLines, sheetLines, join, sheetOf, IsSheet}
-use Rattle.sheet_text.proofs.PlaceLaws.{lt-or-ge, length-rows}
+use Rattle.sheet_text.proofs.PlaceLaws.{length-rows}
 use Rattle.sheet_text.proofs.EachPlace.{Each, each-place}
 use Rattle.sheet_text.proofs.NumberLaws.{decimal-one, decimal-more}
 use Rattle.sheet_text.proofs.SheetLaws.{entry-count, join-both}

@@ -9,15 +9,16 @@ use borrow.Author.Tests.{eqb-true, eq-eqb}
 use lib.Dec.{eqb}
 use lib.ListN.{length, drop}
 use lib.Seq.{drop-append-seam}
+use Rattle.answer.proofs.Tests.{eq-or-ne}
 use Rattle.sheet_text.specs.Text.{bytes, tab, lf, field, bitsField, numberLine, entryLine}
 use Rattle.sheet_text.specs.inner.Digit.{digitOf}
 use Rattle.sheet_text.specs.declared.line.Entry.{Entry}
 use Rattle.sheet_text.specs.declared.place.Place.{Place}
-use Rattle.sheet_text.specs.inner.Parse.{Parse, found, missing, startsWith, number, bits, numberAfter, afterColumn, afterRow, entry}
+use Rattle.sheet_text.specs.inner.Parse.{Parse, found, missing, startsWith, number, bits, numberAfter, afterColumn, afterRow, anyEntry}
 use Rattle.sheet_text.specs.inner.Read.{entryAt}
 use Rattle.sheet_text.proofs.Steps.{and-left, and-right, false-is-not-true, after-word, no-word}
 use Rattle.sheet_text.proofs.EntrySteps.{column-bits, column-no-bits, row-column, row-no-column, entry-row, entry-no-row, entry-no-word, place-missing, other-row, other-column, in-place}
-use Rattle.sheet_text.proofs.NumberLaws.{eq-or-ne, Spelled, not-missing, number-found, number-sound}
+use Rattle.sheet_text.proofs.NumberLaws.{Spelled, not-missing, number-found, number-sound}
 use Rattle.sheet_text.proofs.HexLaws.{bits-found, bits-sound}
 
 -- ---- a word
@@ -69,9 +70,9 @@ entry-text : (i j b : ℕ) (t : List ℕ) → entryLine i j b ++ t ≡ bytes "en
 unfolding entryLine
 entry-text i j b t = simp append-assoc
 
-pub entry-found : (i j b : ℕ) (t : List ℕ) → i < 10000 → j < 10000 → b < 2 ^ 64 → entry (entryLine i j b ++ t) ≡ found (record { row = i; column = j; bits = b }) t
+pub entry-found : (i j b : ℕ) (t : List ℕ) → i < 10000 → j < 10000 → b < 2 ^ 64 → anyEntry (entryLine i j b ++ t) ≡ found (record { row = i; column = j; bits = b }) t
 entry-found i j b t hi hj hb =
-    ap entry (entry-text i j b t)
+    ap anyEntry (entry-text i j b t)
     ∙ entry-row (bytes "entry\t" ++ (field i tab ++ (field j tab ++ (bitsField b ++ t)))) 0 i (field j tab ++ (bitsField b ++ t))
     (starts-self (bytes "entry\t") (field i tab ++ (field j tab ++ (bitsField b ++ t))))
     (number-found tab tab-ends i (field j tab ++ (bitsField b ++ t)) hi)
@@ -82,7 +83,7 @@ pub record EntrySpelled (t : List ℕ) (e : Entry) (rest : List ℕ) : Type 0 wh
   pub same : t ≡ entryLine (e .row) (e .column) (e .bits) ++ rest
   pub small : e .bits < 2 ^ 64
 
-module _ (t : List ℕ) (x : Entry) (rest : List ℕ) (e : entry t ≡ found x rest) where
+module _ (t : List ℕ) (x : Entry) (rest : List ℕ) (e : anyEntry t ≡ found x rest) where
   after-column-sound : (i j : ℕ) (u v : List ℕ) → startsWith (bytes "entry\t") t ≡ true → drop 6 t ≡ field i tab ++ u → u ≡ field j tab ++ v → afterColumn i j v ≡ found x rest → EntrySpelled t x rest
   after-column-sound i j u v w p q f = go (bits v) refl
     where
@@ -126,9 +127,9 @@ place-found p b t hi hj hb =
     (entry-found (p .row) (p .column) b t hi hj hb) refl refl
 
 pub place-sound : (p : Place) (t : List ℕ) (b : ℕ) (rest : List ℕ) → entryAt p t ≡ found b rest → Spelled (entryLine (p .row) (p .column)) t b rest (2 ^ 64)
-place-sound p t b rest e = go (entry t) refl
+place-sound p t b rest e = go (anyEntry t) refl
   where
-    here : (x : Entry) (left : List ℕ) → entry t ≡ found x left → (x .row ≡ p .row) ⊎ (x .row ≡ p .row → ⊥) → (x .column ≡ p .column) ⊎ (x .column ≡ p .column → ⊥) → Spelled (entryLine (p .row) (p .column)) t b rest (2 ^ 64)
+    here : (x : Entry) (left : List ℕ) → anyEntry t ≡ found x left → (x .row ≡ p .row) ⊎ (x .row ≡ p .row → ⊥) → (x .column ≡ p .column) ⊎ (x .column ≡ p .column → ⊥) → Spelled (entryLine (p .row) (p .column)) t b rest (2 ^ 64)
     here x left g (inr n) c = absurd (not-missing b rest (sym (other-row p t x left g n) ∙ e))
     here x left g (inl r) (inr n) = absurd (not-missing b rest (sym (other-column p t x left g r n) ∙ e))
     here x left g (inl r) (inl c) =
@@ -138,6 +139,6 @@ place-sound p t b rest e = go (entry t) refl
         let after : left ≡ rest = cc in
         rw (← r, ← c, ← value, ← after) record { same = read .same; small = read .small }
 
-    go : (r : Parse Entry) → entry t ≡ r → Spelled (entryLine (p .row) (p .column)) t b rest (2 ^ 64)
+    go : (r : Parse Entry) → anyEntry t ≡ r → Spelled (entryLine (p .row) (p .column)) t b rest (2 ^ 64)
     go (found x left) g = here x left g (eq-or-ne (x .row) (p .row)) (eq-or-ne (x .column) (p .column))
     go missing g = absurd (not-missing b rest (sym (place-missing p t g) ∙ e))

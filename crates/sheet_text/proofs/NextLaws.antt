@@ -11,7 +11,7 @@ use Rattle.sheet_text.specs.declared.line.Entry.{Entry}
 use Rattle.sheet_text.specs.declared.line.EntryLine.the-variants as E
 use Rattle.sheet_text.specs.declared.place.Place.{Place}
 use Rattle.sheet_text.specs.Text.{field, bitsField, numberLine, entryLine}
-use Rattle.sheet_text.specs.inner.Parse.{Parse, found, missing, number, bits, numberAfter, entry}
+use Rattle.sheet_text.specs.inner.Parse.{Parse, found, missing, number, bits, numberAfter, anyEntry}
 use Rattle.sheet_text.specs.inner.Line.{restAt, numberIn, bitsIn, entryIn}
 use Rattle.sheet_text.specs.inner.Read.{entryAt}
 use Rattle.sheet_text.proofs.NumberLaws.{number-sound}
@@ -104,9 +104,9 @@ module _ (s : List ℕ) (at : ℕ) where
       let l = number-left s (numberAfter w (drop at s)) e in
       goes-on l at (numberLine w v) (line-sound w (drop at s) v (l .rest) (l .read) .same)
 
-  pub entry-next : {x : Entry} {next : ℕ} → E.Is x next ≡ entryIn s (entry (drop at s)) → Next s (entry (drop at s)) x next
+  pub entry-next : {x : Entry} {next : ℕ} → E.Is x next ≡ entryIn s (anyEntry (drop at s)) → Next s (anyEntry (drop at s)) x next
   entry-next {x} e =
-      let l = entry-left s (entry (drop at s)) e in
+      let l = entry-left s (anyEntry (drop at s)) e in
       goes-on l at (entryLine (x .row) (x .column) (x .bits)) (entry-sound (drop at s) x (l .rest) (l .read) .same)
 
   pub place-next : (q : Place) {b next : ℕ} → B.Is b next ≡ bitsIn s (entryAt q (drop at s)) → Next s (entryAt q (drop at s)) b next

@@ -1,26 +1,17 @@
 -- A decimal number's text and what is read of it, both ways.
 use mathlib.Core.Path.{_≡_, refl, sym, ap, _∙_}
-use mathlib.Core.Bool.{Bool, true, false}
 use mathlib.Core.List.{List, [], _∷_, _++_, append-assoc}
 use mathlib.Core.Logic.{_⊎_, inl, inr}
 use Prim.Native.Nat.{ℕ, zero, suc, _+_, _*_, _/_, _%_, _<_, _≤_}
 use native.Mathlib.Nat.{not-suc-le-zero}
 use native.Mathlib.Omega.{arith}
-use borrow.Author.Tests.{lt-ltb, le-ltb, eqb-true, eqb-false}
-use lib.Dec.{eqb}
+use borrow.Author.Tests.{lt-ltb, le-ltb}
+use Rattle.answer.proofs.Tests.{eq-or-ne, lt-or-ge}
 use Rattle.sheet_text.specs.Text.{digit, decimalIn, decimal, field}
 use Rattle.sheet_text.specs.inner.Digit.{digitOf}
-use Rattle.sheet_text.specs.inner.Parse.{found, missing, digits, number}
+use Rattle.sheet_text.specs.inner.Parse.{found, missing, laterDigits, number}
 use Rattle.sheet_text.proofs.Steps.{digits-stop, digits-zero, digits-long, digits-other, digits-more, number-other, number-first}
-use Rattle.sheet_text.proofs.PlaceLaws.{lt-or-ge}
 use Rattle.sheet_text.proofs.DigitLaws.{digit-value, digit-back}
-
-pub eq-or-ne : (a b : ℕ) → (a ≡ b) ⊎ (a ≡ b → ⊥)
-eq-or-ne a b = go (eqb a b) refl
-  where
-    go : (t : Bool) → eqb a b ≡ t → (a ≡ b) ⊎ (a ≡ b → ⊥)
-    go true e = inl (eqb-true a b e)
-    go false e = inr (eqb-false a b e)
 
 -- ---- the text
 one-digit : (f v : ℕ) → v < 10 → decimalIn (suc f) v ≡ digit v ∷ []
@@ -56,25 +47,25 @@ decimal-step v d p h =
 
 -- ---- the text is read
 module _ (stop : ℕ) (ends : 9 < digitOf stop) where
-  reads : (f v : ℕ) (t : List ℕ) → v < f → v < 10000 → number stop (decimal v ++ t) ≡ digits stop v t
+  reads : (f v : ℕ) (t : List ℕ) → v < f → v < 10000 → number stop (decimal v ++ t) ≡ laterDigits stop v t
   reads zero v t h small = absurd (not-suc-le-zero h)
   reads (suc f) v t h small = go (lt-or-ge v 10) (λ l u. reads f (v / 10) u (omega arith) (omega arith))
     where
-      one : v < 10 → number stop (digit v ∷ t) ≡ digits stop v t
+      one : v < 10 → number stop (digit v ∷ t) ≡ laterDigits stop v t
       one l =
           let e = digit-value v (omega arith) in
           number-first stop 0 (digit v ∷ t) 0 v (sym e) (omega arith) (omega arith)
 
-      more : 10 ≤ v → digits stop (v / 10) (digit (v % 10) ∷ t) ≡ digits stop v t
+      more : 10 ≤ v → laterDigits stop (v / 10) (digit (v % 10) ∷ t) ≡ laterDigits stop v t
       more l =
           let d = v % 10 in
           let e = digit-value (v % 10) (omega arith) in
           let again : v / 10 * 10 + v % 10 ≡ v = omega arith in
           digits-more stop (v / 10) (digit (v % 10) ∷ t) 0 (v % 10) (sym e) (omega arith)
           (λ same. absurd (omega (arith, ap digitOf same))) (omega arith) (omega arith) (omega arith)
-          ∙ ap (λ (w : ℕ). digits stop w t) again
+          ∙ ap (λ (w : ℕ). laterDigits stop w t) again
 
-      go : (v < 10) ⊎ (10 ≤ v) → (10 ≤ v → (u : List ℕ) → number stop (decimal (v / 10) ++ u) ≡ digits stop (v / 10) u) → number stop (decimal v ++ t) ≡ digits stop v t
+      go : (v < 10) ⊎ (10 ≤ v) → (10 ≤ v → (u : List ℕ) → number stop (decimal (v / 10) ++ u) ≡ laterDigits stop (v / 10) u) → number stop (decimal v ++ t) ≡ laterDigits stop v t
       go (inl l) fewer = ap (λ (u : List ℕ). number stop (u ++ t)) (decimal-one v l) ∙ one l
       go (inr l) fewer =
           ap (λ (u : List ℕ). number stop (u ++ t)) (decimal-more v l)
@@ -98,13 +89,13 @@ pub not-missing : {A : Type 0} (v : A) (rest : List ℕ) → missing ≡ found v
 not-missing v rest e = let z : _≡_ {A = ℕ} 0 1 = cc in omega arith
 
 module _ (stop : ℕ) where
-  digits-sound : (t : List ℕ) (v u : ℕ) (rest : List ℕ) → v < 10000 → digits stop v t ≡ found u rest → Spelled (λ w. field w stop) (decimal v ++ t) u rest 10000
-  unfolding digits field
+  digits-sound : (t : List ℕ) (v u : ℕ) (rest : List ℕ) → v < 10000 → laterDigits stop v t ≡ found u rest → Spelled (λ w. field w stop) (decimal v ++ t) u rest 10000
+  unfolding laterDigits field
   digits-sound [] v u rest small e = absurd (not-missing u rest e)
   digits-sound (b ∷ t) v u rest small e = go (eq-or-ne b stop) (eq-or-ne v 0) (lt-or-ge 999 v) (lt-or-ge 9 (digitOf b)) (λ w l. digits-sound t w u rest l)
     where
       go : (b ≡ stop) ⊎ (b ≡ stop → ⊥) → (v ≡ 0) ⊎ (v ≡ 0 → ⊥) → (999 < v) ⊎ (v ≤ 999) → (9 < digitOf b) ⊎ (digitOf b ≤ 9)
-          → ((w : ℕ) → w < 10000 → digits stop w t ≡ found u rest → Spelled (λ w. field w stop) (decimal w ++ t) u rest 10000)
+          → ((w : ℕ) → w < 10000 → laterDigits stop w t ≡ found u rest → Spelled (λ w. field w stop) (decimal w ++ t) u rest 10000)
           → Spelled (λ w. field w stop) (decimal v ++ (b ∷ t)) u rest 10000
       go (inl s) z l d more =
           let here : found v t ≡ found u rest = sym (digits-stop stop v (b ∷ t) 0 (omega arith) s) ∙ e in

@@ -1,15 +1,14 @@
 -- The places that are still to come from a place on: one after the other, as `next` goes.
 use mathlib.Core.Path.{_≡_, refl, sym, ap, _∙_}
-use mathlib.Core.Logic.{_⊎_, inl, inr, ⊎-elim}
-use mathlib.Core.Bool.{Bool, true, false}
+use mathlib.Core.Logic.{_⊎_, ⊎-elim}
 use mathlib.Core.List.{List, [], _∷_, _++_}
 use Prim.Native.Nat.{ℕ, zero, suc, _+_, _*_, _-_, _<_, _≤_}
 use native.Mathlib.Nat.{mul-le-mul}
 use native.Mathlib.Numerals.{add-one}
 use native.Mathlib.Omega.{arith}
-use borrow.Author.Tests.{lt-ltb, le-ltb, ltb-true, ltb-false}
-use lib.Dec.{ltb}
+use borrow.Author.Tests.{lt-ltb, le-ltb}
 use lib.ListN.{length, length-append}
+use Rattle.answer.proofs.Tests.{lt-or-ge}
 use Rattle.matrix.proofs.Places.{digits-within}
 use Rattle.sheet_text.specs.declared.place.Place.{Place}
 use Rattle.sheet_text.specs.Place.{rows, columns, places, cell}
@@ -20,13 +19,6 @@ at i j = record { row = i; column = j }
 
 unfoldable pub restFrom : ℕ → Place → List Place
 restFrom n p = rows (n - p .row) (p .row) (p .column) ++ columns (n - suc (p .column)) (suc (p .column))
-
-pub lt-or-ge : (a b : ℕ) → (a < b) ⊎ (b ≤ a)
-lt-or-ge a b = go (ltb a b) refl
-  where
-    go : (t : Bool) → ltb a b ≡ t → (a < b) ⊎ (b ≤ a)
-    go true e = inl (ltb-true a b e)
-    go false e = inr (ltb-false a b e)
 
 -- on or below the diagonal, and in the matrix unless all is done
 pub record Inside (n : ℕ) (p : Place) : Type 0 where

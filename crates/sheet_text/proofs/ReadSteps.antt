@@ -12,7 +12,7 @@ use Rattle.sheet_text.specs.declared.reader.Sheet.{Sheet}
 use Rattle.sheet_text.specs.Text.{bytes}
 use Rattle.sheet_text.specs.inner.Parse.{Parse, found, missing, numberAfter}
 use Rattle.sheet_text.specs.Place.{places, cell}
-use Rattle.sheet_text.specs.inner.Read.{entryAt, Taken, takeEntries, closed, verdict, outcome, afterEntries, afterOrder, readOf}
+use Rattle.sheet_text.specs.inner.Read.{entryAt, Taken, takeEntries, closed, verdict, reading, afterEntries, afterOrder, readOf}
 use Rattle.sheet_text.specs.Sheet.{wrongAt, rightAt}
 use Rattle.sheet_text.proofs.Steps.{cons-at}
 use Rattle.sheet_text.proofs.EntrySteps.{entries-stop, entries-more}
@@ -63,11 +63,11 @@ count-small n t a h = omega (arith, counted n (places n) t 0 a, length-places n 
 
 -- ---- the order line
 module _ (a : List Float) (n : ℕ) (t : List ℕ) where
-  pub order-zero : n ≡ 0 → afterOrder a n t ≡ outcome (wrongAt 1) a
+  pub order-zero : n ≡ 0 → afterOrder a n t ≡ reading (wrongAt 1) a
   unfolding afterOrder
   order-zero e = rw (eq-eqb n 0 e)
 
-  pub order-large : (n ≡ 0 → ⊥) → 64 < n → afterOrder a n t ≡ outcome (wrongAt 1) a
+  pub order-large : (n ≡ 0 → ⊥) → 64 < n → afterOrder a n t ≡ reading (wrongAt 1) a
   unfolding afterOrder
   order-large z h = rw (ne-eqb n 0 z, lt-ltb 64 n h)
 
@@ -79,11 +79,11 @@ pub read-order : (s : List ℕ) (a : List Float) (n : ℕ) (rest : List ℕ) →
 unfolding readOf
 read-order s a n rest e = rw e
 
-pub read-no-order : (s : List ℕ) (a : List Float) → numberAfter (bytes "order\t") s ≡ missing → readOf s a ≡ outcome (wrongAt 1) a
+pub read-no-order : (s : List ℕ) (a : List Float) → numberAfter (bytes "order\t") s ≡ missing → readOf s a ≡ reading (wrongAt 1) a
 unfolding readOf
 read-no-order s a e = rw e
 
 -- what the entries reached, and then the last line
-pub after-entries : (n : ℕ) (r : Sheet) (k whole : Taken) → r ≡ verdict n (k .whole) (k .count) (k .left) → k ≡ whole → outcome r (k .cells) ≡ afterEntries n whole
+pub after-entries : (n : ℕ) (r : Sheet) (k whole : Taken) → r ≡ verdict n (k .whole) (k .count) (k .left) → k ≡ whole → reading r (k .cells) ≡ afterEntries n whole
 unfolding afterEntries
-after-entries n r k whole e same = ap (λ (x : Sheet). outcome x (k .cells)) e ∙ ap (λ (x : Taken). outcome (verdict n (x .whole) (x .count) (x .left)) (x .cells)) same
+after-entries n r k whole e same = ap (λ (x : Sheet). reading x (k .cells)) e ∙ ap (λ (x : Taken). reading (verdict n (x .whole) (x .count) (x .left)) (x .cells)) same

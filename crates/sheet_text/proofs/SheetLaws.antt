@@ -13,7 +13,7 @@ use Rattle.sheet_text.specs.declared.place.Place.{Place}
 use Rattle.sheet_text.specs.declared.reader.Sheet.{Sheet}
 use Rattle.sheet_text.specs.Text.{bytes, numberLine, entryLine}
 use Rattle.sheet_text.specs.Place.{places}
-use Rattle.sheet_text.specs.inner.Read.{taken, takeEntries, atTheEnd, closed, verdict, outcome, afterEntries, readOf}
+use Rattle.sheet_text.specs.inner.Read.{taken, takeEntries, atTheEnd, closed, verdict, reading, afterEntries, readOf}
 use Rattle.sheet_text.specs.Sheet.{rightAt, entryLines, sheetLines, join, sheetOf, IsSheet, stored}
 use Rattle.sheet_text.proofs.PlaceLaws.{length-places}
 use Rattle.sheet_text.proofs.ReadSteps.{end-line, order-right, read-order}
@@ -75,9 +75,9 @@ pub count-right : (n count v : ℕ) (t : List ℕ) → v ≡ count → closed n 
 unfolding closed
 count-right n count v t e = rw (eq-eqb v count e)
 
-after-all : (n count : ℕ) (t : List ℕ) (a : List Float) {v : Sheet} → verdict n true count t ≡ v → afterEntries n (taken true count t a) ≡ outcome v a
+after-all : (n count : ℕ) (t : List ℕ) (a : List Float) {v : Sheet} → verdict n true count t ≡ v → afterEntries n (taken true count t a) ≡ reading v a
 unfolding afterEntries
-after-all n count t a e = ap (λ (v : Sheet). outcome v a) e
+after-all n count t a e = ap (λ (v : Sheet). reading v a) e
 
 none-left : (n : ℕ) (ps : List Place) (t : List ℕ) (c : ℕ) (a : List Float) → ps ≡ [] → takeEntries n ps t c a ≡ taken true c t a
 unfolding takeEntries
@@ -102,7 +102,7 @@ module _ (n : ℕ) (bits : List ℕ) (h : IsSheet n bits) (a : List Float) where
       ∙ ap (λ (m : ℕ). afterEntries n (takeEntries n (drop k (places n)) rest m (stored n (places n) (take k bits) a))) (zero-add k)
 
   -- all lines
-  pub whole-read : (rest : List ℕ) → readOf (join (sheetLines n bits) ++ rest) a ≡ outcome (atTheEnd n (length bits) rest) (stored n (places n) bits a)
+  pub whole-read : (rest : List ℕ) → readOf (join (sheetLines n bits) ++ rest) a ≡ reading (atTheEnd n (length bits) rest) (stored n (places n) bits a)
   whole-read rest =
       let e = h .each in
       let c : length (entryLines (places n) bits) ≡ length bits = entry-count (places n) bits (omega arith) in
@@ -118,6 +118,6 @@ module _ (n : ℕ) (bits : List ℕ) (h : IsSheet n bits) (a : List Float) where
       (line-found (bytes "end\t") (length (entryLines (places n) bits)) rest (omega arith)) ∙ count-right n (length bits) (length (entryLines (places n) bits)) rest c)
 
 -- every sheet is accepted, and its entries are stored
-pub complete : (n : ℕ) (bits : List ℕ) (a : List Float) → IsSheet n bits → readOf (sheetOf n bits) a ≡ outcome (rightAt n) (stored n (places n) bits a)
+pub complete : (n : ℕ) (bits : List ℕ) (a : List Float) → IsSheet n bits → readOf (sheetOf n bits) a ≡ reading (rightAt n) (stored n (places n) bits a)
 unfolding sheetOf
 complete n bits a h = ap (λ (t : List ℕ). readOf t a) (sym (append-nil (join (sheetLines n bits)))) ∙ whole-read n bits h a []

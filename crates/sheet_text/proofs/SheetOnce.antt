@@ -7,11 +7,11 @@ use native.Mathlib.Omega.{arith}
 use lib.Ieee.{Float}
 use lib.ListN.{take, drop, take-append-drop}
 use lib.Seq.{take-take}
+use Rattle.answer.proofs.Tests.{lt-or-ge}
 use Rattle.sheet_text.specs.declared.reader.Sheet.{Sheet}
 use Rattle.sheet_text.specs.Place.{places}
 use Rattle.sheet_text.specs.Sheet.{wrongAt, sheetLines, join, Begins, FirstWrong, stored, Reads, right, wrong}
-use Rattle.sheet_text.specs.inner.Read.{outcome, readOf}
-use Rattle.sheet_text.proofs.PlaceLaws.{lt-or-ge}
+use Rattle.sheet_text.specs.inner.Read.{reading, readOf}
 use Rattle.sheet_text.proofs.SheetLaws.{join-both, complete}
 use Rattle.sheet_text.proofs.SheetSound.{after, sound}
 
@@ -59,11 +59,11 @@ some-line s line f = go (lt-or-ge 0 line)
     go (inl h) = h
     go (inr h) = absurd (f .here (none h))
 
-pub reads-once : (s : List ℕ) (a : List Float) (r : Sheet) (a′ : List Float) → Reads s a r a′ → outcome r a′ ≡ readOf s a
-reads-once s a r a′ (right n bits h same e c) = ap₂ outcome e c ∙ sym (ap (λ (t : List ℕ). readOf t a) same ∙ complete n bits a h)
+pub reads-once : (s : List ℕ) (a : List Float) (r : Sheet) (a′ : List Float) → Reads s a r a′ → reading r a′ ≡ readOf s a
+reads-once s a r a′ (right n bits h same e c) = ap₂ reading e c ∙ sym (ap (λ (t : List ℕ). readOf t a) same ∙ complete n bits a h)
 reads-once s a r a′ (wrong line n bits f e b c) = go (sound s a)
   where
-    go : Reads s a (readOf s a .sheet) (readOf s a .cells) → outcome r a′ ≡ readOf s a
+    go : Reads s a (readOf s a .sheet) (readOf s a .cells) → reading r a′ ≡ readOf s a
     go (right m other h same x y) = absurd (f .no-sheet m other h same)
     go (wrong found m other g x d y) =
         let one = one-line s found line g f in
@@ -72,4 +72,4 @@ reads-once s a r a′ (wrong line n bits f e b c) = go (sound s a)
         let back : line - 1 - 1 ≡ line - 2 = omega arith in
         let cells : readOf s a .cells ≡ stored n (places n) (take (line - 2) bits) a =
         after n bits (line - 1) s a line b there .kept (omega arith) ∙ ap (λ (k : ℕ). stored n (places n) (take k bits) a) back in
-        ap₂ outcome (e ∙ sym there) (c ∙ sym cells)
+        ap₂ reading (e ∙ sym there) (c ∙ sym cells)

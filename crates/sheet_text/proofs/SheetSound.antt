@@ -9,17 +9,16 @@ use native.Mathlib.Omega.{arith}
 use lib.Ieee.{Float}
 use lib.ListN.{length, take, drop, replicate, length-append, length-replicate}
 use lib.Seq.{take-all, take-append-le, take-append-seam}
+use Rattle.answer.proofs.Tests.{eq-or-ne, lt-or-ge}
 use Rattle.answer.specs.Number.{codeOf, placeOf}
 use Rattle.sheet_text.specs.declared.place.Place.{Place}
 use Rattle.sheet_text.specs.declared.reader.Sheet.{Sheet}
 use Rattle.sheet_text.specs.Text.{bytes, numberLine}
 use Rattle.sheet_text.specs.inner.Parse.{Parse, found, missing, numberAfter}
 use Rattle.sheet_text.specs.Place.{rows, columns, places}
-use Rattle.sheet_text.specs.inner.Read.{Taken, takeEntries, atTheEnd, closed, verdict, Outcome, outcome, afterEntries, afterOrder, readOf}
+use Rattle.sheet_text.specs.inner.Read.{Taken, takeEntries, atTheEnd, closed, verdict, Reading, reading, afterEntries, afterOrder, readOf}
 use Rattle.sheet_text.specs.Sheet.{rightAt, wrongAt, entryLines, sheetLines, join, sheetOf, IsSheet, BeginsAs, stored, Reads, right, wrong}
-use Rattle.sheet_text.proofs.PlaceLaws.{lt-or-ge}
 use Rattle.sheet_text.proofs.ReadSteps.{other-count, end-line, no-end-line, not-whole, order-zero, order-large, order-right, read-order, read-no-order}
-use Rattle.sheet_text.proofs.NumberLaws.{eq-or-ne}
 use Rattle.sheet_text.proofs.LineLaws.{line-sound}
 use Rattle.sheet_text.proofs.EntriesLaws.{Wide, wide-cons, wide-tail, Extent, entries-sound}
 use Rattle.sheet_text.proofs.SheetLaws.{entry-count, take-entries, length-lines, partly-read, whole-read, complete, count-right, all-lines}
@@ -84,12 +83,12 @@ record First (s : List ℕ) (a : List Float) (line : ℕ) : Type 0 where
 first-line : (s : List ℕ) (a : List Float) (line : ℕ) → readOf s a .sheet ≡ wrongAt line → First s a line
 first-line s a line e = go (numberAfter (bytes "order\t") s) refl
   where
-    at-once : readOf s a ≡ outcome (wrongAt 1) a → First s a line
-    at-once r = record { late = omega (arith, wrong-line 1 line (sym (ap (λ (o : Outcome). o .sheet) r) ∙ e)); kept = λ same. ap (λ (o : Outcome). o .cells) r }
+    at-once : readOf s a ≡ reading (wrongAt 1) a → First s a line
+    at-once r = record { late = omega (arith, wrong-line 1 line (sym (ap (λ (o : Reading). o .sheet) r) ∙ e)); kept = λ same. ap (λ (o : Reading). o .cells) r }
 
     later : (n : ℕ) (rest : List ℕ) → readOf s a ≡ afterEntries n (takeEntries n (places n) rest 0 a) → First s a line
     later n rest r =
-        let x = entries-late n (places n) rest 0 a line (sym (ap (λ (o : Outcome). o .sheet) r) ∙ e) in
+        let x = entries-late n (places n) rest 0 a line (sym (ap (λ (o : Reading). o .sheet) r) ∙ e) in
         let l = x .late in
         record { late = omega arith; kept = λ same. absurd (omega arith) }
 
@@ -113,10 +112,10 @@ after n bits (suc k) s a line b e = go (lt-or-ge (length bits) k)
     few l =
         let r : readOf s a ≡ afterEntries n (takeEntries n (drop k (places n)) (b .rest) k (stored n (places n) (take k bits) a)) =
         ap (λ (t : List ℕ). readOf t a) (b .same) ∙ partly-read n bits (b .sheet) a k (b .rest) l in
-        let x = entries-late n (drop k (places n)) (b .rest) k (stored n (places n) (take k bits) a) line (sym (ap (λ (o : Outcome). o .sheet) r) ∙ e) in
+        let x = entries-late n (drop k (places n)) (b .rest) k (stored n (places n) (take k bits) a) line (sym (ap (λ (o : Reading). o .sheet) r) ∙ e) in
         let late = x .late in
         let earlier : suc k - 1 ≡ k = omega arith in
-        record { late = omega arith; kept = λ same. ap (λ (o : Outcome). o .cells) r ∙ x .kept (omega arith) ∙ ap (λ (m : ℕ). stored n (places n) (take m bits) a) (sym earlier) }
+        record { late = omega arith; kept = λ same. ap (λ (o : Reading). o .cells) r ∙ x .kept (omega arith) ∙ ap (λ (m : ℕ). stored n (places n) (take m bits) a) (sym earlier) }
 
     all : length bits < k → After n bits (suc k) s a line
     all l =
@@ -124,12 +123,12 @@ after n bits (suc k) s a line b e = go (lt-or-ge (length bits) k)
         let count = length-lines n bits h in
         let has = b .has in
         let lines : take (suc k) (sheetLines n bits) ≡ sheetLines n bits = take-all (suc k) (sheetLines n bits) (omega arith) in
-        let r : readOf s a ≡ outcome (atTheEnd n (length bits) (b .rest)) (stored n (places n) bits a) =
+        let r : readOf s a ≡ reading (atTheEnd n (length bits) (b .rest)) (stored n (places n) bits a) =
         ap (λ (t : List ℕ). readOf t a) (b .same) ∙ ap (λ (ls : List (List ℕ)). readOf (join ls ++ b .rest) a) lines ∙ whole-read n bits h a (b .rest) in
-        let end = end-late n (length bits) line (b .rest) (sym (ap (λ (o : Outcome). o .sheet) r) ∙ e) in
+        let end = end-late n (length bits) line (b .rest) (sym (ap (λ (o : Reading). o .sheet) r) ∙ e) in
         record {
           late = omega arith;
-          kept = λ same. ap (λ (o : Outcome). o .cells) r ∙ ap (λ (t : List ℕ). stored n (places n) t a) (sym (take-all (suc k - 1) bits (omega arith)));
+          kept = λ same. ap (λ (o : Reading). o .cells) r ∙ ap (λ (t : List ℕ). stored n (places n) t a) (sym (take-all (suc k - 1) bits (omega arith)));
         }
 
     go : (length bits < k) ⊎ (k ≤ length bits) → After n bits (suc k) s a line
@@ -143,7 +142,7 @@ refused s a line n bits one e b =
     let back : line - 1 - 1 ≡ line - 2 = omega arith in
     wrong line n bits
     (record {
-      no-sheet = λ m other h same. right-is-not-wrong m line (sym (ap (λ (o : Outcome). o .sheet) (ap (λ (t : List ℕ). readOf t a) same ∙ complete m other a h)) ∙ e);
+      no-sheet = λ m other h same. right-is-not-wrong m line (sym (ap (λ (o : Reading). o .sheet) (ap (λ (t : List ℕ). readOf t a) same ∙ complete m other a h)) ∙ e);
       before = record { order = n; bits = bits; begins = b };
       here = λ begun. omega (arith, after (begun .order) (begun .bits) line s a line (begun .begins) e .late);
     })
@@ -250,10 +249,10 @@ module _ (n : ℕ) (s t : List ℕ) (a : List Float) (k : Taken) (low : 1 ≤ n)
   from-entries r = go (k .whole) refl
     where
       sheet : readOf s a .sheet ≡ verdict n (k .whole) (k .count) (k .left)
-      sheet = ap (λ (o : Outcome). o .sheet) r
+      sheet = ap (λ (o : Reading). o .sheet) r
 
       cells : readOf s a .cells ≡ stored n (places n) (x .bits) a
-      cells = ap (λ (o : Outcome). o .cells) r ∙ x .cells
+      cells = ap (λ (o : Reading). o .cells) r ∙ x .cells
 
       closing : k .whole ≡ true → (v : ℕ) (rest : List ℕ) → k .left ≡ numberLine (bytes "end\t") v ++ rest → v ≡ k .count → readOf s a .sheet ≡ atTheEnd n (k .count) rest → Reads s a (readOf s a .sheet) (readOf s a .cells)
       closing w v [] end c e = accepted w v [] end c refl e cells
@@ -276,8 +275,8 @@ module _ (n : ℕ) (s t : List ℕ) (a : List Float) (k : Taken) (low : 1 ≤ n)
 pub sound : (s : List ℕ) (a : List Float) → Reads s a (readOf s a .sheet) (readOf s a .cells)
 sound s a = go (numberAfter (bytes "order\t") s) refl
   where
-    at-once : readOf s a ≡ outcome (wrongAt 1) a → Reads s a (readOf s a .sheet) (readOf s a .cells)
-    at-once r = refused s a 1 1 (0 ∷ []) (omega arith) (ap (λ (o : Outcome). o .sheet) r) (no-lines s)
+    at-once : readOf s a ≡ reading (wrongAt 1) a → Reads s a (readOf s a .sheet) (readOf s a .cells)
+    at-once r = refused s a 1 1 (0 ∷ []) (omega arith) (ap (λ (o : Reading). o .sheet) r) (no-lines s)
 
     order : (n : ℕ) (t : List ℕ) → numberAfter (bytes "order\t") s ≡ found n t → (n ≡ 0) ⊎ (n ≡ 0 → ⊥) → (64 < n) ⊎ (n ≤ 64) → Reads s a (readOf s a .sheet) (readOf s a .cells)
     order n t f (inl z) l = at-once (read-order s a n t f ∙ order-zero a n t z)
@@ -290,5 +289,5 @@ sound s a = go (numberAfter (bytes "order\t") s) refl
     go (found n t) f = order n t f (eq-or-ne n 0) (lt-or-ge 64 n)
     go missing f = at-once (read-no-order s a f)
 
-pub reads-by : (s : List ℕ) (a : List Float) (r : Sheet) (a′ : List Float) → outcome r a′ ≡ readOf s a → Reads s a r a′
-reads-by s a r a′ e = subst (λ (o : Outcome). Reads s a (o .sheet) (o .cells)) (sym e) (sound s a)
+pub reads-by : (s : List ℕ) (a : List Float) (r : Sheet) (a′ : List Float) → reading r a′ ≡ readOf s a → Reads s a r a′
+reads-by s a r a′ e = subst (λ (o : Reading). Reads s a (o .sheet) (o .cells)) (sym e) (sound s a)

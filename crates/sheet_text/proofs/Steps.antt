@@ -12,7 +12,7 @@ use lib.ListN.{length, getD, drop, length-drop, drop-of-length-le}
 use lib.Seq.{drop-cons, drop-drop}
 use Rattle.sheet_text.specs.Text.{lf}
 use Rattle.sheet_text.specs.inner.Digit.{digitOf}
-use Rattle.sheet_text.specs.inner.Parse.{found, missing, startsWith, digits, number, hexDigits, lineEnd, numberAfter}
+use Rattle.sheet_text.specs.inner.Parse.{found, missing, startsWith, laterDigits, number, hexDigits, lineEnd, numberAfter}
 
 pub cons-at : (s : List ℕ) (i : ℕ) → i < length s → drop i s ≡ getD s i 0 ∷ drop (i + 1) s
 cons-at s i h = rw (add-one, drop-cons s i 0)
@@ -47,28 +47,28 @@ word-all w s k i hk = rw (drop-of-length-le w hk)
 
 -- ---- a decimal number
 module _ (stop v : ℕ) (s : List ℕ) (i : ℕ) where
-  pub digits-end : length s ≤ i → digits stop v (drop i s) ≡ missing
-  unfolding digits
+  pub digits-end : length s ≤ i → laterDigits stop v (drop i s) ≡ missing
+  unfolding laterDigits
   digits-end h = rw (drop-of-length-le s h)
 
-  pub digits-stop : i < length s → getD s i 0 ≡ stop → digits stop v (drop i s) ≡ found v (drop (i + 1) s)
-  unfolding digits
+  pub digits-stop : i < length s → getD s i 0 ≡ stop → laterDigits stop v (drop i s) ≡ found v (drop (i + 1) s)
+  unfolding laterDigits
   digits-stop h e = rw (cons-at s i h, eq-eqb (getD s i 0) stop e)
 
-  pub digits-zero : i < length s → (getD s i 0 ≡ stop → ⊥) → v ≡ 0 → digits stop v (drop i s) ≡ missing
-  unfolding digits
+  pub digits-zero : i < length s → (getD s i 0 ≡ stop → ⊥) → v ≡ 0 → laterDigits stop v (drop i s) ≡ missing
+  unfolding laterDigits
   digits-zero h n z = rw (cons-at s i h, ne-eqb (getD s i 0) stop n, eq-eqb v 0 z)
 
-  pub digits-long : i < length s → (getD s i 0 ≡ stop → ⊥) → (v ≡ 0 → ⊥) → 999 < v → digits stop v (drop i s) ≡ missing
-  unfolding digits
+  pub digits-long : i < length s → (getD s i 0 ≡ stop → ⊥) → (v ≡ 0 → ⊥) → 999 < v → laterDigits stop v (drop i s) ≡ missing
+  unfolding laterDigits
   digits-long h n z l = rw (cons-at s i h, ne-eqb (getD s i 0) stop n, ne-eqb v 0 z, lt-ltb 999 v l)
 
-  pub digits-other : (d : ℕ) → d ≡ digitOf (getD s i 0) → i < length s → (getD s i 0 ≡ stop → ⊥) → (v ≡ 0 → ⊥) → v ≤ 999 → 9 < d → digits stop v (drop i s) ≡ missing
-  unfolding digits
+  pub digits-other : (d : ℕ) → d ≡ digitOf (getD s i 0) → i < length s → (getD s i 0 ≡ stop → ⊥) → (v ≡ 0 → ⊥) → v ≤ 999 → 9 < d → laterDigits stop v (drop i s) ≡ missing
+  unfolding laterDigits
   digits-other d e h n z l o = rw (cons-at s i h, ne-eqb (getD s i 0) stop n, ne-eqb v 0 z, le-ltb 999 v l, ← e, lt-ltb 9 d o)
 
-  pub digits-more : (d : ℕ) → d ≡ digitOf (getD s i 0) → i < length s → (getD s i 0 ≡ stop → ⊥) → (v ≡ 0 → ⊥) → v ≤ 999 → d ≤ 9 → digits stop v (drop i s) ≡ digits stop (v * 10 + d) (drop (i + 1) s)
-  unfolding digits
+  pub digits-more : (d : ℕ) → d ≡ digitOf (getD s i 0) → i < length s → (getD s i 0 ≡ stop → ⊥) → (v ≡ 0 → ⊥) → v ≤ 999 → d ≤ 9 → laterDigits stop v (drop i s) ≡ laterDigits stop (v * 10 + d) (drop (i + 1) s)
+  unfolding laterDigits
   digits-more d e h n z l o = rw (cons-at s i h, ne-eqb (getD s i 0) stop n, ne-eqb v 0 z, le-ltb 999 v l, ← e, le-ltb 9 d o)
 
   pub number-end : length s ≤ i → number stop (drop i s) ≡ missing
@@ -79,7 +79,7 @@ module _ (stop v : ℕ) (s : List ℕ) (i : ℕ) where
   unfolding number
   number-other d e h o = rw (cons-at s i h, ← e, lt-ltb 9 d o)
 
-  pub number-first : (d : ℕ) → d ≡ digitOf (getD s i 0) → i < length s → d ≤ 9 → number stop (drop i s) ≡ digits stop (d) (drop (i + 1) s)
+  pub number-first : (d : ℕ) → d ≡ digitOf (getD s i 0) → i < length s → d ≤ 9 → number stop (drop i s) ≡ laterDigits stop (d) (drop (i + 1) s)
   unfolding number
   number-first d e h o = rw (cons-at s i h, ← e, le-ltb 9 d o)
 

@@ -3,7 +3,7 @@ use crate::digit::digit_value;
 ghost use mathlib.Core.Path.{_≡_};
 ghost use Prim.Native.Nat.{_<_};
 ghost use lib.ListN.{drop};
-ghost use Rattle.sheet_text.specs.inner.Parse.{startsWith, number, digits, bits, numberAfter, entry, afterRow, afterColumn};
+ghost use Rattle.sheet_text.specs.inner.Parse.{startsWith, number, laterDigits, bits, numberAfter, anyEntry, afterRow, afterColumn};
 ghost use Rattle.sheet_text.specs.inner.Line.{numberIn, bitsIn, entryIn};
 
 // A number below 10,000 and where the reading goes on.
@@ -60,7 +60,7 @@ pub fn read_number(s: &[u8], at: usize, stop: u8) -> Number
 // The digits after the first.
 fn read_digits(s: &[u8], at: usize, stop: u8, first: usize) -> Number
     requires { ⌜ first < 10 ⌝ }
-    ensures { λ r. ⌜ r ≡ numberIn (now (s .entry)) (digits stop first (drop at (now (s .entry)))) ⌝ }
+    ensures { λ r. ⌜ r ≡ numberIn (now (s .entry)) (laterDigits stop first (drop at (now (s .entry)))) ⌝ }
 {
     let mut value = first;
     let mut i = at;
@@ -143,7 +143,7 @@ pub enum EntryLine {
 }
 
 pub fn entry_line(s: &[u8], at: usize) -> EntryLine
-    ensures { λ r. ⌜ r ≡ entryIn (now (s .entry)) (entry (drop at (now (s .entry)))) ⌝ }
+    ensures { λ r. ⌜ r ≡ entryIn (now (s .entry)) (anyEntry (drop at (now (s .entry)))) ⌝ }
 {
     if word_stands(s, at, b"entry\t") {
         return match read_number(s, at + 6, 9) {

@@ -12,11 +12,11 @@ ghost use lib.ListN.{drop, set};
 ghost use lib.Ieee.{binary64, ofBits};
 ghost use Rattle.sheet_text.specs.inner.Line.{bitsIn};
 ghost use Rattle.sheet_text.specs.Place.{places};
-ghost use Rattle.sheet_text.specs.inner.Read.{entryAt, takeEntries, takenBy, closed, verdict, outcome, afterOrder};
+ghost use Rattle.sheet_text.specs.inner.Read.{entryAt, takeEntries, takenBy, closed, verdict, reading, afterOrder};
 ghost use Rattle.sheet_text.specs.Sheet.{wrongAt, Reads};
 
 // How far the entries went: all of them or not, how many, and where the reading goes on.
-pub struct Reached {
+pub struct Progress {
     pub whole: bool,
     pub count: usize,
     pub next: usize,
@@ -53,7 +53,7 @@ fn store(a: &mut [f64], at: usize, bits: u64)
 }
 
 // The entry lines in their order, each stored, up to the first that is wrong.
-fn entries(s: &[u8], at: usize, n: usize, a: &mut [f64]) -> Reached
+fn entries(s: &[u8], at: usize, n: usize, a: &mut [f64]) -> Progress
     requires { ⌜ n ≤ 64 ⌝ }
     ensures { λ r. ⌜ takenBy (now (s .entry)) r (now (a .exit)) ≡ takeEntries n (places n) (drop at (now (s .entry))) 0 (now (a .entry)) ⌝ }
 {
@@ -69,7 +69,7 @@ fn entries(s: &[u8], at: usize, n: usize, a: &mut [f64]) -> Reached
                 p = p.next(n);
             }
             Bits::Not => {
-                return Reached {
+                return Progress {
                     whole: false,
                     count: count,
                     next: i,
@@ -77,7 +77,7 @@ fn entries(s: &[u8], at: usize, n: usize, a: &mut [f64]) -> Reached
             }
         }
     }
-    Reached {
+    Progress {
         whole: true,
         count: count,
         next: i,
@@ -112,7 +112,7 @@ fn wrong(line: usize) -> Sheet
 
 // The entries and the last line, the order line being read.
 fn after_order(s: &[u8], at: usize, n: usize, a: &mut [f64]) -> Sheet
-    ensures { λ r. ⌜ outcome r (now (a .exit)) ≡ afterOrder (now (a .entry)) n (drop at (now (s .entry))) ⌝ }
+    ensures { λ r. ⌜ reading r (now (a .exit)) ≡ afterOrder (now (a .entry)) n (drop at (now (s .entry))) ⌝ }
 {
     if n == 0 {
         return wrong(1);
@@ -125,7 +125,7 @@ fn after_order(s: &[u8], at: usize, n: usize, a: &mut [f64]) -> Sheet
 }
 
 // The last line and what stands after it, the entries being read.
-fn last_line(s: &[u8], n: usize, e: Reached) -> Sheet
+fn last_line(s: &[u8], n: usize, e: Progress) -> Sheet
     requires { ⌜ e .count ≤ 4096 ⌝ }
     ensures { λ r. ⌜ r ≡ verdict n (e .whole) (e .count) (drop (e .next) (now (s .entry))) ⌝ }
 {

@@ -5,7 +5,7 @@ use mathlib.Core.List.{List}
 use Prim.Native.Nat.{ℕ, _+_, _≤_, _<_}
 use native.Mathlib.Omega.{arith}
 use lib.ListN.{length}
-use lib.Ieee.{Float, binary64, mul, div, neg, lt}
+use lib.Ieee.{Float, neg, lt}
 use Rattle.answer.specs.declared.Answer.{Answer}
 use Rattle.answer.specs.declared.Answer.the-variants.{Done, NotPositive}
 use Rattle.answer.specs.Number.{isDone}
@@ -15,7 +15,7 @@ use Rattle.matrix.specs.Loop.{for}
 use Rattle.matrix.specs.Grid.{load}
 use Rattle.matrix.specs.Layouts.{inRoom, lower}
 use Rattle.matrix.specs.Sizes.{Fits}
-use Rattle.matrix.specs.Rounded.{plusZero}
+use Rattle.matrix.specs.Rounded.{_⊗_, _⊘_, plusZero}
 use Rattle.cholesky.specs.Column.{updated}
 use Rattle.cholesky.specs.Run.{Outcome, factorColumn, factorColumns}
 use Rattle.cholesky.specs.Crate.{positive, crateRule}
@@ -55,7 +55,7 @@ module _ (A L : Matrix) (p : ℕ) where
       -- rows p and q, up to column p
       pub left : (c : ℕ) → c < p → L q c ≡ L p c
       pub diagonal : L p p ≡ rootOf v
-      pub beside : L q p ≡ div binary64 v (rootOf v)
+      pub beside : L q p ≡ v ⊘ rootOf v
       -- what the columns up to p leave of row q's diagonal, and of its entries between the twins
       pub rest : reduced A L q q (p + 1) ≡ crumb
       pub between : (j : ℕ) → p < j → j < q → reduced A L q j (p + 1) ≡ remainder crateRule v (reduced A L j p p)
@@ -131,7 +131,7 @@ module _ (room m n p q : ℕ) (cuts : List ℕ) (l₀ l l' : List Float) (r : An
   chained k i j upto low under =
       reduced-same A L (After crateRule A k) (After crateRule A k) i j i j k
       (sym (right-of crateRule A k i j upto))
-      (λ t lt. ap₂ (λ (x y : Float). mul binary64 (neg x) y) (cell k j t lt (omega arith) (omega arith) (omega arith)) (cell k i t lt (omega arith) (omega arith) (omega arith)))
+      (λ t lt. ap₂ (λ (x y : Float). neg x ⊗ y) (cell k j t lt (omega arith) (omega arith) (omega arith)) (cell k i t lt (omega arith) (omega arith) (omega arith)))
 
   v-is : Updated crateRule A p p ≡ v A L p
   v-is = sym (chained p p p (omega arith) (omega arith) (omega arith))
@@ -150,7 +150,7 @@ module _ (room m n p q : ℕ) (cuts : List ℕ) (l₀ l l' : List Float) (r : An
     beside =
         cell (p + 1) q p (omega arith) (omega arith) (omega arith) within
         ∙ twin-beside crateRule A p q apart (given .left) (given .diagonal) accepted-p
-        ∙ ap (λ (x : Float). div binary64 x (rootOf x)) v-is;
+        ∙ ap (λ (x : Float). x ⊘ rootOf x) v-is;
     rest =
         chained (p + 1) q q (omega arith) (omega arith) within
         ∙ twin-rest crateRule A p q apart (given .left) (given .diagonal) accepted-p

@@ -7,12 +7,13 @@ use native.Mathlib.Nat.{eq-or-lt-of-le}
 use native.Mathlib.Numerals.{add-one}
 use native.Mathlib.Omega.{arith}
 use borrow.Author.Tests.{le-ltb}
-use lib.Ieee.{Float, binary64, add, mul, div, neg}
+use lib.Ieee.{Float, binary64, neg}
 use Rattle.answer.specs.declared.Answer.{Answer}
 use Rattle.answer.specs.declared.Answer.the-variants.{Done}
 use Rattle.answer.specs.Number.{isDone}
 use Rattle.matrix.specs.Matrix.{Matrix, entry}
 use Rattle.matrix.specs.Loop.{for}
+use Rattle.matrix.specs.Rounded.{_⊕_, _⊗_, _⊘_}
 use Rattle.matrix.proofs.Loops.{for-more, for-same, for-join}
 use Rattle.cholesky.specs.Column.{less, updated}
 use Rattle.cholesky.specs.Run.{Rule, Outcome, updates, below, judgedColumn, worked, factorColumn, started, factorColumns}
@@ -28,20 +29,20 @@ abbrev pub reduced : Matrix → Matrix → ℕ → ℕ → ℕ → Float
 reduced A L i j k = for 0 k (less L i j) (A i j)
 
 -- equal starts and equal terms
-pub reduced-same : (A M B N : Matrix) (i j r c k : ℕ) → A i j ≡ B r c → ((t : ℕ) → t < k → mul binary64 (neg (M j t)) (M i t) ≡ mul binary64 (neg (N c t)) (N r t))
+pub reduced-same : (A M B N : Matrix) (i j r c k : ℕ) → A i j ≡ B r c → ((t : ℕ) → t < k → neg (M j t) ⊗ M i t ≡ neg (N c t) ⊗ N r t)
     → reduced A M i j k ≡ reduced B N r c k
 unfolding less
 reduced-same A M B N i j r c k start terms =
-    for-same 0 k (less M i j) (less N r c) (A i j) (λ t x from below. ap (add binary64 x) (terms t below)) ∙ ap (for 0 k (less N r c)) start
+    for-same 0 k (less M i j) (less N r c) (A i j) (λ t x from below. ap (_⊕_ x) (terms t below)) ∙ ap (for 0 k (less N r c)) start
 
 -- the same where the start stands in the matrix itself
-chain : (M N : Matrix) (i j r c k : ℕ) → M i j ≡ N r c → ((t : ℕ) → t < k → mul binary64 (neg (M j t)) (M i t) ≡ mul binary64 (neg (N c t)) (N r t)) → updated M j k i ≡ updated N c k r
+chain : (M N : Matrix) (i j r c k : ℕ) → M i j ≡ N r c → ((t : ℕ) → t < k → neg (M j t) ⊗ M i t ≡ neg (N c t) ⊗ N r t) → updated M j k i ≡ updated N c k r
 unfolding updated
 chain M N i j r c k start terms = reduced-same M M N N i j r c k start terms
 
 -- what column p leaves of x in row q, if v is the first twin's updated diagonal: x + (−(x / root v))·(v / root v)
 unfoldable pub remainder : Rule → Float → Float → Float
-remainder ρ v x = add binary64 x (mul binary64 (neg (div binary64 x (ρ .root v))) (div binary64 v (ρ .root v)))
+remainder ρ v x = x ⊕ neg (x ⊘ ρ .root v) ⊗ (v ⊘ ρ .root v)
 
 -- the answer to a diagonal x at column j
 abbrev pub ruled : Rule → Float → ℕ → Answer
@@ -105,14 +106,14 @@ module _ (ρ : Rule) (A : Matrix) where
       ∙ entry-here (updates j j (After j)) j j (ρ .root (updates j j (After j) j j))
       ∙ ap (ρ .root) (updates-in j j (After j) j (omega arith))
 
-  pub below-of : (j i : ℕ) → Accepted (j + 1) → j < i → After (j + 1) i j ≡ div binary64 (Updated j i) (ρ .root (Updated j j))
+  pub below-of : (j i : ℕ) → Accepted (j + 1) → j < i → After (j + 1) i j ≡ Updated j i ⊘ ρ .root (Updated j j)
   below-of j i done under =
       let U = updates j j (After j) in
       let E = entry U j j (ρ .root (U j j)) in
       ap (λ (M : Matrix). M i j) (passed j done)
       ∙ below-in (j + 1) j E i (omega arith)
-      ∙ ap (λ (x : Float). div binary64 x (E j j)) (entry-row U j j (ρ .root (U j j)) i j (λ e. omega arith) ∙ updates-in j j (After j) i (omega arith))
-      ∙ ap (div binary64 (Updated j i)) (entry-here U j j (ρ .root (U j j)) ∙ ap (ρ .root) (updates-in j j (After j) j (omega arith)))
+      ∙ ap (λ (x : Float). x ⊘ E j j) (entry-row U j j (ρ .root (U j j)) i j (λ e. omega arith) ∙ updates-in j j (After j) i (omega arith))
+      ∙ ap (_⊘_ (Updated j i)) (entry-here U j j (ρ .root (U j j)) ∙ ap (ρ .root) (updates-in j j (After j) j (omega arith)))
 
   -- the columns from j on leave what stands left of them, and the columns before c leave column c
   pub stands : (j k i c : ℕ) → c < j → j ≤ k → After k i c ≡ After j i c
@@ -143,10 +144,10 @@ module _ (ρ : Rule) (A : Matrix) where
         at-j : After (j + 1) q j ≡ After (j + 1) p j
         at-j =
             below-of j q done (omega arith)
-            ∙ ap (λ (x : Float). div binary64 x (ρ .root (Updated j j)))
+            ∙ ap (λ (x : Float). x ⊘ ρ .root (Updated j j))
             (chain (After j) (After j) q j p j j
             (right-of j q j (omega arith) ∙ left j (omega arith) ∙ sym (right-of j p j (omega arith)))
-            (λ t below. ap (mul binary64 (neg (After j j t))) (alike t below)))
+            (λ t below. ap (_⊗_ (neg (After j j t))) (alike t below)))
             ∙ sym (below-of j p done (omega arith))
 
     alike-upto : (j : ℕ) → j ≤ p → Accepted j → Alike j
@@ -176,17 +177,17 @@ module _ (ρ : Rule) (A : Matrix) where
       twin-updated =
           chain (After p) (After p) q p p p p
           (right-of p q p (omega arith) ∙ left p (omega arith) ∙ sym (right-of p p p (omega arith)))
-          (λ t below. ap (mul binary64 (neg (After p p t))) (alike t below))
+          (λ t below. ap (_⊗_ (neg (After p p t))) (alike t below))
 
       -- l(p,p) = root v, l(q,p) = v / root v
       pub twin-diagonal : After (p + 1) p p ≡ ρ .root v
       twin-diagonal = diagonal-of p done
 
-      pub twin-beside : After (p + 1) q p ≡ div binary64 v (ρ .root v)
-      twin-beside = below-of p q done apart ∙ ap (λ (x : Float). div binary64 x (ρ .root v)) twin-updated
+      pub twin-beside : After (p + 1) q p ≡ v ⊘ ρ .root v
+      twin-beside = below-of p q done apart ∙ ap (λ (x : Float). x ⊘ ρ .root v) twin-updated
 
       -- one column more of a chain
-      chain-more : (M : Matrix) (j k i : ℕ) → updated M j (k + 1) i ≡ add binary64 (updated M j k i) (mul binary64 (neg (M j k)) (M i k))
+      chain-more : (M : Matrix) (j k i : ℕ) → updated M j (k + 1) i ≡ updated M j k i ⊕ neg (M j k) ⊗ M i k
       unfolding updated less
       chain-more M j k i = for-more 0 k (less M i j) (M i j) (omega arith)
 
@@ -195,11 +196,11 @@ module _ (ρ : Rule) (A : Matrix) where
       unfolding Alike remainder
       twin-rest =
           chain-more (After (p + 1)) q p q
-          ∙ ap (λ (x : Float). add binary64 x (mul binary64 (neg (After (p + 1) q p)) (After (p + 1) q p)))
+          ∙ ap (λ (x : Float). x ⊕ neg (After (p + 1) q p) ⊗ After (p + 1) q p)
           (chain (After (p + 1)) (After p) q q p p p
           (right-of (p + 1) q q (omega arith) ∙ diagonal ∙ sym (right-of p p p (omega arith)))
-          (λ t below. ap (λ (x : Float). mul binary64 (neg x) x) (left-of p q t below ∙ alike t below)))
-          ∙ ap (λ (x : Float). add binary64 v (mul binary64 (neg x) x)) twin-beside
+          (λ t below. ap (λ (x : Float). neg x ⊗ x) (left-of p q t below ∙ alike t below)))
+          ∙ ap (λ (x : Float). v ⊕ neg x ⊗ x) twin-beside
 
       -- adjacent twins: row q's updated diagonal, and so whether it is refused and by which test, depends on v alone
       pub twin-next : q ≡ p + 1 → Updated q q ≡ remainder ρ v v
@@ -217,12 +218,12 @@ module _ (ρ : Rule) (A : Matrix) where
       unfolding Alike remainder
       twin-between k after before mirrored =
           chain-more (After (p + 1)) k p q
-          ∙ ap (λ (x : Float). add binary64 x (mul binary64 (neg (After (p + 1) k p)) (After (p + 1) q p)))
+          ∙ ap (λ (x : Float). x ⊕ neg (After (p + 1) k p) ⊗ After (p + 1) q p)
           (chain (After (p + 1)) (After p) q k k p p
           (right-of (p + 1) q k (omega arith) ∙ mirrored ∙ sym (right-of p k p (omega arith)))
           (λ t below.
-          ap (λ (x : Float). mul binary64 (neg x) (After (p + 1) q t)) (left-of p k t below)
-          ∙ ap (mul binary64 (neg (After p k t))) (left-of p q t below ∙ alike t below)
+          ap (λ (x : Float). neg x ⊗ After (p + 1) q t) (left-of p k t below)
+          ∙ ap (_⊗_ (neg (After p k t))) (left-of p q t below ∙ alike t below)
           ∙ neg-exchanges binary64 (After p k t) (After p p t)))
-          ∙ ap (λ (x : Float). add binary64 (Updated p k) (mul binary64 (neg x) (After (p + 1) q p))) (below-of p k done after)
-          ∙ ap (λ (x : Float). add binary64 (Updated p k) (mul binary64 (neg (div binary64 (Updated p k) (ρ .root v))) x)) twin-beside
+          ∙ ap (λ (x : Float). Updated p k ⊕ neg x ⊗ After (p + 1) q p) (below-of p k done after)
+          ∙ ap (λ (x : Float). Updated p k ⊕ neg (Updated p k ⊘ ρ .root v) ⊗ x) twin-beside

@@ -9,14 +9,14 @@ use native.Mathlib.Omega.{arith}
 use lib.IntN.{pos}
 use lib.Dec.{T, ltb, lit<, lit≤}
 use lib.Pow.{pow-add, pow-pos, pow-mono}
-use lib.Ieee.{Float, nan, inf, fin, binary64, low, up, down, minus, size, units, round, neg, mul, div, le, fits}
+use lib.Ieee.{Float, nan, inf, fin, binary64, low, up, down, minus, size, units, round, neg, le, fits}
 use lib.Ieee.Digits.{size-lt, size-reaches}
 use lib.Ieee.Exact.{HasValue, units-val}
 use lib.Ieee.Order.{drop, round-mono}
 use lib.Ieee.Scale.{grid, overflow, finite, round-under}
 use lib.Ieee.Positive.{num, den, positive, value-pos, values-of-le}
 use Rattle.leaf.specs.Abs.{absOf}
-use Rattle.leaf.specs.Root.{unitsOf, digits, rounded, rootOf}
+use Rattle.leaf.specs.Root.{unitsOf, rootDigits, rounded, rootOf}
 use Rattle.leaf.specs.Cut.{CutRoot}
 use Rattle.leaf.proofs.Cut.{digits-cut}
 use Rattle.leaf.proofs.Rounded.{long, fours as powers-of-four}
@@ -26,6 +26,7 @@ use Rattle.cholesky.specs.Crate.{crateRule}
 use Rattle.twin_laws.proofs.Cholesky.{remainder}
 use Rattle.twin_laws.proofs.Exact.{own-round}
 use Rattle.leaf.proofs.Fractions.{Near, WithinHalf, round-off, round-near, kept-most, signed-round, product-of, quotient-of, distance, difference-of, exact-difference, round-abs}
+use Rattle.matrix.specs.Rounded.{_⊗_, _⊘_}
 
 -- ---- the root
 
@@ -83,7 +84,7 @@ abbrev leftOff : ℕ → ℕ
 leftOff w = (size w + 1) / 2 - 54
 
 abbrev rootUnits : ℕ → ℕ
-rootUnits w = (digits 54 (w / 4 ^ leftOff w) + 1) / 2 * 2 ^ (leftOff w + 1)
+rootUnits w = (rootDigits 54 (w / 4 ^ leftOff w) + 1) / 2 * 2 ^ (leftOff w + 1)
 
 -- so that 54 digits stay
 place : (w : ℕ) → 2 ^ 106 ≤ w → (2 ^ 106 * 4 ^ leftOff w ≤ w) × (w < 2 ^ 108 * 4 ^ leftOff w)
@@ -100,7 +101,7 @@ place w least =
 root-near : (w : ℕ) → 2 ^ 106 ≤ w → NearRoot (rootUnits w) w
 root-near w least =
     let k = leftOff w in
-    let s = digits 54 (w / 4 ^ k) in
+    let s = rootDigits 54 (w / 4 ^ k) in
     let q = (s + 1) / 2 in
     let some : 0 < 4 ^ k = subst (λ (x : ℕ). 0 < x) (sym (fours k)) (mul-pos (pow-pos k) (pow-pos k)) in
     let from : 2 ^ 106 ≤ w / 4 ^ k = le-div-iff-mul-le some .1 (place w least .0) in
@@ -115,7 +116,7 @@ root-near w least =
 rounded-value : (w : ℕ) → 2 ^ 106 ≤ w → w ≤ 2 ^ 3171 → HasValue (rounded w) false (rootUnits w) (2 ^ 1074)
 unfolding rounded
 rounded-value w least most =
-    units-val binary64 false ((digits 54 (w / 4 ^ leftOff w) + 1) / 2) (leftOff w + 1)
+    units-val binary64 false ((rootDigits 54 (w / 4 ^ leftOff w) + 1) / 2) (leftOff w + 1)
     (no-overflow (rootUnits w) w (ratio (2 ^ 53 * 2 ^ 53) ((2 ^ 53 + 1) * (2 ^ 53 + 1)) 1 2 (rootUnits w * rootUnits w) w (lit< tt) (root-near w least .above) (lit≤ tt)) most)
 
 -- ---- the quotient and its square
@@ -203,16 +204,16 @@ units-are x held above = counts-units x (grid binary64 (num x) (den x)) (in-unit
 
 -- v / root v, and −(v / root v)·(v / root v)
 abbrev quotient : Float → Float
-quotient v = div binary64 v (rootOf v)
+quotient v = v ⊘ rootOf v
 
 abbrev taken : Float → Float
-taken v = mul binary64 (neg (quotient v)) (quotient v)
+taken v = neg (quotient v) ⊗ quotient v
 
 -- c is finite, and in size 2 ^ -50 of v at most: exactly, in units of 2 ^ -1074, and as a program tests it
 pub record Crumb (c v : Float) : Type 0 where
   pub finite : T (finite c)
   pub small : 2 ^ 50 * unitsOf (absOf c) ≤ unitsOf v
-  pub tested : T (le (absOf c) (mul binary64 (fin false 1 (minus 0 50)) v))
+  pub tested : T (le (absOf c) (fin false 1 (minus 0 50) ⊗ v))
 
 module _ (v : Float) (held : T (fits binary64 v)) (above : T (positive v)) (most : T (le v (fin false 1 (pos 1023)))) where
   abbrev vUnits : ℕ
@@ -298,7 +299,7 @@ module _ (v : Float) (held : T (fits binary64 v)) (above : T (positive v)) (most
   crumb-size : absOf (remainder crateRule v v) ≡ round binary64 false gap (2 ^ 1074)
   crumb-size = ap absOf crumb-is ∙ round-abs binary64 (ltb vUnits takenUnits) gap (2 ^ 1074)
 
-  share-is : mul binary64 (fin false 1 (minus 0 50)) v ≡ round binary64 false (1 * vUnits) (2 ^ 50 * 2 ^ 1074)
+  share-is : fin false 1 (minus 0 50) ⊗ v ≡ round binary64 false (1 * vUnits) (2 ^ 50 * 2 ^ 1074)
   share-is = product-of binary64 (fin false 1 (minus 0 50)) v false false 1 (2 ^ 50) vUnits (2 ^ 1074) (lit< tt) (lit< tt) (refl, refl) value
 
   pub crumb-small : Crumb (remainder crateRule v v) v
@@ -306,7 +307,7 @@ module _ (v : Float) (held : T (fits binary64 v)) (above : T (positive v)) (most
     finite = subst (λ (x : Float). T (finite x)) (sym crumb-is) (finite-of (round binary64 (ltb vUnits takenUnits) gap (2 ^ 1074)) (ltb vUnits takenUnits) gap (2 ^ 1074) (exact (ltb vUnits takenUnits)));
     small = subst (λ (n : ℕ). 2 ^ 50 * n ≤ vUnits) (sym (ap unitsOf crumb-size ∙ counts-units (round binary64 false gap (2 ^ 1074)) gap (exact false))) gap-small;
     tested =
-        subst (λ (x : Float). T (le x (mul binary64 (fin false 1 (minus 0 50)) v))) (sym crumb-size)
+        subst (λ (x : Float). T (le x (fin false 1 (minus 0 50) ⊗ v))) (sym crumb-size)
         (subst (λ (x : Float). T (le (round binary64 false gap (2 ^ 1074)) x)) (sym share-is)
         (round-mono binary64 gap (2 ^ 1074) (1 * vUnits) (2 ^ 50 * 2 ^ 1074) (lit< tt) (lit< tt) (scaled gap vUnits (2 ^ 1074) gap-small)));
   }

@@ -1,75 +1,18 @@
 -- The interchange of rows and columns t and s renames the rows of the symmetric matrix. Assumes nothing.
-use mathlib.Core.Path.{_≡_, refl, sym, _∙_, ap}
-use mathlib.Core.Bool.{Bool, true, false, cond}
+use mathlib.Core.Path.{_≡_, refl, sym, _∙_}
+use mathlib.Core.Bool.{cond}
 use Prim.Native.Nat.{ℕ, _+_, _≤_, _<_}
 use native.Mathlib.Decide.{decLt}
 use native.Mathlib.Omega.{arith}
 use lib.Dec.{eqb}
-use lib.Ieee.{Float}
 use borrow.Author.Tests.{eqb-true, eqb-false}
-use Rattle.matrix.specs.Matrix.{Matrix, entry, exchange}
+use Rattle.matrix.specs.Matrix.{Matrix, exchange}
 use Rattle.matrix.specs.Loop.{for}
 use Rattle.lblt.specs.Interchange.{swapBelow, swapBetween, interchange, brought1, brought2}
-use Rattle.matrix.proofs.Tests.{either}
-use Rattle.matrix.proofs.Loops.{for-still, for-at}
-use Rattle.matrix.proofs.Stores.{entry-here, entry-row, entry-column}
+use Rattle.answer.proofs.Tests.{either}
+use Rattle.matrix.proofs.Stores.{exchange-skip, exchange-first, exchange-second, Apart, swaps-skip, swaps-first, swaps-second}
 use Rattle.twins.specs.Twins.{symmetric}
 use Rattle.twins.proofs.Clauses.{at-lower, at-upper}
-
--- ---- one exchange, and some at places that do not meet
-
-pub entry-skip : (M : Matrix) (i j : ℕ) (v : Float) (r c : ℕ) → (r ≡ i → c ≡ j → ⊥) → entry M i j v r c ≡ M r c
-entry-skip M i j v r c apart = pick (eqb r i) refl
-  where
-    pick : (b : Bool) → eqb r i ≡ b → entry M i j v r c ≡ M r c
-    pick true e = entry-column M i j v r c (apart (eqb-true r i e))
-    pick false e = entry-row M i j v r c (eqb-false r i e)
-
-module _ (M : Matrix) (i j r c : ℕ) where
-  exchange-skip : (x y : ℕ) → (x ≡ i → y ≡ j → ⊥) → (x ≡ r → y ≡ c → ⊥) → exchange M i j r c x y ≡ M x y
-  unfolding exchange
-  exchange-skip x y first second = entry-skip (entry M i j (M r c)) r c (M i j) x y second ∙ entry-skip M i j (M r c) x y first
-
-  exchange-first : (i ≡ r → j ≡ c → ⊥) → exchange M i j r c i j ≡ M r c
-  unfolding exchange
-  exchange-first two = entry-skip (entry M i j (M r c)) r c (M i j) i j two ∙ entry-here M i j (M r c)
-
-  exchange-second : exchange M i j r c r c ≡ M i j
-  unfolding exchange
-  exchange-second = entry-here (entry M i j (M r c)) r c (M i j)
-
-module _ (a b c d : ℕ → ℕ) where
-  abbrev swaps : ℕ → Matrix → Matrix
-  swaps i M = exchange M (a i) (b i) (c i) (d i)
-
-  -- turn i leaves (x, y)
-  abbrev Apart : ℕ → ℕ → ℕ → Type 0
-  Apart i x y = (x ≡ a i → y ≡ b i → ⊥) × (x ≡ c i → y ≡ d i → ⊥)
-
-  swaps-skip : (lo hi : ℕ) (M : Matrix) (x y : ℕ) → ((i : ℕ) → lo ≤ i → i < hi → Apart i x y) → for lo hi swaps M x y ≡ M x y
-  swaps-skip lo hi M x y apart =
-      for-still (λ (N : Matrix). N x y) lo hi swaps M (λ i N from upto. exchange-skip N (a i) (b i) (c i) (d i) x y (apart i from upto .0) (apart i from upto .1))
-
-  module _ (lo hi j : ℕ) (M : Matrix) (from : lo ≤ j) (upto : j < hi)
-      (apart : (i : ℕ) → lo ≤ i → i < hi → (i ≡ j → ⊥) → Apart i (a j) (b j) × Apart i (c j) (d j)) where
-    before : Matrix
-    before = for lo j swaps M
-
-    swaps-first : (a j ≡ c j → b j ≡ d j → ⊥) → for lo hi swaps M (a j) (b j) ≡ M (c j) (d j)
-    unfolding before
-    swaps-first two =
-        ap (λ (N : Matrix). N (a j) (b j)) (for-at lo hi j swaps M from upto)
-        ∙ swaps-skip (j + 1) hi (swaps j before) (a j) (b j) (λ i low high. apart i (omega arith) high (omega arith) .0)
-        ∙ exchange-first before (a j) (b j) (c j) (d j) two
-        ∙ swaps-skip lo j M (c j) (d j) (λ i low high. apart i low (omega arith) (omega arith) .1)
-
-    swaps-second : for lo hi swaps M (c j) (d j) ≡ M (a j) (b j)
-    unfolding before
-    swaps-second =
-        ap (λ (N : Matrix). N (c j) (d j)) (for-at lo hi j swaps M from upto)
-        ∙ swaps-skip (j + 1) hi (swaps j before) (c j) (d j) (λ i low high. apart i (omega arith) high (omega arith) .1)
-        ∙ exchange-second before (a j) (b j) (c j) (d j)
-        ∙ swaps-skip lo j M (a j) (b j) (λ i low high. apart i low (omega arith) (omega arith) .0)
 
 -- ---- the interchange, entry by entry
 

@@ -16,12 +16,12 @@ use Rattle.lblt.specs.Interchange.{interchange, brought1, brought2}
 use Rattle.lblt.specs.Step.{pivot1, pivot2}
 use Rattle.lblt.specs.Update.{update1, blockAt, work1, work2, rank2At, rank2By, rank2, update2}
 use Rattle.matrix.proofs.Loops.{for-still, for-at}
-use Rattle.matrix.proofs.Stores.{entry-here, entry-column, column-other, row-other, row-here}
+use Rattle.matrix.proofs.Stores.{entry-here, entry-skip, entry-column, column-other, row-other, row-here}
 use Rattle.lblt.proofs.Entries.{Updated1, updated1}
 use Rattle.lblt.proofs.Earlier.{pivot1-earlier, pivot2-earlier}
 use Rattle.twins.specs.Twins.{symmetric}
 use Rattle.twins.proofs.Clauses.{at-lower, at-upper}
-use Rattle.twin_laws.proofs.Interchanges.{entry-skip, flip, renamed, renamed-first, renamed-other, by-name, Renaming, brought1-renamed, brought2-renamed}
+use Rattle.twin_laws.proofs.Interchanges.{flip, renamed, renamed-first, renamed-other, by-name, Renaming, brought1-renamed, brought2-renamed}
 
 -- rows p and q are the same up to p, on the diagonal and below q; for q = p + 1 that is all of both rows
 pub record Paired (n : ℕ) (M : Matrix) (p q : ℕ) : Type 0 where

@@ -8,9 +8,10 @@ use native.Mathlib.Omega.{arith}
 use lib.IntN.{ℤ}
 use lib.Dec.{T, ltb, eqb, ltb→lt, lt→ltb, eqb→eq}
 use borrow.Author.Tests.{le-ltb}
-use lib.Ieee.{Float, nan, inf, fin, binary64, lt, le, eq, mul, fits, ofBits, up, down, below, level}
+use lib.Ieee.{Float, nan, inf, fin, binary64, lt, le, eq, fits, ofBits, up, down, below, level}
 use lib.Ieee.Fits.{and-l, and-r}
 use lib.Ieee.Positive.{positive, mul-mono, cross→le}
+use Rattle.matrix.specs.Rounded.{_⊗_}
 use Rattle.twin_laws.proofs.Exact.{one, one-times}
 
 either : (x y : Bool) → T (x || y) → T x ⊎ T y
@@ -51,10 +52,10 @@ abbrev α : Float
 unfolding ofBits le
 α-at-most-one = (tt, tt)
 
-pub share-not-above : (m : ℕ) (e : ℤ) → T (fits binary64 (fin false (suc m) e)) → lt (fin false (suc m) e) (mul binary64 α (fin false (suc m) e)) ≡ false
+pub share-not-above : (m : ℕ) (e : ℤ) → T (fits binary64 (fin false (suc m) e)) → lt (fin false (suc m) e) (α ⊗ fin false (suc m) e) ≡ false
 share-not-above m e held =
     let x = fin false (suc m) e in
     let above : T (positive x) = lt→ltb 0 (suc m) (zero-lt-suc m) in
-    not-lt (mul binary64 α x) x
-    (subst (λ (y : Float). T (le (mul binary64 α x) y)) (one-times binary64 x held)
+    not-lt (α ⊗ x) x
+    (subst (λ (y : Float). T (le (α ⊗ x) y)) (one-times binary64 x held)
     (mul-mono binary64 α one x x (α-at-most-one .0) tt above above (α-at-most-one .1) (cross→le x x above above (le-refl (suc m * up e * down e)))))

@@ -7,7 +7,6 @@ use lib.Dec.{leb, eqb}
 use borrow.Author.Tests.{ne-eqb, le-leb, eqb-true}
 use lib.Ieee.{Float, eq}
 use Rattle.matrix.specs.Matrix.{Matrix}
-use Rattle.matrix.specs.Loop.{for}
 use Rattle.matrix.specs.Rounded.{_⊕_, _⊗_, plusZero}
 use Rattle.matrix.proofs.Loops.{for-same, falling-related}
 use Rattle.udu.specs.Columns.{Factors, nothing, plusCross, crossSum, uduDiagonal, lastEntry, furtherEntry, uduEntry, withDiagonal, withColumn, UduRun, accepted, refused, columnBy, uduColumn, uduColumns}

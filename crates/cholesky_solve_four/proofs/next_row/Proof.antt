@@ -38,13 +38,10 @@ same-length c = search needs
 returns : tie.Need-returns
 returns c =
     let given = c .before .before .before .before .before .before .before .before .before .before .before .before in
-    let row-step = c .before .before .before .before .before .before .before .before .row in
-    let get-step = c .before .before .before .before .before .before .before .get in
-    let row2-step = c .before .before .before .before .row2 in
+    let row = c .before .before .before .before .before .before .before .before .row in
+    let get = c .before .before .before .before .before .before .before .get in
+    let row2 = c .before .before .before .before .row2 in
     let pre = given .pre in
-    let row = row-step in
-    let get = get-step in
-    let row2 = row2-step in
     let less = c .before .before .before .less in
     next-rows _ _ _ (pre .0 .long) _ (pre .1) (row .ensures) (get .ensures) (row2 .ensures) (less .ensures) (c .before .before .put-row .ensures)
 

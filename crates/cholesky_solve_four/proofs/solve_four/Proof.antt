@@ -21,9 +21,8 @@ same-length c = search needs
 returns : tie.Need-returns
 returns c =
     let given = c .before .before .before .before .before .before .before .before .before .before in
-    let solve-lower-step = c .before .before .before .before .before .before .solve-lower in
+    let solve-lower = c .before .before .before .before .before .before .solve-lower in
     let pre = given .pre in
-    let solve-lower = solve-lower-step in
     solved _ _ _ (pre .long) (solve-lower .ensures) (c .before .before .solve-transposed .ensures)
 
 pub solve-four-spec : {M : Type 1} → statement M

@@ -38,10 +38,8 @@ loop-less c = search needs
 
 loop-again : tie.Need-loop-again Inv-loop μ-loop
 loop-again c =
-    let loop-step = c .before .before .before .before .before .loop in
-    let loop-test-step = c .before .before .before .before .loop-test in
-    let loop = loop-step in
-    let loop-test = loop-test-step in
+    let loop = c .before .before .before .before .before .loop in
+    let loop-test = c .before .before .before .before .loop-test in
     let transposed-row = c .before .before .transposed-row in
     (fell-more (loop .inv .0) (loop-test .taken) (transposed-row .ensures), transposed-row .kept .1 .1 .0 ∙ loop .inv .1)
 

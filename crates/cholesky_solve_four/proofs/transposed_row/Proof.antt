@@ -24,9 +24,8 @@ same-length c = search needs
 returns : tie.Need-returns
 returns c =
     let given = c .before .before .before .before .before .before .before .before .before .before in
-    let gather-row-step = c .before .before .before .before .before .before .gather-row in
+    let gather-row = c .before .before .before .before .before .before .gather-row in
     let pre = given .pre in
-    let gather-row = gather-row-step in
     transposed _ _ _ (pre .0 .long) _ (gather-row .ensures) (c .before .before .divide-one .ensures)
 
 pub transposed-row-spec : {M : Type 1} → statement M

@@ -42,10 +42,9 @@ sub-i-2 c = search needs
 transposed-row-requires : tie.Need-transposed-row-requires Inv-loop μ-loop
 transposed-row-requires c κs =
     let given = c .before .before .before .before .before .before .before .before .before .before .before .before .before in
-    let divide-one-step = c .before .before .before .before .before .before .divide-one in
+    let divide-one = c .before .before .before .before .before .before .divide-one in
     let pre = given .pre in
     let loop = c .before .before .loop in
-    let divide-one = divide-one-step in
     (record { factor = pre .factor; long = loop .inv .2 ∙ divide-one .kept .1 .1 .0 ∙ pre .long }, (omega (arith, loop .inv .0 .upto, c .before .loop-test .taken), last-found (loop .b) (loop .inv .1) (c .before .loop-test .taken)))
 
 loop-less : tie.Need-loop-less Inv-loop μ-loop
@@ -53,25 +52,20 @@ loop-less c = search needs
 
 loop-again : tie.Need-loop-again Inv-loop μ-loop
 loop-again c =
-    let loop-step = c .before .before .before .before .before .loop in
-    let loop-test-step = c .before .before .before .before .loop-test in
-    let loop = loop-step in
-    let loop-test = loop-test-step in
+    let loop = c .before .before .before .before .before .loop in
+    let loop-test = c .before .before .before .before .loop-test in
     let transposed-row = c .before .before .transposed-row in
     (fell-more (loop .inv .0) (loop-test .taken) (transposed-row .ensures .column), transposed-row .ensures .number, transposed-row .kept .1 .1 .0 ∙ loop .inv .2)
 
 same-length : tie.Need-same-length Inv-loop μ-loop
 same-length c =
-    let divide-one-step = c .before .before .before .before .before .divide-one in
-    let divide-one = divide-one-step in
+    let divide-one = c .before .before .before .before .before .divide-one in
     c .before .loop .inv .2 ∙ divide-one .kept .1 .1 .0
 
 returns-2 : tie.Need-returns-2 Inv-loop μ-loop
 returns-2 c =
-    let if1-step = c .before .before .before .before .before .before .before .before .if1 in
-    let divide-one-step = c .before .before .before .before .before .divide-one in
-    let if1 = if1-step in
-    let divide-one = divide-one-step in
+    let if1 = c .before .before .before .before .before .before .before .before .if1 in
+    let divide-one = c .before .before .before .before .before .divide-one in
     back-all _ _ (omega (arith, if1 .left)) _ (divide-one .ensures) (fell-all (c .before .loop .inv .0) (c .loop-test .left))
 
 pub solve-transposed-spec : {M : Type 1} → statement M

@@ -21,8 +21,7 @@ same-length c = search needs
 returns : tie.Need-returns
 unfolding solveTriangles
 returns c =
-    let solve-lower-step = c .before .before .before .before .before .before .solve-lower in
-    let solve-lower = solve-lower-step in
+    let solve-lower = c .before .before .before .before .before .before .solve-lower in
     c .before .before .solve-transposed .ensures ∙ ap (solveTransposed _ _) (solve-lower .ensures)
 
 pub solve-triangles-spec : {M : Type 1} → statement M

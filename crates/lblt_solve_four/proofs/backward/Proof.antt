@@ -31,20 +31,16 @@ backward-block-requires c κs =
 loop-less : tie.Need-loop-less Inv-loop μ-loop
 loop-less c =
     let given = c .before .before .before .before .before .before .before .before .before in
-    let loop-step = c .before .before .before .before .before .loop in
-    let loop-test-step = c .before .before .before .before .loop-test in
-    let loop-test = loop-test-step in
+    let loop = c .before .before .before .before .before .loop in
+    let loop-test = c .before .before .before .before .loop-test in
     let backward-block = c .before .before .backward-block in
     let args = given .args in
-    let loop = loop-step in
     omega (arith, loop-test .taken, backward-block .ensures .row, rows-positive (args .words .now) (loop .k - 1))
 
 loop-again : tie.Need-loop-again Inv-loop μ-loop
 loop-again c =
-    let loop-step = c .before .before .before .before .before .loop in
-    let loop-test-step = c .before .before .before .before .loop-test in
-    let loop = loop-step in
-    let loop-test = loop-test-step in
+    let loop = c .before .before .before .before .before .loop in
+    let loop-test = c .before .before .before .before .loop-test in
     let backward-block = c .before .before .backward-block in
     (back-more (loop .inv .0) (loop-test .taken) (backward-block .ensures .row) (backward-block .ensures .column), backward-block .kept .1 .1 .1 .0 ∙ loop .inv .1)
 

@@ -32,15 +32,11 @@ same-length c = search needs
 returns : tie.Need-returns
 returns c =
     let given = c .before .before .before .before .before .before .before .before .before .before .before .before .before .before in
-    let index-step = c .before .before .before .before .before .before .before .before .before .before .index in
-    let gather-row-step = c .before .before .before .before .before .before .before .before .gather-row in
-    let size-step = c .before .before .before .before .before .size in
-    let if1-step = c .before .before .before .before .if1 in
+    let index = c .before .before .before .before .before .before .before .before .before .before .index in
+    let gather-row = c .before .before .before .before .before .before .before .before .gather-row in
+    let size = c .before .before .before .before .before .size in
+    let if1 = c .before .before .before .before .if1 in
     let pre = given .pre in
-    let size = size-step in
-    let index = index-step in
-    let if1 = if1-step in
-    let gather-row = gather-row-step in
     let swap-rows = c .before .before .swap-rows in
     columns-backed-one _ _ _ (pre .0 .long) _ _ _ (size .ensures) (index .ensures) (if1 .taken) (gather-row .ensures) (swap-rows .ensures)
 
@@ -55,9 +51,8 @@ sub-gather-row c =
 gather-row-requires-2 : tie.Need-gather-row-requires-2
 gather-row-requires-2 c κs =
     let given = c .before .before .before .before .before .before .before .before .before .before .before in
-    let gather-row-step = c .before .before .before .before .before .gather-row in
+    let gather-row = c .before .before .before .before .before .gather-row in
     let pre = given .pre in
-    let gather-row = gather-row-step in
     (record { factor = pre .0 .factor; long = gather-row .kept .1 .1 .0 ∙ pre .0 .long }, (omega (arith, pre .1 .inside), pre .1 .end))
 
 swap-rows-requires-2 : tie.Need-swap-rows-requires-2
@@ -66,12 +61,10 @@ swap-rows-requires-2 c κs = search needs
 sub-result-2 : tie.Need-sub-result-2
 sub-result-2 c =
     let given = c .before .before .before .before .before .before .before .before .before .before .before .before .before .before .before .before .before .before in
-    let size-step = c .before .before .before .before .before .before .before .before .before .size in
-    let if1-step = c .before .before .before .before .before .before .before .before .if1 in
+    let size = c .before .before .before .before .before .before .before .before .before .size in
+    let if1 = c .before .before .before .before .before .before .before .before .if1 in
     let pre = given .pre in
     let args = given .args in
-    let size = size-step in
-    let if1 = if1-step in
     omega (arith, pre .1 .rows, reads-two (args .words .now) (args .k - 1) (size .ensures) (if1 .left))
 
 same-length-2 : tie.Need-same-length-2
@@ -80,17 +73,12 @@ same-length-2 c = search needs
 returns-2 : tie.Need-returns-2
 returns-2 c =
     let given = c .before .before .before .before .before .before .before .before .before .before .before .before .before .before .before .before .before .before in
-    let index-step = c .before .before .before .before .before .before .before .before .before .before .before .before .before .before .index in
-    let gather-row-step = c .before .before .before .before .before .before .before .before .before .before .before .before .gather-row in
-    let size-step = c .before .before .before .before .before .before .before .before .before .size in
-    let if1-step = c .before .before .before .before .before .before .before .before .if1 in
-    let gather-row2-step = c .before .before .before .before .before .before .gather-row2 in
+    let index = c .before .before .before .before .before .before .before .before .before .before .before .before .before .before .index in
+    let gather-row = c .before .before .before .before .before .before .before .before .before .before .before .before .gather-row in
+    let size = c .before .before .before .before .before .before .before .before .before .size in
+    let if1 = c .before .before .before .before .before .before .before .before .if1 in
+    let gather-row2 = c .before .before .before .before .before .before .gather-row2 in
     let pre = given .pre in
-    let size = size-step in
-    let index = index-step in
-    let if1 = if1-step in
-    let gather-row = gather-row-step in
-    let gather-row2 = gather-row2-step in
     let swap-rows2 = c .before .before .swap-rows2 in
     columns-backed-two _ _ _ (pre .0 .long) _ _ _ (size .ensures) (index .ensures) (if1 .left) (gather-row .ensures) (gather-row2 .ensures) (swap-rows2 .ensures)
 

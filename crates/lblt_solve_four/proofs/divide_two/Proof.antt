@@ -73,8 +73,7 @@ over-requires-2 c κs = search needs
 put-row-requires-2 : tie.Need-put-row-requires-2
 put-row-requires-2 c κs =
     let given = c .before .before .before .before .before .before .before .before .before .before .before .before .before .before .before .before .before .before in
-    let put-row-step = c .before .before .before .before .before .put-row in
-    let put-row = put-row-step in
+    let put-row = c .before .before .before .before .before .put-row in
     let pre = given .pre in
     (put-row .kept .0 ∙ pre .0 .long, pre .1)
 
@@ -84,25 +83,16 @@ same-length c = search needs
 returns : tie.Need-returns
 returns c =
     let given = c .before .before .before .before .before .before .before .before .before .before .before .before .before .before .before .before .before .before .before .before .before in
-    let get-step = c .before .before .before .before .before .before .before .before .before .before .before .before .before .before .before .before .before .before .get in
-    let get2-step = c .before .before .before .before .before .before .before .before .before .before .before .before .before .before .before .before .before .get2 in
-    let get3-step = c .before .before .before .before .before .before .before .before .before .before .before .before .before .before .before .before .get3 in
-    let row-step = c .before .before .before .before .before .before .before .before .before .before .before .before .before .before .row in
-    let row2-step = c .before .before .before .before .before .before .before .before .before .before .before .before .row2 in
-    let cross-step = c .before .before .before .before .before .before .before .before .before .before .cross in
-    let over-step = c .before .before .before .before .before .before .before .before .before .over in
-    let put-row-step = c .before .before .before .before .before .before .before .before .put-row in
-    let cross2-step = c .before .before .before .before .cross2 in
+    let get = c .before .before .before .before .before .before .before .before .before .before .before .before .before .before .before .before .before .before .get in
+    let get2 = c .before .before .before .before .before .before .before .before .before .before .before .before .before .before .before .before .before .get2 in
+    let get3 = c .before .before .before .before .before .before .before .before .before .before .before .before .before .before .before .before .get3 in
+    let row = c .before .before .before .before .before .before .before .before .before .before .before .before .before .before .row in
+    let row2 = c .before .before .before .before .before .before .before .before .before .before .before .before .row2 in
+    let cross = c .before .before .before .before .before .before .before .before .before .before .cross in
+    let over = c .before .before .before .before .before .before .before .before .before .over in
+    let put-row = c .before .before .before .before .before .before .before .before .put-row in
+    let cross2 = c .before .before .before .before .cross2 in
     let pre = given .pre in
-    let get = get-step in
-    let get2 = get2-step in
-    let get3 = get3-step in
-    let row = row-step in
-    let row2 = row2-step in
-    let cross = cross-step in
-    let over = over-step in
-    let put-row = put-row-step in
-    let cross2 = cross2-step in
     let over2 = c .before .before .before .over2 in
     let put-row2 = c .before .before .put-row2 in
     divided-two _ _ (pre .0 .long) _ _ (pre .1) (get .ensures) (get2 .ensures) (get3 .ensures) (row .ensures) (row2 .ensures) (cross .ensures) (over .ensures) (put-row .ensures) (cross2 .ensures) (over2 .ensures) (put-row2 .ensures)

@@ -31,18 +31,15 @@ reduce-block-requires c κs =
 loop-less : tie.Need-loop-less Inv-loop μ-loop
 loop-less c =
     let given = c .before .before .before .before .before .before .before .before .before in
-    let loop-step = c .before .before .before .before .before .loop in
+    let loop = c .before .before .before .before .before .loop in
     let reduce-block = c .before .before .reduce-block in
     let args = given .args in
-    let loop = loop-step in
     omega (arith, reduce-block .ensures .row, rows-positive (args .words .now) (loop .k))
 
 loop-again : tie.Need-loop-again Inv-loop μ-loop
 loop-again c =
-    let loop-step = c .before .before .before .before .before .loop in
-    let loop-test-step = c .before .before .before .before .loop-test in
-    let loop = loop-step in
-    let loop-test = loop-test-step in
+    let loop = c .before .before .before .before .before .loop in
+    let loop-test = c .before .before .before .before .loop-test in
     let reduce-block = c .before .before .reduce-block in
     (along-more (loop .inv .0) (loop-test .taken) (reduce-block .ensures .row) (reduce-block .ensures .column), reduce-block .kept .1 .1 .1 .0 ∙ loop .inv .1)
 

@@ -26,10 +26,9 @@ eliminate-one-requires c κs =
 divide-one-requires : tie.Need-divide-one-requires
 divide-one-requires c κs =
     let given = c .before .before .before .before .before .before .before .before .before .before .before .before .before .before .before in
-    let swap-rows-step = c .before .before .before .before .before .before .before .swap-rows in
+    let swap-rows = c .before .before .before .before .before .before .before .swap-rows in
     let pre = given .pre in
     let eliminate-one = c .before .before .before .eliminate-one in
-    let swap-rows = swap-rows-step in
     (record { factor = pre .0 .factor; long = eliminate-one .kept .1 .1 .0 ∙ swap-rows .kept .0 ∙ pre .0 .long }, pre .1 .inside)
 
 add-result : tie.Need-add-result
@@ -44,17 +43,12 @@ same-length c = search needs
 returns : tie.Need-returns
 returns c =
     let given = c .before .before .before .before .before .before .before .before .before .before .before .before .before .before .before .before .before .before in
-    let index-step = c .before .before .before .before .before .before .before .before .before .before .before .before .before .before .index in
-    let size-step = c .before .before .before .before .before .before .before .before .before .before .before .before .before .size in
-    let if1-step = c .before .before .before .before .before .before .before .before .before .before .before .before .if1 in
-    let swap-rows-step = c .before .before .before .before .before .before .before .before .before .before .swap-rows in
-    let eliminate-one-step = c .before .before .before .before .before .before .eliminate-one in
+    let index = c .before .before .before .before .before .before .before .before .before .before .before .before .before .before .index in
+    let size = c .before .before .before .before .before .before .before .before .before .before .before .before .before .size in
+    let if1 = c .before .before .before .before .before .before .before .before .before .before .before .before .if1 in
+    let swap-rows = c .before .before .before .before .before .before .before .before .before .before .swap-rows in
+    let eliminate-one = c .before .before .before .before .before .before .eliminate-one in
     let pre = given .pre in
-    let size = size-step in
-    let index = index-step in
-    let if1 = if1-step in
-    let swap-rows = swap-rows-step in
-    let eliminate-one = eliminate-one-step in
     let divide-one = c .before .before .divide-one in
     columns-reduced-one _ _ _ (pre .0 .long) _ _ _ (size .ensures) (index .ensures) (if1 .taken) (swap-rows .ensures) (eliminate-one .ensures) (divide-one .ensures)
 
@@ -73,27 +67,22 @@ swap-rows-requires-2 c κs =
 eliminate-two-requires : tie.Need-eliminate-two-requires
 eliminate-two-requires c κs =
     let given = c .before .before .before .before .before .before .before .before .before .before .before in
-    let size-step = c .before .before .before .before .before .before .size in
-    let if1-step = c .before .before .before .before .before .if1 in
+    let size = c .before .before .before .before .before .before .size in
+    let if1 = c .before .before .before .before .before .if1 in
     let pre = given .pre in
     let swap-rows2 = c .before .before .before .swap-rows2 in
     let args = given .args in
-    let size = size-step in
-    let if1 = if1-step in
     (record { factor = pre .0 .factor; long = swap-rows2 .kept .0 ∙ pre .0 .long }, omega (arith, pre .1 .rows, reads-two (args .words .now) (args .k) (size .ensures) (if1 .left)))
 
 divide-two-requires : tie.Need-divide-two-requires
 divide-two-requires c κs =
     let given = c .before .before .before .before .before .before .before .before .before .before .before .before .before .before .before in
-    let size-step = c .before .before .before .before .before .before .before .before .before .before .size in
-    let if1-step = c .before .before .before .before .before .before .before .before .before .if1 in
-    let swap-rows2-step = c .before .before .before .before .before .before .before .swap-rows2 in
+    let size = c .before .before .before .before .before .before .before .before .before .before .size in
+    let if1 = c .before .before .before .before .before .before .before .before .before .if1 in
+    let swap-rows2 = c .before .before .before .before .before .before .before .swap-rows2 in
     let pre = given .pre in
     let eliminate-two = c .before .before .before .eliminate-two in
-    let swap-rows2 = swap-rows2-step in
     let args = given .args in
-    let size = size-step in
-    let if1 = if1-step in
     (record { factor = pre .0 .factor; long = eliminate-two .kept .1 .1 .0 ∙ swap-rows2 .kept .0 ∙ pre .0 .long }, omega (arith, pre .1 .rows, reads-two (args .words .now) (args .k) (size .ensures) (if1 .left)))
 
 add-result-2 : tie.Need-add-result-2
@@ -108,17 +97,12 @@ same-length-2 c = search needs
 returns-2 : tie.Need-returns-2
 returns-2 c =
     let given = c .before .before .before .before .before .before .before .before .before .before .before .before .before .before .before .before .before .before in
-    let index-step = c .before .before .before .before .before .before .before .before .before .before .before .before .before .before .index in
-    let size-step = c .before .before .before .before .before .before .before .before .before .before .before .before .before .size in
-    let if1-step = c .before .before .before .before .before .before .before .before .before .before .before .before .if1 in
-    let swap-rows2-step = c .before .before .before .before .before .before .before .before .before .before .swap-rows2 in
-    let eliminate-two-step = c .before .before .before .before .before .before .eliminate-two in
+    let index = c .before .before .before .before .before .before .before .before .before .before .before .before .before .before .index in
+    let size = c .before .before .before .before .before .before .before .before .before .before .before .before .before .size in
+    let if1 = c .before .before .before .before .before .before .before .before .before .before .before .before .if1 in
+    let swap-rows2 = c .before .before .before .before .before .before .before .before .before .before .swap-rows2 in
+    let eliminate-two = c .before .before .before .before .before .before .eliminate-two in
     let pre = given .pre in
-    let size = size-step in
-    let index = index-step in
-    let if1 = if1-step in
-    let swap-rows2 = swap-rows2-step in
-    let eliminate-two = eliminate-two-step in
     let divide-two = c .before .before .divide-two in
     columns-reduced-two _ _ _ (pre .0 .long) _ _ _ (size .ensures) (index .ensures) (if1 .left) (swap-rows2 .ensures) (eliminate-two .ensures) (divide-two .ensures)
 

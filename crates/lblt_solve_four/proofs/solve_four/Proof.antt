@@ -21,9 +21,8 @@ same-length c = search needs
 returns : tie.Need-returns
 returns c =
     let given = c .before .before .before .before .before .before .before .before .before .before .before in
-    let reduce-step = c .before .before .before .before .before .before .reduce in
+    let reduce = c .before .before .before .before .before .before .reduce in
     let pre = given .pre in
-    let reduce = reduce-step in
     let backward = c .before .before .backward in
     columns-solved _ _ _ (pre .1 .long) _ (pre .0 .accepted) (reduce .ensures) (backward .ensures)
 

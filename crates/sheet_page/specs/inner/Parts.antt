@@ -9,7 +9,7 @@ use Rattle.sheet_text.specs.Place.{places}
 use Rattle.sheet_text.specs.Sheet.{entryLines, join}
 use Rattle.sheet_page.specs.declared.page.Written.{Written}
 use Rattle.sheet_page.specs.Put.{Put}
-use Rattle.sheet_page.specs.Page.{matrixIn, bitsOf}
+use Rattle.sheet_page.specs.Page.{matrixIn, lowerBits}
 
 pub record PutDigit (o : List ℕ) (at d : ℕ) : Type 0 where
   pub room : at ≤ length o
@@ -25,5 +25,5 @@ pub record PutEntries (o : List ℕ) (at n : ℕ) (a : List Float) : Type 0 wher
   pub whole : n * n ≤ length a
 
 pub record EntriesPut (o : List ℕ) (at n : ℕ) (a : List Float) (r : Written) (o′ : List ℕ) : Type 0 where
-  pub put : Put o at (join (entryLines (places n) (bitsOf n (matrixIn n a)))) (r .next) o′
+  pub put : Put o at (join (entryLines (places n) (lowerBits n (matrixIn n a)))) (r .next) o′
   pub count : r .count ≡ length (places n)

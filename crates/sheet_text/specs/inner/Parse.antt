@@ -19,17 +19,17 @@ startsWith (x ∷ w) [] = false
 startsWith (x ∷ w) (y ∷ t) = eqb x y && startsWith w t
 
 -- the digits after the first, up to the byte that ends the number; v is the number so far
-unfoldable pub digits : ℕ → ℕ → List ℕ → Parse ℕ
-digits stop v [] = missing
-digits stop v (b ∷ t) =
-    let more = digits stop (v * 10 + digitOf b) t in
+unfoldable pub laterDigits : ℕ → ℕ → List ℕ → Parse ℕ
+laterDigits stop v [] = missing
+laterDigits stop v (b ∷ t) =
+    let more = laterDigits stop (v * 10 + digitOf b) t in
     cond (eqb b stop) (found v t)
     (cond (eqb v 0) missing (cond (ltb 999 v) missing (cond (ltb 9 (digitOf b)) missing more)))
 
 -- a decimal number below 10,000 with no leading zero, ended by the byte `stop`
 unfoldable pub number : ℕ → List ℕ → Parse ℕ
 number stop [] = missing
-number stop (b ∷ t) = cond (ltb 9 (digitOf b)) missing (digits stop (digitOf b) t)
+number stop (b ∷ t) = cond (ltb 9 (digitOf b)) missing (laterDigits stop (digitOf b) t)
 
 unfoldable pub lineEnd : ℕ → List ℕ → Parse ℕ
 lineEnd v [] = missing
@@ -65,5 +65,5 @@ afterColumn row column t = andThen (bits t) (wholeEntry row column)
 unfoldable pub afterRow : ℕ → List ℕ → Parse Entry
 afterRow row t = andThen (number tab t) (afterColumn row)
 
-unfoldable pub entry : List ℕ → Parse Entry
-entry t = cond (startsWith (bytes "entry\t") t) (andThen (number tab (drop 6 t)) afterRow) missing
+unfoldable pub anyEntry : List ℕ → Parse Entry
+anyEntry t = cond (startsWith (bytes "entry\t") t) (andThen (number tab (drop 6 t)) afterRow) missing

@@ -7,11 +7,11 @@ use lib.ListN.{drop, set}
 use lib.Ieee.{Float, binary64, ofBits}
 use Rattle.sheet_text.specs.declared.line.Entry.{Entry}
 use Rattle.sheet_text.specs.declared.place.Place.{Place}
-use Rattle.sheet_text.specs.declared.reader.Reached.{Reached}
+use Rattle.sheet_text.specs.declared.reader.Progress.{Progress}
 use Rattle.sheet_text.specs.declared.reader.Sheet.{Sheet}
 use Rattle.sheet_text.specs.Text.{bytes}
 use Rattle.sheet_text.specs.Sheet.{rightAt, wrongAt}
-use Rattle.sheet_text.specs.inner.Parse.{Parse, found, missing, andThen, entry, numberAfter}
+use Rattle.sheet_text.specs.inner.Parse.{Parse, found, missing, andThen, anyEntry, numberAfter}
 use Rattle.sheet_text.specs.Place.{cell, places}
 
 -- an entry that stands where it should
@@ -19,7 +19,7 @@ abbrev pub inPlace : Place → Entry → List ℕ → Parse ℕ
 inPlace p e rest = cond (eqb (e .row) (p .row)) (cond (eqb (e .column) (p .column)) (found (e .bits) rest) missing) missing
 
 unfoldable pub entryAt : Place → List ℕ → Parse ℕ
-entryAt p t = andThen (entry t) (inPlace p)
+entryAt p t = andThen (anyEntry t) (inPlace p)
 
 -- how far the reading went: all places or not, the number of entries, the text that is left, the numbers stored
 pub record Taken : Type 0 where
@@ -39,7 +39,7 @@ takeEntries n (p ∷ ps) t c a =
       | missing ↦ taken false c t a
     ]
 
-abbrev pub takenBy : List ℕ → Reached → List Float → Taken
+abbrev pub takenBy : List ℕ → Progress → List Float → Taken
 takenBy s r a = taken (r .whole) (r .count) (drop (r .next) s) a
 
 -- ---- what the reader answers
@@ -62,20 +62,20 @@ verdict n whole count t =
     cond whole (whenFound (numberAfter (bytes "end\t") t) (closed n count) (wrongAt (count + 2))) (wrongAt (count + 2))
 
 -- the answer, and the numbers stored
-pub record Outcome : Type 0 where
+pub record Reading : Type 0 where
   pub sheet : Sheet
   pub cells : List Float
 
-abbrev pub outcome : Sheet → List Float → Outcome
-outcome r a = record { sheet = r; cells = a }
+abbrev pub reading : Sheet → List Float → Reading
+reading r a = record { sheet = r; cells = a }
 
-unfoldable pub afterEntries : ℕ → Taken → Outcome
-afterEntries n k = outcome (verdict n (k .whole) (k .count) (k .left)) (k .cells)
+unfoldable pub afterEntries : ℕ → Taken → Reading
+afterEntries n k = reading (verdict n (k .whole) (k .count) (k .left)) (k .cells)
 
-unfoldable pub afterOrder : List Float → ℕ → List ℕ → Outcome
+unfoldable pub afterOrder : List Float → ℕ → List ℕ → Reading
 afterOrder a n t =
-    cond (eqb n 0) (outcome (wrongAt 1) a)
-    (cond (ltb 64 n) (outcome (wrongAt 1) a) (afterEntries n (takeEntries n (places n) t 0 a)))
+    cond (eqb n 0) (reading (wrongAt 1) a)
+    (cond (ltb 64 n) (reading (wrongAt 1) a) (afterEntries n (takeEntries n (places n) t 0 a)))
 
-unfoldable pub readOf : List ℕ → List Float → Outcome
-readOf s a = whenFound (numberAfter (bytes "order\t") s) (afterOrder a) (outcome (wrongAt 1) a)
+unfoldable pub readOf : List ℕ → List Float → Reading
+readOf s a = whenFound (numberAfter (bytes "order\t") s) (afterOrder a) (reading (wrongAt 1) a)

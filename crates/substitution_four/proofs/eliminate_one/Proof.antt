@@ -34,26 +34,22 @@ row-requires-2 c κs = (sweeping-long (c .before .before .before .loop .inv), c 
 add-less : tie.Need-add-less Inv-loop μ-loop
 add-less c =
     let given = c .before .before .before .before .before .before .before .before .before .before in
-    let start-step = c .before .before .before .before .before .before .before .start in
-    let start = start-step in
+    let start = c .before .before .before .before .before .before .before .start in
     let pre = given .pre in
     omega (arith, offset-small _ _ _ _ (start .ensures) (omega arith) (pre .0 .factor))
 
 mul-less : tie.Need-mul-less Inv-loop μ-loop
 mul-less c =
     let given = c .before .before .before .before .before .before .before .before .before .before in
-    let start-step = c .before .before .before .before .before .before .before .start in
-    let start = start-step in
+    let start = c .before .before .before .before .before .before .before .start in
     let pre = given .pre in
     omega (arith, offset-small _ _ _ _ (start .ensures) (omega arith) (pre .0 .factor))
 
 shared-slice-read-less : tie.Need-shared-slice-read-less Inv-loop μ-loop
 shared-slice-read-less c =
     let given = c .before .before .before .before .before .before .before .before .before .before .before in
-    let start-step = c .before .before .before .before .before .before .before .before .start in
-    let loop-test-step = c .before .before .before .before .loop-test in
-    let start = start-step in
-    let loop-test = loop-test-step in
+    let start = c .before .before .before .before .before .before .before .before .start in
+    let loop-test = c .before .before .before .before .loop-test in
     let pre = given .pre in
     offset-within _ _ _ _ _ (start .ensures) (omega arith) (loop-test .taken) (pre .0 .factor)
 
@@ -62,17 +58,14 @@ less-requires c κs = search needs
 
 put-row-requires : tie.Need-put-row-requires Inv-loop μ-loop
 put-row-requires c κs =
-    let loop-step = c .before .before .before .before .before .before .loop in
-    let loop-test-step = c .before .before .before .before .before .loop-test in
-    let loop = loop-step in
-    let loop-test = loop-test-step in
+    let loop = c .before .before .before .before .before .before .loop in
+    let loop-test = c .before .before .before .before .before .loop-test in
     (sweeping-long (loop .inv), loop-test .taken)
 
 add-i-2 : tie.Need-add-i-2 Inv-loop μ-loop
 add-i-2 c =
     let given = c .before .before .before .before .before .before .before .before .before .before .before .before .before .before .before in
-    let loop-test-step = c .before .before .before .before .before .before .before .before .loop-test in
-    let loop-test = loop-test-step in
+    let loop-test = c .before .before .before .before .before .before .before .before .loop-test in
     let pre = given .pre in
     omega (arith, loop-test .taken, pre .0 .factor .roomy)
 
@@ -82,18 +75,13 @@ loop-less c = search needs
 loop-again : tie.Need-loop-again Inv-loop μ-loop
 loop-again c =
     let given = c .before .before .before .before .before .before .before .before .before .before .before .before .before .before .before in
-    let start-step = c .before .before .before .before .before .before .before .before .before .before .before .before .start in
-    let row-step = c .before .before .before .before .before .before .before .before .before .before .row in
-    let loop-step = c .before .before .before .before .before .before .before .before .before .loop in
-    let loop-test-step = c .before .before .before .before .before .before .before .before .loop-test in
-    let row2-step = c .before .before .before .before .before .row2 in
+    let start = c .before .before .before .before .before .before .before .before .before .before .before .before .start in
+    let row = c .before .before .before .before .before .before .before .before .before .before .row in
+    let loop = c .before .before .before .before .before .before .before .before .before .loop in
+    let loop-test = c .before .before .before .before .before .before .before .before .loop-test in
+    let row2 = c .before .before .before .before .before .row2 in
     let args = given .args in
-    let start = start-step in
-    let loop = loop-step in
-    let loop-test = loop-test-step in
     let pre = given .pre in
-    let row = row-step in
-    let row2 = row2-step in
     let less = c .before .before .before .less in
     let put-row = c .before .before .put-row in
     sweep-one (args .a .now) (start .result) (args .k) (loop .inv) (loop-test .taken) (pre .1) (row .ensures) (row2 .ensures) (less .ensures) (put-row .ensures)

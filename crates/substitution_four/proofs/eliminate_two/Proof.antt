@@ -46,26 +46,23 @@ row-requires-3 c κs = (sweeping-long (c .before .before .loop .inv), c .before 
 add-less : tie.Need-add-less Inv-loop μ-loop
 add-less c =
     let given = c .before .before .before .before .before .before .before .before .before .before .before .before in
-    let start-step = c .before .before .before .before .before .before .before .before .before .start in
+    let start = c .before .before .before .before .before .before .before .before .before .start in
     let loop-test = c .before .before .loop-test in
     let pre = given .pre in
-    let start = start-step in
     omega (arith, loop-test .taken, pre .0 .factor .roomy, offset-small _ _ _ _ (start .ensures) (omega arith) (pre .0 .factor))
 
 mul-less : tie.Need-mul-less Inv-loop μ-loop
 mul-less c =
     let given = c .before .before .before .before .before .before .before .before .before .before .before .before in
-    let start-step = c .before .before .before .before .before .before .before .before .before .start in
+    let start = c .before .before .before .before .before .before .before .before .before .start in
     let loop-test = c .before .before .loop-test in
     let pre = given .pre in
-    let start = start-step in
     omega (arith, loop-test .taken, pre .0 .factor .roomy, offset-small _ _ _ _ (start .ensures) (omega arith) (pre .0 .factor))
 
 shared-slice-read-less : tie.Need-shared-slice-read-less Inv-loop μ-loop
 shared-slice-read-less c =
     let given = c .before .before .before .before .before .before .before .before .before .before .before .before .before in
-    let start-step = c .before .before .before .before .before .before .before .before .before .before .start in
-    let start = start-step in
+    let start = c .before .before .before .before .before .before .before .before .before .before .start in
     let loop-test = c .before .before .before .loop-test in
     let pre = given .pre in
     offset-within _ _ _ _ _ (start .ensures) (omega arith) (loop-test .taken) (pre .0 .factor)
@@ -76,30 +73,24 @@ less-requires c κs = search needs
 add-less-2 : tie.Need-add-less-2 Inv-loop μ-loop
 add-less-2 c =
     let given = c .before .before .before .before .before .before .before .before .before .before .before .before .before .before .before in
-    let start2-step = c .before .before .before .before .before .before .before .before .before .before .before .start2 in
-    let loop-test-step = c .before .before .before .before .before .loop-test in
-    let loop-test = loop-test-step in
+    let start2 = c .before .before .before .before .before .before .before .before .before .before .before .start2 in
+    let loop-test = c .before .before .before .before .before .loop-test in
     let pre = given .pre in
-    let start2 = start2-step in
     omega (arith, loop-test .taken, pre .0 .factor .roomy, offset-small _ _ _ _ (start2 .ensures) (omega arith) (pre .0 .factor))
 
 mul-less-2 : tie.Need-mul-less-2 Inv-loop μ-loop
 mul-less-2 c =
     let given = c .before .before .before .before .before .before .before .before .before .before .before .before .before .before .before in
-    let start2-step = c .before .before .before .before .before .before .before .before .before .before .before .start2 in
-    let loop-test-step = c .before .before .before .before .before .loop-test in
-    let loop-test = loop-test-step in
+    let start2 = c .before .before .before .before .before .before .before .before .before .before .before .start2 in
+    let loop-test = c .before .before .before .before .before .loop-test in
     let pre = given .pre in
-    let start2 = start2-step in
     omega (arith, loop-test .taken, pre .0 .factor .roomy, offset-small _ _ _ _ (start2 .ensures) (omega arith) (pre .0 .factor))
 
 shared-slice-read-less-2 : tie.Need-shared-slice-read-less-2 Inv-loop μ-loop
 shared-slice-read-less-2 c =
     let given = c .before .before .before .before .before .before .before .before .before .before .before .before .before .before .before .before in
-    let start2-step = c .before .before .before .before .before .before .before .before .before .before .before .before .start2 in
-    let loop-test-step = c .before .before .before .before .before .before .loop-test in
-    let start2 = start2-step in
-    let loop-test = loop-test-step in
+    let start2 = c .before .before .before .before .before .before .before .before .before .before .before .before .start2 in
+    let loop-test = c .before .before .before .before .before .before .loop-test in
     let pre = given .pre in
     offset-within _ _ _ _ _ (start2 .ensures) (omega arith) (loop-test .taken) (pre .0 .factor)
 
@@ -108,17 +99,14 @@ less-requires-2 c κs = search needs
 
 put-row-requires : tie.Need-put-row-requires Inv-loop μ-loop
 put-row-requires c κs =
-    let loop-step = c .before .before .before .before .before .before .before .before .loop in
-    let loop-test-step = c .before .before .before .before .before .before .before .loop-test in
-    let loop = loop-step in
-    let loop-test = loop-test-step in
+    let loop = c .before .before .before .before .before .before .before .before .loop in
+    let loop-test = c .before .before .before .before .before .before .before .loop-test in
     (sweeping-long (loop .inv), loop-test .taken)
 
 add-i-2 : tie.Need-add-i-2 Inv-loop μ-loop
 add-i-2 c =
     let given = c .before .before .before .before .before .before .before .before .before .before .before .before .before .before .before .before .before .before .before .before in
-    let loop-test-step = c .before .before .before .before .before .before .before .before .before .before .loop-test in
-    let loop-test = loop-test-step in
+    let loop-test = c .before .before .before .before .before .before .before .before .before .before .loop-test in
     let pre = given .pre in
     omega (arith, loop-test .taken, pre .0 .factor .roomy)
 
@@ -128,24 +116,16 @@ loop-less c = search needs
 loop-again : tie.Need-loop-again Inv-loop μ-loop
 loop-again c =
     let given = c .before .before .before .before .before .before .before .before .before .before .before .before .before .before .before .before .before .before .before .before in
-    let start-step = c .before .before .before .before .before .before .before .before .before .before .before .before .before .before .before .before .before .start in
-    let start2-step = c .before .before .before .before .before .before .before .before .before .before .before .before .before .before .before .before .start2 in
-    let row-step = c .before .before .before .before .before .before .before .before .before .before .before .before .before .before .row in
-    let row2-step = c .before .before .before .before .before .before .before .before .before .before .before .before .row2 in
-    let loop-step = c .before .before .before .before .before .before .before .before .before .before .before .loop in
-    let loop-test-step = c .before .before .before .before .before .before .before .before .before .before .loop-test in
-    let row3-step = c .before .before .before .before .before .before .before .before .row3 in
-    let less-step = c .before .before .before .before .before .before .less in
+    let start = c .before .before .before .before .before .before .before .before .before .before .before .before .before .before .before .before .before .start in
+    let start2 = c .before .before .before .before .before .before .before .before .before .before .before .before .before .before .before .before .start2 in
+    let row = c .before .before .before .before .before .before .before .before .before .before .before .before .before .before .row in
+    let row2 = c .before .before .before .before .before .before .before .before .before .before .before .before .row2 in
+    let loop = c .before .before .before .before .before .before .before .before .before .before .before .loop in
+    let loop-test = c .before .before .before .before .before .before .before .before .before .before .loop-test in
+    let row3 = c .before .before .before .before .before .before .before .before .row3 in
+    let less = c .before .before .before .before .before .before .less in
     let args = given .args in
-    let start = start-step in
-    let start2 = start2-step in
-    let loop = loop-step in
-    let loop-test = loop-test-step in
     let pre = given .pre in
-    let row = row-step in
-    let row2 = row2-step in
-    let row3 = row3-step in
-    let less = less-step in
     let less2 = c .before .before .before .less2 in
     let put-row = c .before .before .put-row in
     sweep-two (args .a .now) (start .result) (args .k) (start2 .result) (loop .inv) (loop-test .taken) (pre .1) (row .ensures) (row2 .ensures) (row3 .ensures) (less .ensures) (less2 .ensures) (put-row .ensures)
@@ -158,10 +138,8 @@ same-length c =
 
 returns : tie.Need-returns Inv-loop μ-loop
 returns c =
-    let start-step = c .before .before .before .before .before .before .before .start in
-    let start2-step = c .before .before .before .before .before .before .start2 in
-    let start = start-step in
-    let start2 = start2-step in
+    let start = c .before .before .before .before .before .before .before .start in
+    let start2 = c .before .before .before .before .before .before .start2 in
     swept-two _ _ _ _ (start .ensures) _ (start2 .ensures) (c .before .loop .inv) (c .loop-test .left)
 
 pub eliminate-two-spec : {M : Type 1} → statement M

@@ -29,24 +29,21 @@ loop-holds c =
 add-less : tie.Need-add-less Inv-loop μ-loop
 add-less c =
     let given = c .before .before .before .before .before .before .before in
-    let start-step = c .before .before .before .before .start in
-    let start = start-step in
+    let start = c .before .before .before .before .start in
     let pre = given .pre in
     omega (arith, offset-small _ _ _ _ (start .ensures) (omega arith) (pre .0 .factor))
 
 mul-less : tie.Need-mul-less Inv-loop μ-loop
 mul-less c =
     let given = c .before .before .before .before .before .before .before in
-    let start-step = c .before .before .before .before .start in
-    let start = start-step in
+    let start = c .before .before .before .before .start in
     let pre = given .pre in
     omega (arith, offset-small _ _ _ _ (start .ensures) (omega arith) (pre .0 .factor))
 
 shared-slice-read-less : tie.Need-shared-slice-read-less Inv-loop μ-loop
 shared-slice-read-less c =
     let given = c .before .before .before .before .before .before .before .before in
-    let start-step = c .before .before .before .before .before .start in
-    let start = start-step in
+    let start = c .before .before .before .before .before .start in
     let loop = c .before .before .loop in
     let pre = given .pre in
     offset-within _ _ _ _ _ (start .ensures) (omega (arith, loop .inv .low, pre .1 .0)) (c .before .loop-test .taken) (pre .0 .factor)
@@ -64,8 +61,7 @@ less-requires c κs = search needs
 add-i : tie.Need-add-i Inv-loop μ-loop
 add-i c =
     let given = c .before .before .before .before .before .before .before .before .before .before .before in
-    let loop-test-step = c .before .before .before .before .loop-test in
-    let loop-test = loop-test-step in
+    let loop-test = c .before .before .before .before .loop-test in
     let pre = given .pre in
     omega (arith, loop-test .taken, pre .0 .factor .roomy)
 
@@ -74,10 +70,8 @@ loop-less c = search needs
 
 loop-again : tie.Need-loop-again Inv-loop μ-loop
 loop-again c =
-    let loop-step = c .before .before .before .before .before .loop in
-    let loop-test-step = c .before .before .before .before .loop-test in
-    let loop = loop-step in
-    let loop-test = loop-test-step in
+    let loop = c .before .before .before .before .before .loop in
+    let loop-test = c .before .before .before .before .loop-test in
     gathering-more _ _ _ _ _ _ (loop .inv) (loop-test .taken) (c .before .row2 .ensures) (c .less .ensures)
 
 put-row-requires : tie.Need-put-row-requires Inv-loop μ-loop
@@ -92,13 +86,10 @@ same-length c = search needs
 returns : tie.Need-returns Inv-loop μ-loop
 returns c =
     let given = c .before .before .before .before .before .before .before .before .before .before .before in
-    let start-step = c .before .before .before .before .before .before .before .before .start in
-    let loop-step = c .before .before .before .before .before .loop in
-    let loop-test-step = c .before .before .before .before .loop-test in
-    let start = start-step in
+    let start = c .before .before .before .before .before .before .before .before .start in
+    let loop = c .before .before .before .before .before .loop in
+    let loop-test = c .before .before .before .before .loop-test in
     let pre = given .pre in
-    let loop = loop-step in
-    let loop-test = loop-test-step in
     let put-row = c .before .before .put-row in
     gathering-all _ _ _ _ (start .ensures) _ (pre .1 .0) _ (loop .inv) (loop-test .left) (pre .0 .long) (put-row .ensures)
 

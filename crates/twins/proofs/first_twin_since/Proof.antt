@@ -22,32 +22,28 @@ returns c =
 
 first-of-few-requires : tie.Need-first-of-few-requires
 first-of-few-requires c κs =
-    let check-step = c .before .before .before .before .check in
-    let check = check-step in
-    let fits = code-fits _ _ _ (check-step .ensures) (c .before .before .before .code .ensures) (c .before .before .if1 .left) in
+    let check = c .before .before .before .before .check in
+    let fits = code-fits _ _ _ (check .ensures) (c .before .before .before .code .ensures) (c .before .before .if1 .left) in
     (laid-fits fits, (search needs, fits .rising))
 
 returns-2 : tie.Need-returns-2
 returns-2 c =
     let in-room = c .before .before .before .before .before .before .in-room in
-    let check-step = c .before .before .before .before .before .check in
+    let check = c .before .before .before .before .before .check in
     let code = c .before .before .before .before .code in
-    let check = check-step in
     found-in-size (in-room .ensures) (check .ensures) (code-done (check .result) (code .ensures) (c .before .before .before .if1 .left)) (c .first-of-few .ensures)
 
 first-of-many-requires : tie.Need-first-of-many-requires
 first-of-many-requires c κs =
-    let check-step = c .before .before .before .before .check in
-    let check = check-step in
-    let fits = code-fits _ _ _ (check-step .ensures) (c .before .before .before .code .ensures) (c .before .before .if1 .left) in
+    let check = c .before .before .before .before .check in
+    let fits = code-fits _ _ _ (check .ensures) (c .before .before .before .code .ensures) (c .before .before .if1 .left) in
     (laid-fits fits, fits .rising)
 
 returns-3 : tie.Need-returns-3
 returns-3 c =
     let in-room = c .before .before .before .before .before .before .in-room in
-    let check-step = c .before .before .before .before .before .check in
+    let check = c .before .before .before .before .before .check in
     let code = c .before .before .before .before .code in
-    let check = check-step in
     found-in-size (in-room .ensures) (check .ensures) (code-done (check .result) (code .ensures) (c .before .before .before .if1 .left)) (c .first-of-many .ensures)
 
 pub first-twin-since-spec : {M : Type 1} → statement M

@@ -6,7 +6,7 @@ use Prim.Native.Nat.{ℕ, _-_, _<_}
 use mathlib.Core.List.{List}
 use lib.ListN.{length, drop}
 use denote.Ref.{now}
-use Rattle.sheet_text.specs.inner.Parse.{digits}
+use Rattle.sheet_text.specs.inner.Parse.{laterDigits}
 use Rattle.sheet_text.specs.inner.Line.{numberIn}
 use Rattle.sheet_text.proofs.Steps.{digits-end, digits-stop, digits-zero, digits-long, digits-other, digits-more}
 use Rattle.sheet_text.proofs.NextLaws.{number-is}
@@ -15,7 +15,7 @@ use Rattle.sheet_text.proofs.line.read_digits.Tie as tie
 
 record SoFar (s : List ℕ) (at stop first value i : ℕ) : Type 0 where
   small : value < 10000
-  same : digits stop first (drop at s) ≡ digits stop value (drop i s)
+  same : laterDigits stop first (drop at s) ≡ laterDigits stop value (drop i s)
 
 abbrev Inv-loop : tie.InvT-loop
 Inv-loop s at stop first value₀ i₀ value i = SoFar s at stop first value i

@@ -4,7 +4,7 @@ use native.Mathlib.Omega.{arith}
 use lib.ListN.{drop}
 use denote.Ref.{now}
 use Rattle.sheet_text.specs.declared.reader.Sheet.{Sheet}
-use Rattle.sheet_text.specs.inner.Read.{Taken, outcome}
+use Rattle.sheet_text.specs.inner.Read.{Taken, reading}
 use Rattle.sheet_text.proofs.ReadSteps.{order-zero, order-large, order-right, after-entries, count-small}
 use Rattle.sheet_text.proofs.reader.after_order.Statement.{statement}
 use Rattle.sheet_text.proofs.reader.after_order.Tie as tie
@@ -15,7 +15,7 @@ wrong-requires c κs = search needs
 returns : tie.Need-returns
 returns c =
     let given = c .before .before .before .before in
-    ap (λ (r : Sheet). outcome r (now (given .args .a))) (c .wrong .ensures) ∙ sym (order-zero _ _ _ (c .before .if1 .taken))
+    ap (λ (r : Sheet). reading r (now (given .args .a))) (c .wrong .ensures) ∙ sym (order-zero _ _ _ (c .before .if1 .taken))
 
 wrong-requires-2 : tie.Need-wrong-requires-2
 wrong-requires-2 c κs = search needs
@@ -23,7 +23,7 @@ wrong-requires-2 c κs = search needs
 returns-2 : tie.Need-returns-2
 returns-2 c =
     let given = c .before .before .before .before .before in
-    ap (λ (r : Sheet). outcome r (now (given .args .a))) (c .wrong2 .ensures) ∙ sym (order-large _ _ _ (c .before .before .if1 .left) (c .before .if2 .taken))
+    ap (λ (r : Sheet). reading r (now (given .args .a))) (c .wrong2 .ensures) ∙ sym (order-large _ _ _ (c .before .before .if1 .left) (c .before .if2 .taken))
 
 entries-requires : tie.Need-entries-requires
 entries-requires c κs = search needs

@@ -2,7 +2,7 @@ use borrow.Author.Needs.{needs}
 use mathlib.Core.Path.{sym, ap, _∙_}
 use denote.Ref.{now}
 use Rattle.sheet_text.specs.declared.reader.Sheet.{Sheet}
-use Rattle.sheet_text.specs.inner.Read.{outcome}
+use Rattle.sheet_text.specs.inner.Read.{reading}
 use Rattle.sheet_text.proofs.ReadSteps.{read-order, read-no-order}
 use Rattle.sheet_text.proofs.NextLaws.{line-next, number-not}
 use Rattle.sheet_text.proofs.SheetSound.{reads-by}
@@ -40,7 +40,7 @@ returns c =
 returns-2 : tie.Need-returns-2
 returns-2 c =
     let given = c .before .before .before .before .before .before .before in
-    reads-by _ _ _ _ (ap (λ (r : Sheet). outcome r (now (given .args .a))) (c .wrong .ensures) ∙ sym (read-no-order (now (given .args .s)) (now (given .args .a)) (number-not (now (given .args .s)) _ (sym (c .before .enum-told .given .1) ∙ c .before .before .before .number-line .ensures))))
+    reads-by _ _ _ _ (ap (λ (r : Sheet). reading r (now (given .args .a))) (c .wrong .ensures) ∙ sym (read-no-order (now (given .args .s)) (now (given .args .a)) (number-not (now (given .args .s)) _ (sym (c .before .enum-told .given .1) ∙ c .before .before .before .number-line .ensures))))
 
 pub read-sheet-spec : {M : Type 1} → statement M
 read-sheet-spec =
