@@ -13,17 +13,12 @@ use Rattle.matrix.specs.Matrix.{Matrix, allZero}
 use Rattle.matrix.specs.Grid.{Holds, load, mask}
 use Rattle.matrix.specs.Layouts.{Roomy, startOf, placeIn, lower, strict, square, Laid, Fills}
 use Rattle.matrix.proofs.Grids.{load-is}
-use Rattle.matrix.proofs.Places.{digits-column, digits-within, strict-low, strict-left, in-strict, strict-fair, lower-at}
+use Rattle.matrix.proofs.Places.{digits-column, strict-low, strict-left, in-strict, strict-fair, lower-at}
 use Rattle.matrix.proofs.Squares.{fills-each}
 use Rattle.strips.specs.inner.Strip.{Strip, rowAt, zeroAt}
 use Rattle.cholesky.specs.Readers.{triangle}
 use Rattle.cholesky.specs.inner.Engine.{down}
 use Rattle.strips.proofs.Strips.{strip-as, strip-join}
-
--- ---- places
-
-pub square-column : (n j : ℕ) → j < n → n + j * n ≤ n * n
-square-column n j lt = omega (arith, digits-within n n (n - 1) j (omega arith) lt)
 
 -- ---- l, column by column
 

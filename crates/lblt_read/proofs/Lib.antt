@@ -1,3 +1,4 @@
+pub mod Entrywise
 pub mod Gathers
 pub mod Squares
 pub mod Steps

@@ -2,7 +2,8 @@
 use native.Mathlib.Omega.{arith}
 use Rattle.matrix.proofs.Places.{product-small}
 use Rattle.cholesky.proofs.Columns.{column-inside}
-use Rattle.cholesky.proofs.ReaderLoops.{square-column, column-copied}
+use Rattle.matrix.proofs.Columns.{column-within}
+use Rattle.cholesky.proofs.ReaderLoops.{column-copied}
 use denote.Ref.{now}
 use borrow.Author.Needs.{needs}
 use Rattle.cholesky.proofs.readers.copy_column.Statement.{statement}
@@ -14,7 +15,7 @@ mul-to c = omega (arith, product-small (c .before .before .before .args .j) (c .
 clear-requires : tie.Need-clear-requires
 clear-requires c κs =
     let given = c .before .before .before .before in
-    (omega arith, omega (arith, square-column (given .args .y .order) (given .args .j) (omega arith)))
+    (omega arith, omega (arith, column-within (given .args .y .order) (given .args .y .order) (given .args .j) (omega arith)))
 
 start-requires : tie.Need-start-requires
 start-requires c κs =
@@ -28,7 +29,7 @@ copy-requires c κs =
       omega arith,
       (
         column-inside (start .pre .0) (omega arith) (c .start .ensures),
-        omega (arith, clear .ensures .long, square-column (start .args .y .order) (start .args .j) (omega arith)),
+        omega (arith, clear .ensures .long, column-within (start .args .y .order) (start .args .y .order) (start .args .j) (omega arith)),
       ),
     )
 

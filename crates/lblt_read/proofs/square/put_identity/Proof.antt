@@ -1,5 +1,5 @@
 -- `put_identity` puts zeros, then ones on the diagonal.
-use Rattle.lblt_read.proofs.Gathers.{putOne, identity-loop}
+use Rattle.lblt_read.proofs.Entrywise.{putOne, identity-loop}
 use Rattle.lblt_read.proofs.Squares.{squared-of}
 use Rattle.matrix.proofs.Squares.{square-sound, fills-holds}
 use Rattle.matrix.proofs.Grids.{Turned, turned-none, turned-more, turned-all, holds-as}

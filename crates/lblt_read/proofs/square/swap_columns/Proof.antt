@@ -1,5 +1,5 @@
 -- `swap_columns` exchanges two columns, row by row.
-use Rattle.lblt_read.proofs.Gathers.{swapAt, swap-loop}
+use Rattle.lblt_read.proofs.Entrywise.{swapAt, swap-loop}
 use Rattle.lblt_read.proofs.Squares.{Entry, entry-at, sound-of, squared-of, exchange-square}
 use Rattle.lblt_read.specs.inner.Engine.{Squared}
 use Rattle.matrix.proofs.Grids.{Turned, turned-none, turned-more, turned-all, holds-as}
