@@ -1,4 +1,4 @@
-// The columns of `solve_mut`: few of them one by one; else four at a time, or row by row where the order is small and the columns are many.
+// The columns of `solve_mut`: few of them one by one; else four at a time, or row by row where the order is small.
 ghost use mathlib.Core.Path.{_≡_};
 ghost use Rattle.matrix.specs.Grid.{load};
 ghost use Rattle.matrix.specs.Layouts.{lower};
@@ -19,11 +19,10 @@ pub fn solve(y: Layout, a: &[f64], words: &[u32], b: &mut [f64], columns: usize)
         solve_columns(y, a, words, b, columns);
         return;
     }
-    if y.order < 8 {
-        if 2 * y.order < columns {
-            solve_rows(y, a, words, b, columns);
-            return;
-        }
+    let small = if columns == 4 { 5 } else { 8 };
+    if y.order < small {
+        solve_rows(y, a, words, b, columns);
+        return;
     }
     solve_fours(y, a, words, b, columns);
 }

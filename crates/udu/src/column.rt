@@ -153,7 +153,7 @@ fn add_one(u: &mut [f64], d: &[f64], j: usize, k: usize, n: usize)
     ensures { λ _. ⌜ Gathered (j * n) 0 j (sourceOf n (now (u .entry)) (now (d .entry)) j) k (now (u .entry)) (k + 1) (now (u .exit)) ⌝ }
 {
     let to = j * n;
-    let s = source(u, d, j, k, n);
+    let s = source(u, d, j, k, n, k * n);
     strips::axpy(u, to, 0, j, s);
 }
 
@@ -167,23 +167,24 @@ fn add_four(u: &mut [f64], d: &[f64], j: usize, k: usize, n: usize)
     ensures { λ _. ⌜ Gathered (j * n) 0 j (sourceOf n (now (u .entry)) (now (d .entry)) j) k (now (u .entry)) (k + 4) (now (u .exit)) ⌝ }
 {
     let to = j * n;
-    let s = source(u, d, j, k, n);
-    let t = source(u, d, j, k + 1, n);
-    let v = source(u, d, j, k + 2, n);
-    let w = source(u, d, j, k + 3, n);
+    let from = k * n;
+    let s = source(u, d, j, k, n, from);
+    let t = source(u, d, j, k + 1, n, from + n);
+    let v = source(u, d, j, k + 2, n, from + 2 * n);
+    let w = source(u, d, j, k + 3, n, from + 3 * n);
     strips::axpy4(u, to, 0, j, s, t, v, w);
 }
 
-// Column k, and what it is multiplied by in the sums of column j: d(k)·u(j,k).
-fn source(u: &[f64], d: &[f64], j: usize, k: usize, n: usize) -> Source
+// Column k, which starts at `from`, and what it is multiplied by in the sums of column j: d(k)·u(j,k).
+fn source(u: &[f64], d: &[f64], j: usize, k: usize, n: usize, from: usize) -> Source
     requires { ⌜ j < k ⌝ }
     requires { ⌜ k < n ⌝ }
     requires { ⌜ n ≤ 1024 ⌝ }
     requires { ⌜ length (now u) ≡ n * n ⌝ }
     requires { ⌜ length (now d) ≡ n ⌝ }
+    requires { ⌜ from ≡ k * n ⌝ }
     ensures { λ s. ⌜ s ≡ sourceOf n (now (u .entry)) (now (d .entry)) j k ⌝ }
 {
-    let from = k * n;
     Source {
         start: from,
         scale: d[k] * u[j + from],

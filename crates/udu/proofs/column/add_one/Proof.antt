@@ -1,4 +1,6 @@
 -- `add_one` meets its contract. Assumes nothing.
+use mathlib.Core.Path.{refl}
+use Prim.Native.Nat.{_<_}
 use native.Mathlib.Omega.{arith}
 use denote.Ref.{now}
 use Rattle.matrix.proofs.Places.{digits-within, product-small}
@@ -8,15 +10,26 @@ use Rattle.udu.proofs.column.add_one.Statement.{statement}
 use Rattle.udu.proofs.column.add_one.Tie as tie
 
 mul-to : tie.Need-mul-to
-mul-to c = omega (arith, product-small (c .before .before .args .j) (c .before .before .args .n) (omega (arith, c .before .before .pre .0, c .before .before .pre .1 .0, c .before .before .pre .1 .1 .0)) (c .before .before .pre .1 .1 .0))
+mul-to c =
+    let pre = c .before .before .pre in
+    omega (arith, product-small (c .before .before .args .j) (c .before .before .args .n) (omega (arith, pre .0, pre .1 .0, pre .1 .1 .0)) (pre .1 .1 .0))
+
+mul-source : tie.Need-mul-source
+mul-source c =
+    let pre = c .before .before .before .pre in
+    omega (arith, product-small (c .before .before .before .args .k) (c .before .before .before .args .n) (omega (arith, pre .1 .0, pre .1 .1 .0)) (pre .1 .1 .0))
 
 source-requires : tie.Need-source-requires
-source-requires c κs = c .before .before .before .pre
+source-requires c κs =
+    let pre = c .before .before .before .pre in
+    (pre .0, (pre .1 .0, (pre .1 .1 .0, (pre .1 .1 .1 .0, (pre .1 .1 .1 .1, refl)))))
 
 axpy-requires : tie.Need-axpy-requires
 axpy-requires c κs =
-    let given = c .before .before .before .before .before in
-    (omega arith, (omega (arith, given .pre .1 .1 .1 .0, digits-within (given .args .n) (given .args .n) (given .args .j) (given .args .j) (omega (arith, given .pre .0, given .pre .1 .0)) (omega (arith, given .pre .0, given .pre .1 .0))), source-elsewhere (given .args .n) (given .args .j) _ (now (given .args .u)) (now (given .args .d)) (c .before .source .ensures) (given .pre .1 .1 .1 .0) (omega (arith, given .pre .0)) (given .pre .1 .0)))
+    let args = c .before .before .before .before .before .args in
+    let pre = c .before .before .before .before .before .pre in
+    let below : args .j < args .n = omega (arith, pre .0, pre .1 .0) in
+    (omega arith, (omega (arith, pre .1 .1 .1 .0, digits-within (args .n) (args .n) (args .j) (args .j) below below), source-elsewhere (args .n) (args .j) _ (now (args .u)) (now (args .d)) (c .before .source .ensures) (pre .1 .1 .1 .0) (pre .0) (pre .1 .0)))
 
 same-length : tie.Need-same-length
 same-length c = c .before .before .axpy .ensures .long
@@ -28,10 +41,4 @@ returns c =
 
 pub add-one-spec : {M : Type 1} → statement M
 add-one-spec =
-    tie.close
-    (tie.spec
-    mul-to
-    source-requires
-    axpy-requires
-    same-length
-    returns)
+    tie.close (tie.spec mul-to mul-source source-requires axpy-requires same-length returns)

@@ -1,13 +1,9 @@
 -- `source` meets its contract. Assumes nothing.
-use mathlib.Core.Path.{refl}
 use native.Mathlib.Omega.{arith}
 use Rattle.matrix.proofs.Places.{digits-within}
 use borrow.Author.Needs.{needs}
 use Rattle.udu.proofs.column.source.Statement.{statement}
 use Rattle.udu.proofs.column.source.Tie as tie
-
-mul-from : tie.Need-mul-from
-mul-from c = omega (arith, digits-within (c .args .n) (c .args .n) (c .args .j) (c .args .k) (omega arith) (c .pre .1 .0))
 
 mul-t7 : tie.Need-mul-t7
 mul-t7 c = search needs
@@ -25,9 +21,8 @@ shared-slice-read-t13 : tie.Need-shared-slice-read-t13
 shared-slice-read-t13 c = omega (arith, digits-within (c .before .before .args .n) (c .before .before .args .n) (c .before .before .args .j) (c .before .before .args .k) (omega arith) (c .before .before .pre .1 .0))
 
 returns : tie.Need-returns
-returns c = refl
+returns c = rw (c .before .before .pre .1 .1 .1 .1 .1)
 
 pub source-spec : {M : Type 1} → statement M
 source-spec =
-    tie.close
-    (tie.spec mul-from mul-t7 shared-slice-read-t9 add-t10 mul-t11 shared-slice-read-t13 returns)
+    tie.close (tie.spec mul-t7 shared-slice-read-t9 add-t10 mul-t11 shared-slice-read-t13 returns)
