@@ -4,7 +4,7 @@ use mathlib.Core.Logic.{_⊎_, inl, inr}
 use Prim.Native.Nat.{ℕ, _+_, _*_, _/_, _^_, _≤_, _<_}
 use native.Mathlib.Nat.{le-trans, lt-of-lt-of-le, lt-of-le-of-lt, le-of-eq, mul-mul-mul-comm, mul-le-mul-right, mul-lt-mul-of-pos-right, mul-pos}
 use native.Mathlib.Omega.{arith}
-use Rattle.leaf.specs.Cut.{CutRoot}
+use Rattle.leaf.specs.inner.Cut.{CutRoot}
 use Rattle.leaf.proofs.Cut.{square-mono}
 use Rattle.leaf.proofs.Neighbours.{less-or-not}
 

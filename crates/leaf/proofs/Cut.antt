@@ -6,7 +6,7 @@ use native.Mathlib.Omega.{arith}
 use mathlib.Core.Bool.{Bool, true, false, not, cond}
 use lib.Dec.{T, leb, leb→le, nleb→lt}
 use Rattle.leaf.specs.Root.{rootDigits}
-use Rattle.leaf.specs.Cut.{CutRoot}
+use Rattle.leaf.specs.inner.Cut.{CutRoot}
 
 pub square-mono : (s t : ℕ) → s ≤ t → s * s ≤ t * t
 square-mono s t h = mul-le-mul h h

@@ -10,7 +10,7 @@ use lib.Count.{leadingZeros, leading-top}
 use lib.Ieee.{Float, nan, inf, fin, binary64, ofBits}
 use lib.Ieee.Positive.{positive, positive-of-value}
 use Rattle.leaf.specs.Root.{unitsOf, rounded, rootOf}
-use Rattle.leaf.specs.Scaled.{Normal, Subnormal, Scaled}
+use Rattle.leaf.specs.inner.Scaled.{Normal, Subnormal, Scaled}
 use Rattle.leaf.proofs.Values.{Counts, counts-low, counts, counts-units}
 
 root-positive : (x : Float) → T (positive x) → rootOf x ≡ rounded (unitsOf x * 2 ^ 1074)

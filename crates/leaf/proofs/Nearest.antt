@@ -13,8 +13,8 @@ use lib.Ieee.Bits.{ofBits-fits, ofBits-toBits, toBits-ofBits, nanBits-is}
 use lib.Ieee.Positive.{positive, positive-of-value}
 use Rattle.leaf.specs.Root.{unitsOf, rootDigits, rootOf}
 use Rattle.leaf.specs.Nearest.{Nearest, IsRoot, squareOf}
-use Rattle.leaf.specs.Cut.{CutRoot}
-use Rattle.leaf.specs.Scaled.{Normal, Subnormal, Scaled}
+use Rattle.leaf.specs.inner.Cut.{CutRoot}
+use Rattle.leaf.specs.inner.Scaled.{Normal, Subnormal, Scaled}
 use Rattle.leaf.proofs.Nan.{no-nan-bits}
 use Rattle.leaf.proofs.Cut.{digits-cut}
 use Rattle.leaf.proofs.Values.{counts}

@@ -12,8 +12,8 @@ use lib.Ieee.Fits.{odd-fits}
 use lib.Ieee.Bits.{is-true, ofBits-fits}
 use lib.Ieee.Exact.{odd-sign}
 use Rattle.leaf.specs.Root.{rootDigits, rounded}
-use Rattle.leaf.specs.Cut.{CutRoot}
-use Rattle.leaf.specs.Scaled.{Scaled}
+use Rattle.leaf.specs.inner.Cut.{CutRoot}
+use Rattle.leaf.specs.inner.Scaled.{Scaled}
 use Rattle.leaf.proofs.Cut.{square-mono, cut-once, digits-cut}
 use Rattle.leaf.proofs.Values.{counts, counts-once}
 

@@ -5,7 +5,7 @@ use native.Mathlib.Nat.{zero-add, mul-one, mul-assoc, pow-suc}
 use native.Mathlib.Numerals.{add-one}
 use native.Mathlib.Omega.{arith}
 use lib.Pow.{pow-mono}
-use Rattle.leaf.specs.Cut.{CutRoot}
+use Rattle.leaf.specs.inner.Cut.{CutRoot}
 
 pub record Worked (n i s rest left : ℕ) : Type 0 where
   pub turns : i ≤ 54

@@ -2,6 +2,4 @@ pub mod Abs
 pub mod Maximum
 pub mod Root
 pub mod Nearest
-pub mod Cut
-pub mod Guess
-pub mod Scaled
+pub mod inner

@@ -5,7 +5,7 @@ ghost use lib.Ieee.{binary64, ofBits, toBits};
 ghost use Rattle.leaf.specs.Abs.{absOf};
 ghost use Rattle.leaf.specs.Maximum.{maximumOf};
 ghost use Rattle.leaf.specs.Root.{rootOf, rounded};
-ghost use Rattle.leaf.specs.Scaled.{Normal, Subnormal, Scaled};
+ghost use Rattle.leaf.specs.inner.Scaled.{Normal, Subnormal, Scaled};
 
 mod table;
 mod whole;

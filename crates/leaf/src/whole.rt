@@ -1,8 +1,8 @@
 // The root of a whole number, cut to a whole number: a guess that is tested, and the plain root where the test fails.
 ghost use mathlib.Core.Path.{_≡_};
 ghost use Prim.Native.Nat.{_*_, _^_, _<_};
-ghost use Rattle.leaf.specs.Cut.{CutRoot};
-ghost use Rattle.leaf.specs.Guess.{Half, Halves};
+ghost use Rattle.leaf.specs.inner.Cut.{CutRoot};
+ghost use Rattle.leaf.specs.inner.Guess.{Half, Halves};
 use crate::table;
 
 // The first 54 binary digits of the root of n * 2 ^ 54.

@@ -17,7 +17,7 @@ use lib.Ieee.Scale.{grid, overflow, finite, round-under}
 use lib.Ieee.Positive.{num, den, positive, value-pos, values-of-le}
 use Rattle.leaf.specs.Abs.{absOf}
 use Rattle.leaf.specs.Root.{unitsOf, rootDigits, rounded, rootOf}
-use Rattle.leaf.specs.Cut.{CutRoot}
+use Rattle.leaf.specs.inner.Cut.{CutRoot}
 use Rattle.leaf.proofs.Cut.{digits-cut}
 use Rattle.leaf.proofs.Rounded.{long, fours as powers-of-four}
 use Rattle.leaf.proofs.Fields.{root-rounded}

@@ -5,7 +5,7 @@ use Prim.Native.Nat.{ℕ, _*_, _%_, _^_, _<_}
 use native.Mathlib.Nat.{mul-le-mul-right}
 use native.Mathlib.Omega.{arith}
 use lib.Pow.{shl-lt}
-use Rattle.leaf.specs.Cut.{CutRoot}
+use Rattle.leaf.specs.inner.Cut.{CutRoot}
 use Rattle.leaf.proofs.Rounded.{Long, long, even-least, even-most, rounded-cut}
 use Rattle.leaf.proofs.Nan.{no-nan-bits}
 use Rattle.leaf.proofs.scaled_root.Statement.{statement}

@@ -4,7 +4,7 @@ use Prim.Native.Nat.{ℕ, _+_, _-_, _*_, _^_}
 use native.Mathlib.Omega.{arith}
 use lib.Count.{leadingZeros}
 use Rattle.leaf.specs.Root.{rounded}
-use Rattle.leaf.specs.Scaled.{Scaled}
+use Rattle.leaf.specs.inner.Scaled.{Scaled}
 use Rattle.leaf.proofs.Fields.{root-rounded, Shifted, shifted, shift-exact, subnormal-scaled, subnormal-root}
 use Rattle.leaf.proofs.subnormal_root.Statement.{statement}
 use Rattle.leaf.proofs.subnormal_root.Tie as tie
