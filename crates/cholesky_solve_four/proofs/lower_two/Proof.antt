@@ -10,8 +10,7 @@ divide-one-requires c κs = search needs
 
 next-row-requires : tie.Need-next-row-requires
 next-row-requires c κs =
-    let given = c .before .before .before .before .before .before .before in
-    let pre = given .pre in
+    let pre = c .before .before .before .before .before .before .before .pre in
     let divide-one = c .before .before .before .divide-one in
     (record { factor = pre .0 .factor; long = divide-one .kept .1 .1 .0 ∙ pre .0 .long }, pre .1)
 
@@ -20,18 +19,16 @@ add-divide-one c = search needs
 
 divide-one-requires-2 : tie.Need-divide-one-requires-2
 divide-one-requires-2 c κs =
-    let given = c .before .before .before .before .before .before .before .before .before .before .before in
     let divide-one = c .before .before .before .before .before .before .before .divide-one in
-    let pre = given .pre in
+    let pre = c .before .before .before .before .before .before .before .before .before .before .before .pre in
     let next-row = c .before .before .before .next-row in
     (record { factor = pre .0 .factor; long = next-row .kept .1 .1 .0 ∙ divide-one .kept .1 .1 .0 ∙ pre .0 .long }, pre .1)
 
 eliminate-two-requires : tie.Need-eliminate-two-requires
 eliminate-two-requires c κs =
-    let given = c .before .before .before .before .before .before .before .before .before .before .before .before .before .before .before in
     let divide-one = c .before .before .before .before .before .before .before .before .before .before .before .divide-one in
     let next-row = c .before .before .before .before .before .before .before .next-row in
-    let pre = given .pre in
+    let pre = c .before .before .before .before .before .before .before .before .before .before .before .before .before .before .before .pre in
     let divide-one2 = c .before .before .before .divide-one2 in
     (record { factor = pre .0 .factor; long = divide-one2 .kept .1 .1 .0 ∙ next-row .kept .1 .1 .0 ∙ divide-one .kept .1 .1 .0 ∙ pre .0 .long }, pre .1)
 
@@ -40,11 +37,10 @@ same-length c = search needs
 
 returns : tie.Need-returns
 returns c =
-    let given = c .before .before .before .before .before .before .before .before .before .before .before .before .before .before .before .before .before .before in
     let divide-one = c .before .before .before .before .before .before .before .before .before .before .before .before .before .before .divide-one in
     let next-row = c .before .before .before .before .before .before .before .before .before .before .next-row in
     let divide-one2 = c .before .before .before .before .before .before .divide-one2 in
-    let pre = given .pre in
+    let pre = c .before .before .before .before .before .before .before .before .before .before .before .before .before .before .before .before .before .before .pre in
     lowered-two _ _ _ (pre .0 .long) _ (pre .1) (divide-one .ensures) (next-row .ensures) (divide-one2 .ensures) (c .before .before .eliminate-two .ensures)
 
 pub lower-two-spec : {M : Type 1} → statement M

@@ -13,8 +13,7 @@ add-get c = search needs
 
 get-requires : tie.Need-get-requires
 get-requires c κs =
-    let given = c .before .before .before .before in
-    let pre = given .pre in
+    let pre = c .before .before .before .before .pre in
     (pre .0 .factor, (omega arith, pre .1))
 
 add-put-row : tie.Need-add-put-row
@@ -37,11 +36,10 @@ same-length c = search needs
 
 returns : tie.Need-returns
 returns c =
-    let given = c .before .before .before .before .before .before .before .before .before .before .before .before in
     let row = c .before .before .before .before .before .before .before .before .row in
     let get = c .before .before .before .before .before .before .before .get in
     let row2 = c .before .before .before .before .row2 in
-    let pre = given .pre in
+    let pre = c .before .before .before .before .before .before .before .before .before .before .before .before .pre in
     let less = c .before .before .before .less in
     next-rows _ _ _ (pre .0 .long) _ (pre .1) (row .ensures) (get .ensures) (row2 .ensures) (less .ensures) (c .before .before .put-row .ensures)
 

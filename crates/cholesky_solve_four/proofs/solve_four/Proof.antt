@@ -10,8 +10,7 @@ solve-lower-requires c κs = search needs
 
 solve-transposed-requires : tie.Need-solve-transposed-requires
 solve-transposed-requires c κs =
-    let given = c .before .before .before .before .before .before .before in
-    let pre = given .pre in
+    let pre = c .before .before .before .before .before .before .before .pre in
     let solve-lower = c .before .before .before .solve-lower in
     record { factor = pre .factor; long = solve-lower .kept .1 .1 .0 ∙ pre .long }
 
@@ -20,9 +19,8 @@ same-length c = search needs
 
 returns : tie.Need-returns
 returns c =
-    let given = c .before .before .before .before .before .before .before .before .before .before in
     let solve-lower = c .before .before .before .before .before .before .solve-lower in
-    let pre = given .pre in
+    let pre = c .before .before .before .before .before .before .before .before .before .before .pre in
     solved _ _ _ (pre .long) (solve-lower .ensures) (c .before .before .solve-transposed .ensures)
 
 pub solve-four-spec : {M : Type 1} → statement M

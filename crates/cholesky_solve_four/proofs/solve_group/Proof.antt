@@ -47,8 +47,7 @@ same-length c = search needs
 
 returns : tie.Need-returns
 returns c =
-    let given = c .before .before .before .before .before .before in
-    let pre = given .pre in
+    let pre = c .before .before .before .before .before .before .pre in
     group-put _ _ (triangles-keeps _ _) (pre .1 .0) _ 4 (pre .1 .1) (c .before .before .solve-four .ensures)
 
 pub solve-group-spec : {M : Type 1} → statement M

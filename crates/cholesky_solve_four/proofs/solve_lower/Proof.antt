@@ -28,15 +28,13 @@ add-loop c =
 
 lower-two-requires : tie.Need-lower-two-requires Inv-loop μ-loop
 lower-two-requires c κs =
-    let given = c .before .before .before .before .before in
-    let pre = given .pre in
+    let pre = c .before .before .before .before .before .pre in
     (record { factor = pre .factor; long = c .before .before .loop .inv .long ∙ pre .long }, c .before .loop-test .taken)
 
 add-k : tie.Need-add-k Inv-loop μ-loop
 add-k c =
-    let given = c .before .before .before .before .before .before .before .before in
     let loop = c .before .before .before .before .before .loop in
-    let pre = given .pre in
+    let pre = c .before .before .before .before .before .before .before .before .pre in
     omega (arith, loop .inv .ran .upto, pre .factor .roomy)
 
 loop-less : tie.Need-loop-less Inv-loop μ-loop
@@ -54,14 +52,12 @@ same-length c = c .before .before .loop .inv .long
 
 returns : tie.Need-returns Inv-loop μ-loop
 returns c =
-    let given = c .before .before .before .before .before in
-    let pre = given .pre in
+    let pre = c .before .before .before .before .before .pre in
     lowered-none _ _ _ (pre .long) (c .before .before .loop .inv) (c .if1 .taken)
 
 divide-one-requires : tie.Need-divide-one-requires Inv-loop μ-loop
 divide-one-requires c κs =
-    let given = c .before .before .before .before .before .before in
-    let pre = given .pre in
+    let pre = c .before .before .before .before .before .before .pre in
     let loop = c .before .before .before .loop in
     (record { factor = pre .factor; long = loop .inv .long ∙ pre .long }, c .before .if1 .left)
 
@@ -70,11 +66,10 @@ same-length-2 c = search needs
 
 returns-2 : tie.Need-returns-2 Inv-loop μ-loop
 returns-2 c =
-    let given = c .before .before .before .before .before .before .before .before .before in
     let loop = c .before .before .before .before .before .before .loop in
     let loop-test = c .before .before .before .before .before .loop-test in
     let if1 = c .before .before .before .before .if1 in
-    let pre = given .pre in
+    let pre = c .before .before .before .before .before .before .before .before .before .pre in
     lowered-last _ _ _ (pre .long) (loop .inv) (if1 .left) (loop-test .left) (c .before .before .divide-one .ensures)
 
 pub solve-lower-spec : {M : Type 1} → statement M

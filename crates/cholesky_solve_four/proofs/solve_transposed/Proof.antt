@@ -28,8 +28,7 @@ sub-i c = search needs
 
 transposed-row-requires : tie.Need-transposed-row-requires Inv-loop μ-loop
 transposed-row-requires c κs =
-    let given = c .before .before .before .before .before in
-    let pre = given .pre in
+    let pre = c .before .before .before .before .before .pre in
     let loop = c .before .before .loop in
     (record { factor = pre .factor; long = loop .inv .1 ∙ pre .long }, omega (arith, loop .inv .0 .upto, c .before .loop-test .taken))
 
@@ -49,8 +48,7 @@ same-length c = c .before .loop .inv .1
 returns : tie.Need-returns Inv-loop μ-loop
 unfolding solveTransposed
 returns c =
-    let given = c .before .before .before .before in
-    let pre = given .pre in
+    let pre = c .before .before .before .before .pre in
     fell-all (c .before .loop .inv .0) (c .loop-test .left) ∙ each-loop _ _ (sinking _) (falling-uniform _) _ (transposed-row-keeps _ _) _ (pre .long)
 
 pub solve-transposed-spec : {M : Type 1} → statement M

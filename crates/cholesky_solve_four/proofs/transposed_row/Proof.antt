@@ -13,8 +13,7 @@ gather-row-requires c κs = search needs
 
 divide-one-requires : tie.Need-divide-one-requires
 divide-one-requires c κs =
-    let given = c .before .before .before .before .before .before .before in
-    let pre = given .pre in
+    let pre = c .before .before .before .before .before .before .before .pre in
     let gather-row = c .before .before .before .gather-row in
     (record { factor = pre .0 .factor; long = gather-row .kept .1 .1 .0 ∙ pre .0 .long }, pre .1)
 
@@ -23,9 +22,8 @@ same-length c = search needs
 
 returns : tie.Need-returns
 returns c =
-    let given = c .before .before .before .before .before .before .before .before .before .before in
     let gather-row = c .before .before .before .before .before .before .gather-row in
-    let pre = given .pre in
+    let pre = c .before .before .before .before .before .before .before .before .before .before .pre in
     transposed _ _ _ (pre .0 .long) _ (gather-row .ensures) (c .before .before .divide-one .ensures)
 
 pub transposed-row-spec : {M : Type 1} → statement M

@@ -27,15 +27,13 @@ add-loop c =
 
 lower-two-requires : tie.Need-lower-two-requires Inv-loop μ-loop
 lower-two-requires c κs =
-    let given = c .before .before .before .before .before in
-    let pre = given .pre in
+    let pre = c .before .before .before .before .before .pre in
     (record { factor = pre .factor; long = c .before .before .loop .inv .long ∙ pre .long }, c .before .loop-test .taken)
 
 add-k : tie.Need-add-k Inv-loop μ-loop
 add-k c =
-    let given = c .before .before .before .before .before .before .before .before in
     let loop = c .before .before .before .before .before .loop in
-    let pre = given .pre in
+    let pre = c .before .before .before .before .before .before .before .before .pre in
     omega (arith, loop .inv .ran .upto, pre .factor .roomy)
 
 loop-less : tie.Need-loop-less Inv-loop μ-loop
@@ -57,8 +55,7 @@ returns c = turning-all (c .before .before .loop .inv) (c .if1 .taken)
 
 divide-one-requires : tie.Need-divide-one-requires Inv-loop μ-loop
 divide-one-requires c κs =
-    let given = c .before .before .before .before .before .before in
-    let pre = given .pre in
+    let pre = c .before .before .before .before .before .before .pre in
     let loop = c .before .before .before .loop in
     (record { factor = pre .factor; long = loop .inv .long ∙ pre .long }, c .before .if1 .left)
 

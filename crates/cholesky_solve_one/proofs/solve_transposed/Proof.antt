@@ -41,9 +41,8 @@ sub-i-2 c = search needs
 
 transposed-row-requires : tie.Need-transposed-row-requires Inv-loop μ-loop
 transposed-row-requires c κs =
-    let given = c .before .before .before .before .before .before .before .before .before .before .before .before .before in
     let divide-one = c .before .before .before .before .before .before .divide-one in
-    let pre = given .pre in
+    let pre = c .before .before .before .before .before .before .before .before .before .before .before .before .before .pre in
     let loop = c .before .before .loop in
     (record { factor = pre .factor; long = loop .inv .2 ∙ divide-one .kept .1 .1 .0 ∙ pre .long }, (omega (arith, loop .inv .0 .upto, c .before .loop-test .taken), last-found (loop .b) (loop .inv .1) (c .before .loop-test .taken)))
 

@@ -10,8 +10,7 @@ solve-lower-requires c κs = search needs
 
 solve-transposed-requires : tie.Need-solve-transposed-requires
 solve-transposed-requires c κs =
-    let given = c .before .before .before .before .before .before .before in
-    let pre = given .pre in
+    let pre = c .before .before .before .before .before .before .before .pre in
     let solve-lower = c .before .before .before .solve-lower in
     record { factor = pre .factor; long = solve-lower .kept .1 .1 .0 ∙ pre .long }
 

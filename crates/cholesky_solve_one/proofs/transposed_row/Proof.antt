@@ -24,14 +24,12 @@ add-less-rows c = search needs
 
 less-rows-requires : tie.Need-less-rows-requires
 less-rows-requires c κs =
-    let given = c .before .before .before .before .before in
-    let pre = given .pre in
+    let pre = c .before .before .before .before .before .pre in
     (pre .0, (omega arith, omega (arith, pre .1 .0)))
 
 get-requires-2 : tie.Need-get-requires-2
 get-requires-2 c κs =
-    let given = c .before .before .before .before .before .before in
-    let pre = given .pre in
+    let pre = c .before .before .before .before .before .before .pre in
     (pre .0 .factor, (omega arith, omega (arith, pre .1 .0)))
 
 mul-b : tie.Need-mul-b
@@ -45,8 +43,7 @@ same-length c = search needs
 
 returns : tie.Need-returns
 returns c =
-    let given = c .before .before .before .before .before .before .before in
-    let pre = given .pre in
+    let pre = c .before .before .before .before .before .before .before .pre in
     let get = c .before .before .before .get in
     found _ _ _ _ (pre .0 .long) (pre .1 .0) (get .ensures) (pre .1 .1) (c .before .less-rows .ensures) (c .get2 .ensures)
 

@@ -31,12 +31,11 @@ same-length c = search needs
 
 returns : tie.Need-returns
 returns c =
-    let given = c .before .before .before .before .before .before .before .before .before .before .before .before .before .before in
     let index = c .before .before .before .before .before .before .before .before .before .before .index in
     let gather-row = c .before .before .before .before .before .before .before .before .gather-row in
     let size = c .before .before .before .before .before .size in
     let if1 = c .before .before .before .before .if1 in
-    let pre = given .pre in
+    let pre = c .before .before .before .before .before .before .before .before .before .before .before .before .before .before .pre in
     let swap-rows = c .before .before .swap-rows in
     columns-backed-one _ _ _ (pre .0 .long) _ _ _ (size .ensures) (index .ensures) (if1 .taken) (gather-row .ensures) (swap-rows .ensures)
 
@@ -50,9 +49,8 @@ sub-gather-row c =
 
 gather-row-requires-2 : tie.Need-gather-row-requires-2
 gather-row-requires-2 c κs =
-    let given = c .before .before .before .before .before .before .before .before .before .before .before in
     let gather-row = c .before .before .before .before .before .gather-row in
-    let pre = given .pre in
+    let pre = c .before .before .before .before .before .before .before .before .before .before .before .pre in
     (record { factor = pre .0 .factor; long = gather-row .kept .1 .1 .0 ∙ pre .0 .long }, (omega (arith, pre .1 .inside), pre .1 .end))
 
 swap-rows-requires-2 : tie.Need-swap-rows-requires-2
@@ -72,13 +70,12 @@ same-length-2 c = search needs
 
 returns-2 : tie.Need-returns-2
 returns-2 c =
-    let given = c .before .before .before .before .before .before .before .before .before .before .before .before .before .before .before .before .before .before in
     let index = c .before .before .before .before .before .before .before .before .before .before .before .before .before .before .index in
     let gather-row = c .before .before .before .before .before .before .before .before .before .before .before .before .gather-row in
     let size = c .before .before .before .before .before .before .before .before .before .size in
     let if1 = c .before .before .before .before .before .before .before .before .if1 in
     let gather-row2 = c .before .before .before .before .before .before .gather-row2 in
-    let pre = given .pre in
+    let pre = c .before .before .before .before .before .before .before .before .before .before .before .before .before .before .before .before .before .before .pre in
     let swap-rows2 = c .before .before .swap-rows2 in
     columns-backed-two _ _ _ (pre .0 .long) _ _ _ (size .ensures) (index .ensures) (if1 .left) (gather-row .ensures) (gather-row2 .ensures) (swap-rows2 .ensures)
 

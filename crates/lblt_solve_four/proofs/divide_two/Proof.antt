@@ -27,14 +27,12 @@ add-get-3 c = search needs
 
 get-requires-3 : tie.Need-get-requires-3
 get-requires-3 c κs =
-    let given = c .before .before .before .before in
-    let pre = given .pre in
+    let pre = c .before .before .before .before .pre in
     (pre .0 .factor, (omega arith, omega (arith, pre .1)))
 
 row-requires : tie.Need-row-requires
 row-requires c κs =
-    let given = c .before .before .before .before .before .before in
-    let pre = given .pre in
+    let pre = c .before .before .before .before .before .before .pre in
     (pre .0 .long, omega (arith, pre .1))
 
 add-row : tie.Need-add-row
@@ -42,8 +40,7 @@ add-row c = search needs
 
 row-requires-2 : tie.Need-row-requires-2
 row-requires-2 c κs =
-    let given = c .before .before .before .before .before .before .before .before in
-    let pre = given .pre in
+    let pre = c .before .before .before .before .before .before .before .before .pre in
     (pre .0 .long, pre .1)
 
 cross-requires : tie.Need-cross-requires
@@ -54,14 +51,12 @@ over-requires c κs = search needs
 
 put-row-requires : tie.Need-put-row-requires
 put-row-requires c κs =
-    let given = c .before .before .before .before .before .before .before .before .before .before .before .before in
-    let pre = given .pre in
+    let pre = c .before .before .before .before .before .before .before .before .before .before .before .before .pre in
     (pre .0 .long, omega (arith, pre .1))
 
 add-put-row : tie.Need-add-put-row
 add-put-row c =
-    let given = c .before .before .before .before .before .before .before .before .before .before .before .before .before .before .before .before in
-    let pre = given .pre in
+    let pre = c .before .before .before .before .before .before .before .before .before .before .before .before .before .before .before .before .pre in
     omega (arith, pre .1, pre .0 .factor .roomy)
 
 cross-requires-2 : tie.Need-cross-requires-2
@@ -72,9 +67,8 @@ over-requires-2 c κs = search needs
 
 put-row-requires-2 : tie.Need-put-row-requires-2
 put-row-requires-2 c κs =
-    let given = c .before .before .before .before .before .before .before .before .before .before .before .before .before .before .before .before .before .before in
     let put-row = c .before .before .before .before .before .put-row in
-    let pre = given .pre in
+    let pre = c .before .before .before .before .before .before .before .before .before .before .before .before .before .before .before .before .before .before .pre in
     (put-row .kept .0 ∙ pre .0 .long, pre .1)
 
 same-length : tie.Need-same-length
@@ -82,7 +76,6 @@ same-length c = search needs
 
 returns : tie.Need-returns
 returns c =
-    let given = c .before .before .before .before .before .before .before .before .before .before .before .before .before .before .before .before .before .before .before .before .before in
     let get = c .before .before .before .before .before .before .before .before .before .before .before .before .before .before .before .before .before .before .get in
     let get2 = c .before .before .before .before .before .before .before .before .before .before .before .before .before .before .before .before .before .get2 in
     let get3 = c .before .before .before .before .before .before .before .before .before .before .before .before .before .before .before .before .get3 in
@@ -92,7 +85,7 @@ returns c =
     let over = c .before .before .before .before .before .before .before .before .before .over in
     let put-row = c .before .before .before .before .before .before .before .before .put-row in
     let cross2 = c .before .before .before .before .cross2 in
-    let pre = given .pre in
+    let pre = c .before .before .before .before .before .before .before .before .before .before .before .before .before .before .before .before .before .before .before .before .before .pre in
     let over2 = c .before .before .before .over2 in
     let put-row2 = c .before .before .put-row2 in
     divided-two _ _ (pre .0 .long) _ _ (pre .1) (get .ensures) (get2 .ensures) (get3 .ensures) (row .ensures) (row2 .ensures) (cross .ensures) (over .ensures) (put-row .ensures) (cross2 .ensures) (over2 .ensures) (put-row2 .ensures)

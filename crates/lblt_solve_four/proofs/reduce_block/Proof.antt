@@ -18,23 +18,20 @@ swap-rows-requires c κs = search needs
 
 eliminate-one-requires : tie.Need-eliminate-one-requires
 eliminate-one-requires c κs =
-    let given = c .before .before .before .before .before .before .before .before .before .before .before in
-    let pre = given .pre in
+    let pre = c .before .before .before .before .before .before .before .before .before .before .before .pre in
     let swap-rows = c .before .before .before .swap-rows in
     (record { factor = pre .0 .factor; long = swap-rows .kept .0 ∙ pre .0 .long }, pre .1 .inside)
 
 divide-one-requires : tie.Need-divide-one-requires
 divide-one-requires c κs =
-    let given = c .before .before .before .before .before .before .before .before .before .before .before .before .before .before .before in
     let swap-rows = c .before .before .before .before .before .before .before .swap-rows in
-    let pre = given .pre in
+    let pre = c .before .before .before .before .before .before .before .before .before .before .before .before .before .before .before .pre in
     let eliminate-one = c .before .before .before .eliminate-one in
     (record { factor = pre .0 .factor; long = eliminate-one .kept .1 .1 .0 ∙ swap-rows .kept .0 ∙ pre .0 .long }, pre .1 .inside)
 
 add-result : tie.Need-add-result
 add-result c =
-    let given = c .before .before .before .before .before .before .before .before .before .before .before .before .before .before .before .before .before .before in
-    let pre = given .pre in
+    let pre = c .before .before .before .before .before .before .before .before .before .before .before .before .before .before .before .before .before .before .pre in
     omega (arith, pre .1 .inside, pre .0 .factor .roomy)
 
 same-length : tie.Need-same-length
@@ -42,13 +39,12 @@ same-length c = search needs
 
 returns : tie.Need-returns
 returns c =
-    let given = c .before .before .before .before .before .before .before .before .before .before .before .before .before .before .before .before .before .before in
     let index = c .before .before .before .before .before .before .before .before .before .before .before .before .before .before .index in
     let size = c .before .before .before .before .before .before .before .before .before .before .before .before .before .size in
     let if1 = c .before .before .before .before .before .before .before .before .before .before .before .before .if1 in
     let swap-rows = c .before .before .before .before .before .before .before .before .before .before .swap-rows in
     let eliminate-one = c .before .before .before .before .before .before .eliminate-one in
-    let pre = given .pre in
+    let pre = c .before .before .before .before .before .before .before .before .before .before .before .before .before .before .before .before .before .before .pre in
     let divide-one = c .before .before .divide-one in
     columns-reduced-one _ _ _ (pre .0 .long) _ _ _ (size .ensures) (index .ensures) (if1 .taken) (swap-rows .ensures) (eliminate-one .ensures) (divide-one .ensures)
 
@@ -87,8 +83,7 @@ divide-two-requires c κs =
 
 add-result-2 : tie.Need-add-result-2
 add-result-2 c =
-    let given = c .before .before .before .before .before .before .before .before .before .before .before .before .before .before .before .before .before .before in
-    let pre = given .pre in
+    let pre = c .before .before .before .before .before .before .before .before .before .before .before .before .before .before .before .before .before .before .pre in
     omega (arith, pre .1 .inside, pre .0 .factor .roomy)
 
 same-length-2 : tie.Need-same-length-2
@@ -96,13 +91,12 @@ same-length-2 c = search needs
 
 returns-2 : tie.Need-returns-2
 returns-2 c =
-    let given = c .before .before .before .before .before .before .before .before .before .before .before .before .before .before .before .before .before .before in
     let index = c .before .before .before .before .before .before .before .before .before .before .before .before .before .before .index in
     let size = c .before .before .before .before .before .before .before .before .before .before .before .before .before .size in
     let if1 = c .before .before .before .before .before .before .before .before .before .before .before .before .if1 in
     let swap-rows2 = c .before .before .before .before .before .before .before .before .before .before .swap-rows2 in
     let eliminate-two = c .before .before .before .before .before .before .eliminate-two in
-    let pre = given .pre in
+    let pre = c .before .before .before .before .before .before .before .before .before .before .before .before .before .before .before .before .before .before .pre in
     let divide-two = c .before .before .divide-two in
     columns-reduced-two _ _ _ (pre .0 .long) _ _ _ (size .ensures) (index .ensures) (if1 .left) (swap-rows2 .ensures) (eliminate-two .ensures) (divide-two .ensures)
 

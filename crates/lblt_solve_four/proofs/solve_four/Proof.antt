@@ -10,8 +10,7 @@ reduce-requires c κs = search needs
 
 backward-requires : tie.Need-backward-requires
 backward-requires c κs =
-    let given = c .before .before .before .before .before .before .before .before in
-    let pre = given .pre in
+    let pre = c .before .before .before .before .before .before .before .before .pre in
     let reduce = c .before .before .before .reduce in
     (pre .0, record { factor = pre .1 .factor; long = reduce .kept .1 .1 .1 .0 ∙ pre .1 .long })
 
@@ -20,9 +19,8 @@ same-length c = search needs
 
 returns : tie.Need-returns
 returns c =
-    let given = c .before .before .before .before .before .before .before .before .before .before .before in
     let reduce = c .before .before .before .before .before .before .reduce in
-    let pre = given .pre in
+    let pre = c .before .before .before .before .before .before .before .before .before .before .before .pre in
     let backward = c .before .before .backward in
     columns-solved _ _ _ (pre .1 .long) _ (pre .0 .accepted) (reduce .ensures) (backward .ensures)
 

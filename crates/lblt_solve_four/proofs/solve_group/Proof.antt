@@ -49,8 +49,7 @@ same-length c = search needs
 
 returns : tie.Need-returns
 returns c =
-    let given = c .before .before .before .before .before .before .before in
-    let pre = given .pre in
+    let pre = c .before .before .before .before .before .before .before .pre in
     let solve-four = c .before .before .solve-four in
     group-put _ _ (solve-keeps _ _ _) (pre .1 .0) _ 4 (pre .1 .1) (solve-four .ensures)
 

@@ -25,11 +25,10 @@ same-length c = search needs
 
 returns-2 : tie.Need-returns-2
 returns-2 c =
-    let given = c .before .before .before .before .before .before .before .before .before .before .before .before .before .before in
     let row = c .before .before .before .before .before .before .before .before .before .before .row in
     let row2 = c .before .before .before .before .before .before .before .row2 in
     let put-row = c .before .before .before .before .before .before .put-row in
-    let pre = given .pre in
+    let pre = c .before .before .before .before .before .before .before .before .before .before .before .before .before .before .pre in
     let put-row2 = c .before .before .put-row2 in
     swapped _ _ (pre .0) _ _ (pre .1 .0) (pre .1 .1) (row .ensures) (row2 .ensures) (put-row .ensures) (put-row2 .ensures)
 

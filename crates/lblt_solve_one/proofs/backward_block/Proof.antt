@@ -48,9 +48,8 @@ sub-gather-row c =
 
 gather-row-requires-2 : tie.Need-gather-row-requires-2
 gather-row-requires-2 c κs =
-    let given = c .before .before .before .before .before .before .before .before .before .before .before in
     let gather-row = c .before .before .before .before .before .gather-row in
-    let pre = given .pre in
+    let pre = c .before .before .before .before .before .before .before .before .before .before .before .pre in
     (record { factor = pre .0 .factor; long = gather-row .kept .1 .1 .0 ∙ pre .0 .long }, (omega (arith, pre .1 .inside), pre .1 .end))
 
 swap-rows-requires-2 : tie.Need-swap-rows-requires-2

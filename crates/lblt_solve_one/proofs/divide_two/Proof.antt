@@ -22,8 +22,7 @@ add-get-3 c = search needs
 
 get-requires-3 : tie.Need-get-requires-3
 get-requires-3 c κs =
-    let given = c .before .before .before .before in
-    let pre = given .pre in
+    let pre = c .before .before .before .before .pre in
     (pre .0 .factor, (omega arith, omega arith))
 
 mul-b-k : tie.Need-mul-b-k

@@ -21,17 +21,15 @@ loop-holds c = (along-none (c .before .before .before .pre .0 .accepted), refl)
 
 reduce-block-requires : tie.Need-reduce-block-requires Inv-loop μ-loop
 reduce-block-requires c κs =
-    let given = c .before .before .before .before .before .before in
-    let pre = given .pre in
+    let pre = c .before .before .before .before .before .before .pre in
     let loop = c .before .before .loop in
     (record { factor = pre .1 .factor; long = loop .inv .1 ∙ pre .1 .long }, block-at (pre .0 .accepted) (loop .inv .0 .boundary) (c .before .loop-test .taken))
 
 loop-less : tie.Need-loop-less Inv-loop μ-loop
 loop-less c =
-    let given = c .before .before .before .before .before .before .before .before .before in
     let loop = c .before .before .before .before .before .loop in
     let reduce-block = c .before .before .reduce-block in
-    let args = given .args in
+    let args = c .before .before .before .before .before .before .before .before .before .args in
     omega (arith, reduce-block .ensures .row, rows-positive (args .words .now) (loop .k))
 
 loop-again : tie.Need-loop-again Inv-loop μ-loop

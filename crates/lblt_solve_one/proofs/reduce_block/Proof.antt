@@ -18,16 +18,14 @@ swap-rows-requires c κs = search needs
 
 eliminate-one-requires : tie.Need-eliminate-one-requires
 eliminate-one-requires c κs =
-    let given = c .before .before .before .before .before .before .before .before .before .before .before in
-    let pre = given .pre in
+    let pre = c .before .before .before .before .before .before .before .before .before .before .before .pre in
     let swap-rows = c .before .before .before .swap-rows in
     (record { factor = pre .0 .factor; long = swap-rows .kept .0 ∙ pre .0 .long }, pre .1 .inside)
 
 divide-one-requires : tie.Need-divide-one-requires
 divide-one-requires c κs =
-    let given = c .before .before .before .before .before .before .before .before .before .before .before .before .before .before .before in
     let swap-rows = c .before .before .before .before .before .before .before .swap-rows in
-    let pre = given .pre in
+    let pre = c .before .before .before .before .before .before .before .before .before .before .before .before .before .before .before .pre in
     let eliminate-one = c .before .before .before .eliminate-one in
     (record { factor = pre .0 .factor; long = eliminate-one .kept .1 .1 .0 ∙ swap-rows .kept .0 ∙ pre .0 .long }, pre .1 .inside)
 

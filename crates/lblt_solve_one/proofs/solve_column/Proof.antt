@@ -12,8 +12,7 @@ reduce-requires c κs = search needs
 
 backward-requires : tie.Need-backward-requires
 backward-requires c κs =
-    let given = c .before .before .before .before .before .before .before .before in
-    let pre = given .pre in
+    let pre = c .before .before .before .before .before .before .before .before .pre in
     let reduce = c .before .before .before .reduce in
     (pre .0, record { factor = pre .1 .factor; long = reduce .kept .1 .1 .1 .0 ∙ pre .1 .long })
 
@@ -23,9 +22,8 @@ same-length c = search needs
 returns : tie.Need-returns
 unfolding solveColumn
 returns c =
-    let given = c .before .before .before .before .before .before .before .before .before .before .before in
     let reduce = c .before .before .before .before .before .before .reduce in
-    let pre = given .pre in
+    let pre = c .before .before .before .before .before .before .before .before .before .before .before .pre in
     let backward = c .before .before .backward in
     backward .ensures ∙ ap (backwards _ _ _) (reduce .ensures ∙ sym (early _ _ (pre .0 .accepted) _))
 

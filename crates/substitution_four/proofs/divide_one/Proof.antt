@@ -21,10 +21,9 @@ same-length c = search needs
 
 returns : tie.Need-returns
 returns c =
-    let given = c .before .before .before .before .before .before .before .before .before .before in
     let row = c .before .before .before .before .before .row in
     let get = c .before .before .before .before .get in
-    let pre = given .pre in
+    let pre = c .before .before .before .before .before .before .before .before .before .before .pre in
     let over = c .before .before .before .over in
     let put-row = c .before .before .put-row in
     divided _ _ (pre .0 .long) _ _ (pre .1) (row .ensures) (get .ensures) (over .ensures) (put-row .ensures)

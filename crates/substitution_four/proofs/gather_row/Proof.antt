@@ -28,30 +28,26 @@ loop-holds c =
 
 add-less : tie.Need-add-less Inv-loop μ-loop
 add-less c =
-    let given = c .before .before .before .before .before .before .before in
     let start = c .before .before .before .before .start in
-    let pre = given .pre in
+    let pre = c .before .before .before .before .before .before .before .pre in
     omega (arith, offset-small _ _ _ _ (start .ensures) (omega arith) (pre .0 .factor))
 
 mul-less : tie.Need-mul-less Inv-loop μ-loop
 mul-less c =
-    let given = c .before .before .before .before .before .before .before in
     let start = c .before .before .before .before .start in
-    let pre = given .pre in
+    let pre = c .before .before .before .before .before .before .before .pre in
     omega (arith, offset-small _ _ _ _ (start .ensures) (omega arith) (pre .0 .factor))
 
 shared-slice-read-less : tie.Need-shared-slice-read-less Inv-loop μ-loop
 shared-slice-read-less c =
-    let given = c .before .before .before .before .before .before .before .before in
     let start = c .before .before .before .before .before .start in
     let loop = c .before .before .loop in
-    let pre = given .pre in
+    let pre = c .before .before .before .before .before .before .before .before .pre in
     offset-within _ _ _ _ _ (start .ensures) (omega (arith, loop .inv .low, pre .1 .0)) (c .before .loop-test .taken) (pre .0 .factor)
 
 row-requires-2 : tie.Need-row-requires-2 Inv-loop μ-loop
 row-requires-2 c κs =
-    let given = c .before .before .before .before .before .before .before .before .before in
-    let pre = given .pre in
+    let pre = c .before .before .before .before .before .before .before .before .before .pre in
     let loop-test = c .before .before .loop-test in
     (pre .0 .long, loop-test .taken)
 
@@ -60,9 +56,8 @@ less-requires c κs = search needs
 
 add-i : tie.Need-add-i Inv-loop μ-loop
 add-i c =
-    let given = c .before .before .before .before .before .before .before .before .before .before .before in
     let loop-test = c .before .before .before .before .loop-test in
-    let pre = given .pre in
+    let pre = c .before .before .before .before .before .before .before .before .before .before .before .pre in
     omega (arith, loop-test .taken, pre .0 .factor .roomy)
 
 loop-less : tie.Need-loop-less Inv-loop μ-loop
@@ -76,8 +71,7 @@ loop-again c =
 
 put-row-requires : tie.Need-put-row-requires Inv-loop μ-loop
 put-row-requires c κs =
-    let given = c .before .before .before .before .before .before .before .before in
-    let pre = given .pre in
+    let pre = c .before .before .before .before .before .before .before .before .pre in
     (pre .0 .long, omega (arith, pre .1))
 
 same-length : tie.Need-same-length Inv-loop μ-loop
@@ -85,11 +79,10 @@ same-length c = search needs
 
 returns : tie.Need-returns Inv-loop μ-loop
 returns c =
-    let given = c .before .before .before .before .before .before .before .before .before .before .before in
     let start = c .before .before .before .before .before .before .before .before .start in
     let loop = c .before .before .before .before .before .loop in
     let loop-test = c .before .before .before .before .loop-test in
-    let pre = given .pre in
+    let pre = c .before .before .before .before .before .before .before .before .before .before .before .pre in
     let put-row = c .before .before .put-row in
     gathering-all _ _ _ _ (start .ensures) _ (pre .1 .0) _ (loop .inv) (loop-test .left) (pre .0 .long) (put-row .ensures)
 

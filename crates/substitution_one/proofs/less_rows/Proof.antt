@@ -22,21 +22,18 @@ loop-holds c = ran-none (search needs)
 
 add-less : tie.Need-add-less Inv-loop μ-loop
 add-less c =
-    let given = c .before .before .before .before .before in
-    let pre = given .pre in
+    let pre = c .before .before .before .before .before .pre in
     omega (arith, offset-small _ _ _ _ (c .before .before .start .ensures) (omega arith) (pre .0 .factor))
 
 mul-less : tie.Need-mul-less Inv-loop μ-loop
 mul-less c =
-    let given = c .before .before .before .before .before in
-    let pre = given .pre in
+    let pre = c .before .before .before .before .before .pre in
     omega (arith, offset-small _ _ _ _ (c .before .before .start .ensures) (omega arith) (pre .0 .factor))
 
 shared-slice-read-less : tie.Need-shared-slice-read-less Inv-loop μ-loop
 shared-slice-read-less c =
-    let given = c .before .before .before .before .before .before in
     let start = c .before .before .before .start in
-    let pre = given .pre in
+    let pre = c .before .before .before .before .before .before .pre in
     offset-within _ _ _ _ _ (start .ensures) (omega arith) (c .before .loop-test .taken) (pre .0 .factor)
 
 mul-less-2 : tie.Need-mul-less-2 Inv-loop μ-loop
@@ -58,8 +55,7 @@ loop-again c =
 
 returns : tie.Need-returns Inv-loop μ-loop
 returns c =
-    let given = c .before .before .before .before .before in
-    let pre = given .pre in
+    let pre = c .before .before .before .before .before .pre in
     ran-all (c .before .loop .inv) (c .loop-test .left) ∙ less-product _ _ _ _ (c .before .before .start .ensures) _ (pre .1 .0) _ _
 
 pub less-rows-spec : {M : Type 1} → statement M

@@ -12,8 +12,7 @@ clear-requires c κs = search needs
 
 put-blocks-requires : tie.Need-put-blocks-requires
 put-blocks-requires c κs =
-    let given = c .before .before .before .before .before .before .before .before in
-    let pre = given .pre in
+    let pre = c .before .before .before .before .before .before .before .before .pre in
     let clear = c .before .before .before .clear in
     (pre .0, record { small = pre .1 .small; long = clear .ensures .long })
 

@@ -19,14 +19,12 @@ loop-holds c = along-none (c .before .before .pre .accepted)
 
 times-block-requires : tie.Need-times-block-requires Inv-loop μ-loop
 times-block-requires c κs =
-    let given = c .before .before .before .before in
-    let pre = given .pre in
+    let pre = c .before .before .before .before .pre in
     (pre .factor, block-at (pre .accepted) (c .before .loop .inv .boundary) (c .loop-test .taken))
 
 loop-less : tie.Need-loop-less Inv-loop μ-loop
 loop-less c =
-    let given = c .before .before .before .before .before in
-    let args = given .args in
+    let args = c .before .before .before .before .before .args in
     let loop = c .before .before .loop in
     omega (arith, c .before .loop-test .taken, c .times-block .ensures .row, rows-positive (args .words .now) (loop .k))
 

@@ -16,14 +16,12 @@ size-requires c κs = search needs
 
 get-requires : tie.Need-get-requires
 get-requires c κs =
-    let given = c .before .before .before .before .before .before in
-    let pre = given .pre in
+    let pre = c .before .before .before .before .before .before .pre in
     (pre .0, (omega arith, pre .1 .1 .inside))
 
 put-requires : tie.Need-put-requires
 put-requires c κs =
-    let given = c .before .before .before .before .before .before .before in
-    let pre = given .pre in
+    let pre = c .before .before .before .before .before .before .before .pre in
     (pre .1 .0, (pre .1 .1 .inside, pre .1 .1 .inside))
 
 add-result : tie.Need-add-result

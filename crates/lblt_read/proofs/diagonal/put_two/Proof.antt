@@ -23,8 +23,7 @@ add-get-3 c = search needs
 
 get-requires-3 : tie.Need-get-requires-3
 get-requires-3 c κs =
-    let given = c .before .before .before .before in
-    let pre = given .pre in
+    let pre = c .before .before .before .before .pre in
     (pre .0, (omega arith, omega arith))
 
 put-requires : tie.Need-put-requires
@@ -37,8 +36,7 @@ add-put c = search needs
 
 put-requires-2 : tie.Need-put-requires-2
 put-requires-2 c κs =
-    let given = c .before .before .before .before .before .before .before .before .before .before in
-    let pre = given .pre in
+    let pre = c .before .before .before .before .before .before .before .before .before .before .pre in
     let put = c .before .before .before .put in
     (squared-of (pre .1 .0 .small) (put .ensures), (omega arith, omega arith))
 
@@ -47,8 +45,7 @@ add-put-2 c = search needs
 
 put-requires-3 : tie.Need-put-requires-3
 put-requires-3 c κs =
-    let given = c .before .before .before .before .before .before .before .before .before .before .before .before .before .before in
-    let pre = given .pre in
+    let pre = c .before .before .before .before .before .before .before .before .before .before .before .before .before .before .pre in
     let put2 = c .before .before .before .put2 in
     (squared-of (pre .1 .0 .small) (put2 .ensures), (omega arith, omega arith))
 
@@ -60,8 +57,7 @@ add-put-4 c = search needs
 
 put-requires-4 : tie.Need-put-requires-4
 put-requires-4 c κs =
-    let given = c .before .before .before .before .before .before .before .before .before .before .before .before .before .before .before .before .before .before in
-    let pre = given .pre in
+    let pre = c .before .before .before .before .before .before .before .before .before .before .before .before .before .before .before .before .before .before .pre in
     let put3 = c .before .before .before .put3 in
     (squared-of (pre .1 .0 .small) (put3 .ensures), (omega arith, omega arith))
 

@@ -12,8 +12,7 @@ put-identity-requires c κs = search needs
 
 permute-blocks-requires : tie.Need-permute-blocks-requires
 permute-blocks-requires c κs =
-    let given = c .before .before .before .before .before .before .before .before in
-    let pre = given .pre in
+    let pre = c .before .before .before .before .before .before .before .before .pre in
     let put-identity = c .before .before .before .put-identity in
     (pre .0, record { small = pre .1 .small; long = put-identity .ensures .long })
 

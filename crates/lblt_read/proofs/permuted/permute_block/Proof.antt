@@ -23,8 +23,7 @@ add-gather-column c = search needs
 
 gather-column-requires : tie.Need-gather-column-requires
 gather-column-requires c κs =
-    let given = c .before .before .before .before .before .before .before .before .before .before .before in
-    let pre = given .pre in
+    let pre = c .before .before .before .before .before .before .before .before .before .before .before .pre in
     let swap-columns = c .before .before .before .swap-columns in
     (pre .0, (squared-of (pre .1 .0 .small) (swap-columns .ensures), (omega arith, omega (arith, pre .1 .1 .inside))))
 
@@ -37,12 +36,11 @@ same-length c = search needs
 returns : tie.Need-returns
 unfolding permutedBlock
 returns c =
-    let given = c .before .before .before .before .before .before .before .before .before .before .before .before .before .before in
     let index = c .before .before .before .before .before .before .before .before .before .before .index in
     let size = c .before .before .before .before .before .before .before .before .before .size in
     let if1 = c .before .before .before .before .before .before .before .before .if1 in
     let swap-columns = c .before .before .before .before .before .before .swap-columns in
-    let args = given .args in
+    let args = c .before .before .before .before .before .before .before .before .before .before .before .before .before .before .args in
     let gather-column = c .before .before .gather-column in
     placed-one _ _ (size .ensures) (_+_ _) _ (if1 .taken) (permuted-one _ _ (args .words .now) (args .k) (index .ensures) (swap-columns .ensures) (gather-column .ensures))
 
@@ -96,13 +94,12 @@ same-length-2 c = search needs
 returns-2 : tie.Need-returns-2
 unfolding permutedBlock
 returns-2 c =
-    let given = c .before .before .before .before .before .before .before .before .before .before .before .before .before .before .before .before .before .before in
     let index = c .before .before .before .before .before .before .before .before .before .before .before .before .before .before .index in
     let size = c .before .before .before .before .before .before .before .before .before .before .before .before .before .size in
     let if1 = c .before .before .before .before .before .before .before .before .before .before .before .before .if1 in
     let swap-columns2 = c .before .before .before .before .before .before .before .before .before .before .swap-columns2 in
     let gather-column2 = c .before .before .before .before .before .before .gather-column2 in
-    let args = given .args in
+    let args = c .before .before .before .before .before .before .before .before .before .before .before .before .before .before .before .before .before .before .args in
     let gather-column3 = c .before .before .gather-column3 in
     placed-two _ _ (size .ensures) (_+_ _) _ (if1 .left) (permuted-two _ _ (args .words .now) (args .k) (index .ensures) (swap-columns2 .ensures) (gather-column2 .ensures) (gather-column3 .ensures))
 

@@ -21,18 +21,16 @@ loop-holds c = (along-none (c .before .before .before .pre .0 .accepted), refl)
 
 permute-block-requires : tie.Need-permute-block-requires Inv-loop μ-loop
 permute-block-requires c κs =
-    let given = c .before .before .before .before .before .before in
-    let pre = given .pre in
+    let pre = c .before .before .before .before .before .before .pre in
     let loop = c .before .before .loop in
     (pre .0 .factor, (record { small = pre .1 .small; long = loop .inv .1 ∙ pre .1 .long }, block-at (pre .0 .accepted) (loop .inv .0 .boundary) (c .before .loop-test .taken)))
 
 loop-less : tie.Need-loop-less Inv-loop μ-loop
 loop-less c =
-    let given = c .before .before .before .before .before .before .before .before .before in
     let loop = c .before .before .before .before .before .loop in
     let loop-test = c .before .before .before .before .loop-test in
     let permute-block = c .before .before .permute-block in
-    let args = given .args in
+    let args = c .before .before .before .before .before .before .before .before .before .args in
     omega (arith, loop-test .taken, permute-block .ensures .row, rows-positive (args .words .now) (loop .k))
 
 loop-again : tie.Need-loop-again Inv-loop μ-loop
@@ -47,9 +45,8 @@ same-length c = c .before .loop .inv .1
 
 returns : tie.Need-returns Inv-loop μ-loop
 returns c =
-    let given = c .before .before .before .before .before in
     let loop = c .before .loop in
-    let pre = given .pre in
+    let pre = c .before .before .before .before .before .pre in
     record { long = loop .inv .1 ∙ pre .1 .long; cells = along-all (loop .inv .0) (c .loop-test .left) }
 
 pub permute-blocks-spec : {M : Type 1} → statement M

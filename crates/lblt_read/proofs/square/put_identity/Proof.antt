@@ -26,8 +26,7 @@ loop-holds c = turned-none (square-sound _ _ (c .before .before .clear .ensures 
 
 put-requires : tie.Need-put-requires Inv-loop μ-loop
 put-requires c κs =
-    let given = c .before .before .before .before .before .before .before .before in
-    let pre = given .pre in
+    let pre = c .before .before .before .before .before .before .before .before .pre in
     let loop = c .before .before .loop in
     let loop-test = c .before .loop-test in
     (squared-of (pre .small) (loop .inv .holds), (loop-test .taken, loop-test .taken))
@@ -47,8 +46,7 @@ loop-again c =
 
 same-length : tie.Need-same-length Inv-loop μ-loop
 same-length c =
-    let given = c .before .before .before .before .before .before .before in
-    let pre = given .pre in
+    let pre = c .before .before .before .before .before .before .before .pre in
     squared-of (pre .small) (c .before .loop .inv .holds) .long ∙ sym (pre .long)
 
 returns : tie.Need-returns Inv-loop μ-loop
