@@ -14,11 +14,12 @@ use Rattle.matrix.specs.Grid.{load, mask}
 use Rattle.matrix.specs.Layouts.{sizeOf, lower, upper, square}
 use Rattle.pivots.specs.Words.{paired, marked}
 use Rattle.pivots.specs.Rule.{blockOf, faultFrom, checked}
-use Rattle.lblt.specs.Choice.{choose, choiceBy, contest, rowMax, alongRow, downColumn, columnMax, greater}
+use Rattle.lblt_choice.specs.Choice.{choose, choiceBy, contest, rowMax, alongRow, downColumn, columnMax, greater}
 use Rattle.lblt.specs.Factor.{firstState, finalState, recorded}
-use Rattle.lblt.specs.Interchange.{interchange, brought1, brought2}
-use Rattle.lblt.specs.Step.{stepped, step, take, pivot1, pivot2, firstMark}
-use Rattle.lblt.specs.Update.{rank1At, rank1, scaleAt, eliminate1, update1, blockBy, blockAt, multiplier, work1, work2, rank2At, rank2By, rank2, update2}
+use Rattle.lblt_pivot.specs.Interchange.{interchange, brought1, brought2}
+use Rattle.lblt_pivot.specs.Pivot.{pivot1, pivot2}
+use Rattle.lblt.specs.Step.{stepped, step, take, firstMark}
+use Rattle.lblt_pivot.specs.Update.{rank1At, rank1, scaleAt, eliminate1, update1, blockBy, blockAt, multiplier, work1, work2, rank2At, rank2By, rank2, update2}
 use Rattle.pivots.specs.Blocks.{bySize, rowsOf, blocksFrom, forwards, blocksTo, backwards}
 use Rattle.matrix.specs.Columns.{eachColumn}
 use Rattle.substitution_one.specs.Steps.{lessOne, lessTwo, eliminateOne, eliminateTwo, divideOne, lessProduct, gatherRow}

@@ -17,7 +17,7 @@ use Rattle.matrix.specs.Grid.{load, mask}
 use Rattle.matrix.specs.Layouts.{full, inRoom, lower, square}
 use Rattle.matrix.specs.Sizes.{sizeTests}
 use Rattle.matrix.proofs.Sizes.{done-fits}
-use Rattle.lblt.specs.Choice.{columnMax}
+use Rattle.lblt_choice.specs.Choice.{columnMax}
 use Rattle.lblt.specs.Factor.{factorTests, finalState, recorded, Factored}
 use Rattle.lblt.proofs.Done.{Same}
 use Rattle.matrix.specs.Columns.{eachColumn}

@@ -12,8 +12,8 @@ use Rattle.leaf.specs.Root.{rootOf}
 use Rattle.matrix.specs.Grid.{load}
 use Rattle.matrix.specs.Layouts.{full, inRoom, lower}
 use Rattle.pivots.specs.Words.{wordsOf}
-use Rattle.lblt.specs.declared.choice.Largest.{Largest}
-use Rattle.lblt.specs.Choice.{columnMax}
+use Rattle.lblt_choice.specs.declared.Largest.{Largest}
+use Rattle.lblt_choice.specs.Choice.{columnMax}
 use Rattle.lblt.specs.Factor.{Factored}
 use Rattle.lblt_read.specs.Calls.{LbltDetermined}
 use Rattle.lblt_solve.specs.Solve.{LbltSolved}

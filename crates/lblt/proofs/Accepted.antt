@@ -21,12 +21,12 @@ use Rattle.answer.proofs.Tests.{either}
 use Rattle.pivots.specs.Words.{indexWord, sizeWord, markWord, markAt, Sized, paired, marked}
 use Rattle.pivots.specs.Rule.{Accepted}
 use Rattle.pivots.proofs.Written.{Written, Marks, written-none, written-one, written-two, written-zero, written-all}
-use Rattle.lblt.specs.Choice.{choose}
+use Rattle.lblt_choice.specs.Choice.{choose}
 use Rattle.lblt.specs.Step.{State, firstMark, take, step, stepped}
 use Rattle.lblt.specs.Factor.{firstState, finalState, recorded, Factored}
-use Rattle.lblt.specs.declared.choice.Choice.{Choice}
-use Rattle.lblt.specs.declared.choice.Choice.the-variants.{ZeroColumn, One, Two}
-use Rattle.lblt.proofs.Range.{Within, choose-range}
+use Rattle.lblt_choice.specs.declared.Choice.{Choice}
+use Rattle.lblt_choice.specs.declared.Choice.the-variants.{ZeroColumn, One, Two}
+use Rattle.lblt_choice.proofs.Range.{Within, choose-range}
 use Rattle.lblt.proofs.Stands.{step-rises}
 use Rattle.lblt.proofs.Done.{done-sized}
 

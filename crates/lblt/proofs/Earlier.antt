@@ -10,15 +10,16 @@ use Rattle.matrix.specs.Rounded.{_⊖_, _⊗_}
 use Rattle.answer.proofs.Tests.{either}
 use Rattle.matrix.proofs.Loops.{for-still}
 use Rattle.matrix.proofs.Stores.{entry-column, exchange-skip, swaps-skip, column-other}
-use Rattle.lblt.specs.Choice.{choose}
-use Rattle.lblt.specs.Interchange.{swapBelow, swapBetween, interchange, brought1, brought2}
-use Rattle.lblt.specs.Update.{blockAt, work1, work2, rank2At, rank2By, rank2, update2}
-use Rattle.lblt.specs.Step.{State, pivot1, pivot2, take, step}
-use Rattle.lblt.specs.declared.choice.Choice.{Choice}
-use Rattle.lblt.specs.declared.choice.Choice.the-variants.{ZeroColumn, One, Two}
-use Rattle.lblt.specs.declared.rank2.Block.{Block}
-use Rattle.lblt.proofs.Entries.{updated1}
-use Rattle.lblt.proofs.Range.{Within, choose-range}
+use Rattle.lblt_choice.specs.Choice.{choose}
+use Rattle.lblt_pivot.specs.Interchange.{swapBelow, swapBetween, interchange, brought1, brought2}
+use Rattle.lblt_pivot.specs.Update.{blockAt, work1, work2, rank2At, rank2By, rank2, update2}
+use Rattle.lblt_pivot.specs.Pivot.{pivot1, pivot2}
+use Rattle.lblt.specs.Step.{State, take, step}
+use Rattle.lblt_choice.specs.declared.Choice.{Choice}
+use Rattle.lblt_choice.specs.declared.Choice.the-variants.{ZeroColumn, One, Two}
+use Rattle.lblt_pivot.specs.declared.rank2.Block.{Block}
+use Rattle.lblt_pivot.proofs.Entries.{updated1}
+use Rattle.lblt_choice.proofs.Range.{Within, choose-range}
 
 module _ (n : ℕ) (row column : ℕ) where
   swap-earlier : (t p : ℕ) (M : Matrix) → column < t → t ≤ p → interchange n t p M row column ≡ M row column

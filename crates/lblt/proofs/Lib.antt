@@ -1,9 +1,3 @@
-pub mod Choices
-pub mod Range
-pub mod Interchanges
-pub mod Updates
-pub mod Entries
-pub mod Pairs
 pub mod Earlier
 pub mod Stands
 pub mod Going

@@ -11,12 +11,12 @@ use borrow.Author.Tests.{ltb-true, ltb-false, eqb-true, eqb-false}
 use Rattle.matrix.specs.Matrix.{Matrix}
 use Rattle.pivots.specs.Words.{wordsOf, Sized, paired, marked}
 use Rattle.pivots.proofs.Written.{paired-length}
-use Rattle.lblt.specs.Choice.{choose}
+use Rattle.lblt_choice.specs.Choice.{choose}
 use Rattle.lblt.specs.Step.{State, take, step, stepped}
 use Rattle.lblt.specs.Factor.{firstState, finalState, recorded}
-use Rattle.lblt.specs.declared.choice.Choice.{Choice}
-use Rattle.lblt.specs.declared.choice.Choice.the-variants.{ZeroColumn, One, Two}
-use Rattle.lblt.proofs.Range.{Within, choose-range}
+use Rattle.lblt_choice.specs.declared.Choice.{Choice}
+use Rattle.lblt_choice.specs.declared.Choice.the-variants.{ZeroColumn, One, Two}
+use Rattle.lblt_choice.proofs.Range.{Within, choose-range}
 use Rattle.lblt.proofs.Stands.{step-rises}
 
 -- two records of one length with the same first m words

@@ -4,28 +4,18 @@ use mathlib.Core.List.{List}
 use Prim.Native.Nat.{ℕ, _+_, _<_}
 use native.Mathlib.Omega.{arith}
 use lib.Ieee.{Float}
-use Rattle.matrix.specs.Grid.{Grid, Sound, Holds, load}
+use Rattle.matrix.specs.Grid.{Sound, Holds, load}
 use Rattle.matrix.specs.Layouts.{lower}
 use Rattle.matrix.specs.declared.Layout.{Layout}
-use Rattle.matrix.proofs.Grids.{holds-none, holds-then}
+use Rattle.matrix.proofs.Grids.{holds-none}
 use Rattle.pivots.specs.Words.{paired}
-use Rattle.lblt.specs.Choice.{choose}
-use Rattle.lblt.specs.Interchange.{brought1, brought2}
-use Rattle.lblt.specs.Update.{update1, update2}
-use Rattle.lblt.specs.Step.{State, firstMark, pivot1, pivot2, take, step}
+use Rattle.lblt_choice.specs.Choice.{choose}
+use Rattle.lblt_pivot.specs.Pivot.{pivot1, pivot2}
+use Rattle.lblt.specs.Step.{State, firstMark, take, step}
 use Rattle.lblt.specs.inner.Engine.{stateAt, Stands}
 use Rattle.lblt.specs.declared.Reached.{Reached}
-use Rattle.lblt.specs.declared.choice.Choice.{Choice}
-use Rattle.lblt.specs.declared.choice.Choice.the-variants.{ZeroColumn, One, Two}
-
-module _ {g : Grid} {l l₁ l₂ : List Float} (n k p : ℕ) where
-  pub pivots1 : Holds g l l₁ (brought1 n k p (load g l)) → Holds g l₁ l₂ (update1 n k (load g l₁)) → Holds g l l₂ (pivot1 n k p (load g l))
-  unfolding pivot1
-  pivots1 brought updated = holds-then (update1 n k) brought updated
-
-  pub pivots2 : Holds g l l₁ (brought2 n k p (load g l)) → Holds g l₁ l₂ (update2 n k (load g l₁)) → Holds g l l₂ (pivot2 n k p (load g l))
-  unfolding pivot2
-  pivots2 brought updated = holds-then (update2 n k) brought updated
+use Rattle.lblt_choice.specs.declared.Choice.{Choice}
+use Rattle.lblt_choice.specs.declared.Choice.the-variants.{ZeroColumn, One, Two}
 
 module _ {y : Layout} {a : List Float} (words : List ℕ) (s : Reached) {r : Choice} (made : r ≡ choose (y .order) (load (lower y) a) (s .row)) where
   stands-by : {a' : List Float} {words' : List ℕ} {s' : Reached} {choice : Choice} → r ≡ choice → Stands y a a' words' s' (take (y .order) (stateAt (load (lower y) a) words s) choice) → Stands y a a' words' s' (step (y .order) (stateAt (load (lower y) a) words s))

@@ -5,11 +5,10 @@ use Prim.Native.Nat.{ℕ, zero, suc, _+_}
 use lib.Dec.{ltb, eqb}
 use Rattle.matrix.specs.Matrix.{Matrix}
 use Rattle.pivots.specs.Words.{paired}
-use Rattle.lblt.specs.Choice.{choose}
-use Rattle.lblt.specs.Interchange.{brought1, brought2}
-use Rattle.lblt.specs.Update.{update1, update2}
-use Rattle.lblt.specs.declared.choice.Choice.{Choice}
-use Rattle.lblt.specs.declared.choice.Choice.the-variants.{ZeroColumn, One, Two}
+use Rattle.lblt_choice.specs.Choice.{choose}
+use Rattle.lblt_pivot.specs.Pivot.{pivot1, pivot2}
+use Rattle.lblt_choice.specs.declared.Choice.{Choice}
+use Rattle.lblt_choice.specs.declared.Choice.the-variants.{ZeroColumn, One, Two}
 
 -- `mark` is 0, or the first marked row + 1
 pub record State : Type 0 where
@@ -21,12 +20,6 @@ pub record State : Type 0 where
 -- the mark is set if unset
 unfoldable pub firstMark : ℕ → ℕ → ℕ
 firstMark mark k = cond (eqb mark 0) (k + 1) mark
-
-unfoldable pub pivot1 : ℕ → ℕ → ℕ → Matrix → Matrix
-pivot1 n k p M = update1 n k (brought1 n k p M)
-
-unfoldable pub pivot2 : ℕ → ℕ → ℕ → Matrix → Matrix
-pivot2 n k p M = update2 n k (brought2 n k p M)
 
 -- the state after a choice
 unfoldable pub take : ℕ → State → Choice → State

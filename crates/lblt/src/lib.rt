@@ -1,41 +1,16 @@
 // The Bunch–Kaufman factor of a symmetric matrix, in its lower triangle.
-ghost use Prim.Native.Nat.{_+_, _≤_, _<_};
-ghost use Rattle.matrix.specs.Grid.{Holds, load};
+ghost use Prim.Native.Nat.{_+_, _<_};
+ghost use Rattle.matrix.specs.Grid.{load};
 ghost use Rattle.matrix.specs.Layouts.{full, lower, Laid};
 ghost use Rattle.pivots.specs.Words.{Sized};
-ghost use Rattle.lblt.specs.Step.{pivot1, pivot2, step};
+ghost use Rattle.lblt.specs.Step.{step};
 ghost use Rattle.lblt.specs.inner.Engine.{Stands, stateAt, Steps};
 ghost use Rattle.lblt.specs.Factor.{Factored};
 use answer::Answer;
+use lblt_choice::Choice;
 use matrix::Layout;
 
-mod choice;
-mod interchange;
 mod notes;
-mod rank1;
-mod rank2;
-
-// A pivot of size 1: the interchange, then the update.
-fn pivot1(y: Layout, a: &mut [f64], k: usize, p: usize)
-    requires { ⌜ Laid y (now a) ⌝ }
-    requires { ⌜ k ≤ p ⌝ }
-    requires { ⌜ p < y .order ⌝ }
-    ensures { λ _. ⌜ Holds (lower y) (now (a .entry)) (now (a .exit)) (pivot1 (y .order) k p (load (lower y) (now (a .entry)))) ⌝ }
-{
-    interchange::bring1(y, a, k, p);
-    rank1::update1(y, a, k);
-}
-
-// A pivot of size 2: the interchange, then the update.
-fn pivot2(y: Layout, a: &mut [f64], k: usize, p: usize)
-    requires { ⌜ Laid y (now a) ⌝ }
-    requires { ⌜ k < p ⌝ }
-    requires { ⌜ p < y .order ⌝ }
-    ensures { λ _. ⌜ Holds (lower y) (now (a .entry)) (now (a .exit)) (pivot2 (y .order) k p (load (lower y) (now (a .entry)))) ⌝ }
-{
-    interchange::bring2(y, a, k, p);
-    rank2::update2(y, a, k);
-}
 
 // The row reached, and the first mark: 0, or the marked row + 1.
 struct Reached {
@@ -53,21 +28,21 @@ impl Reached {
     {
         let k = self.row;
         let mark = self.mark;
-        match choice::choose(y, a, k) {
-            choice::Choice::ZeroColumn => {
+        match lblt_choice::choose(y, a, k) {
+            Choice::ZeroColumn => {
                 notes::one(words, k, k);
                 Reached {
                     row: k + 1,
                     mark: notes::first_mark(mark, k),
                 }
             }
-            choice::Choice::One(p) => {
-                pivot1(y, a, k, p);
+            Choice::One(p) => {
+                lblt_pivot::pivot1(y, a, k, p);
                 notes::one(words, k, p);
                 Reached { row: k + 1, mark }
             }
-            choice::Choice::Two(p) => {
-                pivot2(y, a, k, p);
+            Choice::Two(p) => {
+                lblt_pivot::pivot2(y, a, k, p);
                 notes::two(words, k, p);
                 Reached { row: k + 2, mark }
             }

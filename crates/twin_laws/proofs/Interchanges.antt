@@ -8,7 +8,7 @@ use lib.Dec.{eqb}
 use borrow.Author.Tests.{eqb-true, eqb-false}
 use Rattle.matrix.specs.Matrix.{Matrix, exchange}
 use Rattle.matrix.specs.Loop.{for}
-use Rattle.lblt.specs.Interchange.{swapBelow, swapBetween, interchange, brought1, brought2}
+use Rattle.lblt_pivot.specs.Interchange.{swapBelow, swapBetween, interchange, brought1, brought2}
 use Rattle.answer.proofs.Tests.{either}
 use Rattle.matrix.proofs.Stores.{exchange-skip, exchange-first, exchange-second, Apart, swaps-skip, swaps-first, swaps-second}
 use Rattle.twins.specs.Twins.{symmetric}

@@ -11,13 +11,13 @@ use borrow.Author.Tests.{eq-eqb}
 use Rattle.matrix.specs.Matrix.{Matrix, entry}
 use Rattle.matrix.specs.Loop.{for}
 use Rattle.matrix.specs.Rounded.{_⊕_, _⊖_, _⊗_, _⊘_, one}
-use Rattle.lblt.specs.declared.rank2.Block.{Block}
-use Rattle.lblt.specs.Interchange.{interchange, brought1, brought2}
-use Rattle.lblt.specs.Step.{pivot1, pivot2}
-use Rattle.lblt.specs.Update.{update1, blockAt, work1, work2, rank2At, rank2By, rank2, update2}
+use Rattle.lblt_pivot.specs.declared.rank2.Block.{Block}
+use Rattle.lblt_pivot.specs.Interchange.{interchange, brought1, brought2}
+use Rattle.lblt_pivot.specs.Pivot.{pivot1, pivot2}
+use Rattle.lblt_pivot.specs.Update.{update1, blockAt, work1, work2, rank2At, rank2By, rank2, update2}
 use Rattle.matrix.proofs.Loops.{for-still, for-at}
 use Rattle.matrix.proofs.Stores.{entry-here, entry-skip, entry-column, column-other, row-other, row-here}
-use Rattle.lblt.proofs.Entries.{Updated1, updated1}
+use Rattle.lblt_pivot.proofs.Entries.{Updated1, updated1}
 use Rattle.lblt.proofs.Earlier.{pivot1-earlier, pivot2-earlier}
 use Rattle.twins.specs.Twins.{symmetric}
 use Rattle.twins.proofs.Clauses.{at-lower, at-upper}

@@ -15,15 +15,16 @@ use Rattle.matrix.specs.Matrix.{Matrix}
 use Rattle.matrix.specs.Loop.{turns, for}
 use Rattle.pivots.specs.Words.{paired, marked}
 use Rattle.matrix.specs.Rounded.{_⊗_, _⊘_, plusZero, one}
-use Rattle.lblt.specs.Choice.{α, columnMax, choiceBy, choose, contest, rowMax}
-use Rattle.lblt.specs.declared.choice.Choice.{Choice}
-use Rattle.lblt.specs.declared.choice.Choice.the-variants.{ZeroColumn, One}
-use Rattle.lblt.specs.Interchange.{brought1}
-use Rattle.lblt.specs.Step.{State, firstMark, pivot1, take, step, stepped}
-use Rattle.lblt.specs.Update.{update1, eliminate1}
+use Rattle.lblt_choice.specs.Choice.{α, columnMax, choiceBy, choose, contest, rowMax}
+use Rattle.lblt_choice.specs.declared.Choice.{Choice}
+use Rattle.lblt_choice.specs.declared.Choice.the-variants.{ZeroColumn, One}
+use Rattle.lblt_pivot.specs.Interchange.{brought1}
+use Rattle.lblt_pivot.specs.Pivot.{pivot1}
+use Rattle.lblt.specs.Step.{State, firstMark, take, step, stepped}
+use Rattle.lblt_pivot.specs.Update.{update1, eliminate1}
 use Rattle.lblt.specs.Factor.{firstState, finalState, recorded}
-use Rattle.lblt.proofs.Entries.{updated1}
-use Rattle.lblt.proofs.Range.{never-below}
+use Rattle.lblt_pivot.proofs.Entries.{updated1}
+use Rattle.lblt_choice.proofs.Range.{never-below}
 use Rattle.twin_laws.proofs.Share.{share-not-above}
 use Rattle.twin_laws.proofs.Lblt.{trail, in-place1}
 

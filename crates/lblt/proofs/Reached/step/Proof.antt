@@ -1,7 +1,7 @@
 -- `step` meets its contract: the three choices. Assumes nothing.
 use borrow.Author.Needs.{needs}
 use native.Mathlib.Omega.{arith}
-use Rattle.lblt.proofs.Range.{one-range, two-range}
+use Rattle.lblt_choice.proofs.Range.{one-range, two-range}
 use Rattle.lblt.proofs.Stands.{stands-zero-column, stands-one, stands-two}
 use Rattle.lblt.proofs.Reached.step.Statement.{statement}
 use Rattle.lblt.proofs.Reached.step.Tie as tie

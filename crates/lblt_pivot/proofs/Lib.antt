@@ -1,0 +1,5 @@
+pub mod Interchanges
+pub mod Updates
+pub mod Entries
+pub mod Pairs
+pub mod Pivots

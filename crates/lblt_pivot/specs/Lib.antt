@@ -1,0 +1,4 @@
+pub mod Interchange
+pub mod Update
+pub mod Pivot
+pub mod inner
