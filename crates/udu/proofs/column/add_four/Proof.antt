@@ -64,7 +64,7 @@ source-requires-3 : tie.Need-source-requires-3
 source-requires-3 c κs =
     let args = c .before .before .before .before .before .before .before .args in
     let pre = c .before .before .before .before .before .before .before .pre in
-    (omega (arith, pre .0), (omega (arith, pre .1 .0), (pre .1 .1 .0, (pre .1 .1 .1 .0, (pre .1 .1 .1 .1, omega (arith, add-mul (args .k) 2 (args .n)))))))
+    (omega (arith, pre .0), (omega (arith, pre .1 .0), (pre .1 .1 .0, (pre .1 .1 .1 .0, (pre .1 .1 .1 .1, omega (arith, add-mul (args .k) 2 (args .n), add-mul (args .k) 3 (args .n)))))))
 
 add-source-5 : tie.Need-add-source-5
 add-source-5 c =
@@ -86,7 +86,7 @@ source-requires-4 : tie.Need-source-requires-4
 source-requires-4 c κs =
     let args = c .before .before .before .before .before .before .before .before .before .args in
     let pre = c .before .before .before .before .before .before .before .before .before .pre in
-    (omega (arith, pre .0), (omega (arith, pre .1 .0), (pre .1 .1 .0, (pre .1 .1 .1 .0, (pre .1 .1 .1 .1, omega (arith, add-mul (args .k) 3 (args .n)))))))
+    (omega (arith, pre .0), (omega (arith, pre .1 .0), (pre .1 .1 .0, (pre .1 .1 .1 .0, (pre .1 .1 .1 .1, omega (arith, add-mul (args .k) 2 (args .n), add-mul (args .k) 3 (args .n)))))))
 
 axpy4-requires : tie.Need-axpy4-requires
 axpy4-requires c κs =
