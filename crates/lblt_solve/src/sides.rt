@@ -19,6 +19,7 @@ pub fn solve(y: Layout, a: &[f64], words: &[u32], b: &mut [f64], columns: usize)
         solve_columns(y, a, words, b, columns);
         return;
     }
+    // just four columns are one group of four, which pays from order 5 on
     let small = if columns == 4 { 5 } else { 8 };
     if y.order < small {
         solve_rows(y, a, words, b, columns);

@@ -3,9 +3,10 @@
 --     strip-none, strip-more, strip-all         no row, one row more, all rows
 --     strip-ahead, strip-apart                  a row that is not done yet, a row of another column
 --     strip-nothing, strip-then, strip-as, strip-join   strips that meet
+--     plus-kept                                 what another column adds, before and after
 --     axpy-row, axpy4-row, ratio-row            what the loops store
 --     strip-holds                               a strip of a column of a grid
---     cleared-square                            a square matrix that is cleared
+--     cleared, cleared-square                   a slice, a square matrix that is cleared
 use mathlib.Core.Path.{_≡_, refl, sym, _∙_, ap, ap₂, subst}
 use mathlib.Core.Bool.{Bool, true, false}
 use mathlib.Core.List.{List}
