@@ -3,7 +3,7 @@ use mathlib.Core.Bool.{Bool}
 use Prim.Native.Nat.{ℕ, _+_, _*_}
 use lib.Dec.{eqb}
 use Rattle.answer.specs.declared.Answer.{Answer}
-use Rattle.answer.specs.declared.Answer.the-variants.{Done, OutOfRange, OrderAboveRoom, MatrixLength, SliceLength, BadRecord, ZeroMark, NotPositive, ZeroDiagonal, BadLine}
+use Rattle.answer.specs.declared.Answer.the-variants.{Done, OutOfRange, OrderAboveRoom, MatrixLength, SliceLength, BadRecord, ZeroMark, CholeskyZero, ZeroDiagonal, CholeskyBelowZero, CholeskyNan, BadLine}
 
 abbrev pub codeOf : Answer → ℕ
 codeOf Done = 0
@@ -13,8 +13,10 @@ codeOf MatrixLength = 3
 codeOf SliceLength = 4
 codeOf (BadRecord row) = 5
 codeOf (ZeroMark row) = 6
-codeOf (NotPositive column) = 7
+codeOf (CholeskyZero column) = 7
 codeOf (ZeroDiagonal column) = 8
+codeOf (CholeskyBelowZero column) = 10
+codeOf (CholeskyNan column) = 11
 codeOf (BadLine line) = 20
 
 -- done in every promise: code 0
@@ -30,8 +32,10 @@ placeOf MatrixLength = 0
 placeOf SliceLength = 0
 placeOf (BadRecord row) = row
 placeOf (ZeroMark row) = row
-placeOf (NotPositive column) = column
+placeOf (CholeskyZero column) = column
 placeOf (ZeroDiagonal column) = column
+placeOf (CholeskyBelowZero column) = column
+placeOf (CholeskyNan column) = column
 placeOf (BadLine line) = line
 
 abbrev pub numberOf : Answer → ℕ

@@ -17,10 +17,14 @@ pub enum Answer {
     BadRecord(u32),
     // Solve: a zero mark stands, at this row of the factor.
     ZeroMark(u32),
-    // Cholesky: the diagonal at this column is zero, negative or NaN.
-    NotPositive(u32),
+    // Cholesky: the diagonal at this column is zero, of either sign.
+    CholeskyZero(u32),
     // UDU: the diagonal at this column is zero.
     ZeroDiagonal(u32),
+    // Cholesky: the diagonal at this column is below zero.
+    CholeskyBelowZero(u32),
+    // Cholesky: the diagonal at this column is NaN.
+    CholeskyNan(u32),
     // The sheet's first wrong line, from 1.
     BadLine(u32),
 }
@@ -43,8 +47,10 @@ impl Answer {
             Answer::SliceLength => 4,
             Answer::BadRecord(_) => 5,
             Answer::ZeroMark(_) => 6,
-            Answer::NotPositive(_) => 7,
+            Answer::CholeskyZero(_) => 7,
             Answer::ZeroDiagonal(_) => 8,
+            Answer::CholeskyBelowZero(_) => 10,
+            Answer::CholeskyNan(_) => 11,
             Answer::BadLine(_) => 20,
         }
     }
@@ -60,8 +66,10 @@ impl Answer {
             Answer::SliceLength => 0,
             Answer::BadRecord(row) => row,
             Answer::ZeroMark(row) => row,
-            Answer::NotPositive(column) => column,
+            Answer::CholeskyZero(column) => column,
             Answer::ZeroDiagonal(column) => column,
+            Answer::CholeskyBelowZero(column) => column,
+            Answer::CholeskyNan(column) => column,
             Answer::BadLine(line) => line,
         }
     }

@@ -1,4 +1,4 @@
--- Twin rows, worked: [x / x x] for x = 1, 2, 3, 7, 49, by each factor; a first batch by Cholesky; two more by UDU.
+-- Twin rows, worked: [x / x x] for x = 1, 2, 3, 7, 49, by each factor; infinity and a first batch by Cholesky; two more by UDU.
 use mathlib.Core.List.{List, [], _∷_}
 use Prim.Native.Nat.{ℕ}
 use Rattle.cases.specs.Calls.{stray, lbltFactor, choleskyFactor, uduFactor, Case, _⇒_}
@@ -42,7 +42,7 @@ twinTable =
     ∷ (uduFactor 2 (twinsAbove bits.two) ⇒ refused 8 0 ∷ (bits.zero ∷ bits.zero ∷ bits.one ∷ bits.one ∷ []) ∷ (bits.zero ∷ bits.two ∷ []) ∷ [])
     -- x = 3
     ∷ (lbltFactor 2 (twins bits.three) ⇒ done ∷ (0 ∷ 1 ∷ 1 ∷ 1 ∷ 2 ∷ []) ∷ (bits.three ∷ bits.one ∷ stray ∷ bits.zero ∷ []) ∷ [])
-    ∷ (choleskyFactor 2 2 (twins bits.three) ⇒ refused 7 1 ∷ (0x3ffb_b67a_e858_4caa ∷ 0x3ffb_b67a_e858_4cab ∷ stray ∷ 0xbcc0_0000_0000_0000 ∷ []) ∷ [])
+    ∷ (choleskyFactor 2 2 (twins bits.three) ⇒ refused 10 1 ∷ (0x3ffb_b67a_e858_4caa ∷ 0x3ffb_b67a_e858_4cab ∷ stray ∷ 0xbcc0_0000_0000_0000 ∷ []) ∷ [])
     ∷ (uduFactor 2 (twinsAbove bits.three) ⇒ refused 8 0 ∷ (bits.zero ∷ bits.zero ∷ bits.one ∷ bits.one ∷ []) ∷ (bits.zero ∷ bits.three ∷ []) ∷ [])
     -- x = 7
     ∷ (lbltFactor 2 (twins bits.seven) ⇒ done ∷ (0 ∷ 1 ∷ 1 ∷ 1 ∷ 2 ∷ []) ∷ (bits.seven ∷ bits.one ∷ stray ∷ bits.zero ∷ []) ∷ [])
@@ -52,6 +52,8 @@ twinTable =
     ∷ (lbltFactor 2 (twins bits.fortyNine) ⇒ done ∷ (0 ∷ 1 ∷ 1 ∷ 1 ∷ 0 ∷ []) ∷ (bits.fortyNine ∷ bits.belowOne ∷ stray ∷ 0x3d00_0000_0000_0000 ∷ []) ∷ [])
     ∷ (choleskyFactor 2 2 (twins bits.fortyNine) ⇒ refused 7 1 ∷ (bits.seven ∷ bits.seven ∷ stray ∷ bits.zero ∷ []) ∷ [])
     ∷ (uduFactor 2 (twinsAbove bits.fortyNine) ⇒ done ∷ (bits.one ∷ bits.zero ∷ bits.belowOne ∷ bits.belowOne ∷ []) ∷ (0x3d10_0000_0000_0000 ∷ bits.fortyNine ∷ []) ∷ [])
+    -- x = ∞, by Cholesky
+    ∷ (choleskyFactor 2 2 (twins bits.infinity) ⇒ refused 11 1 ∷ (bits.infinity ∷ bits.nan ∷ stray ∷ bits.nan ∷ []) ∷ [])
     -- x = 0006200000000000, below the normal numbers: (1/x)·x, which is u(0,1), is not 1, and what is left is zero all the same
     ∷ (uduFactor 2 (twinsAbove 0x0006_2000_0000_0000) ⇒ refused 8 0 ∷ (bits.zero ∷ bits.zero ∷ bits.belowOne ∷ bits.belowOne ∷ []) ∷ (bits.zero ∷ 0x0006_2000_0000_0000 ∷ []) ∷ [])
     -- row 0 factored, of 2 and of 4, with row 1 beside it as it came

@@ -1,5 +1,6 @@
 pub mod Parts
 pub mod Outcomes
+pub mod Diagonal
 pub mod Judging
 pub mod Columns
 pub mod Running

@@ -1,29 +1,29 @@
 -- Where a run is refused: at a column whose diagonal the rule turns down. Assumes nothing.
 use mathlib.Core.Path.{_≡_, refl, sym, _∙_, ap, subst}
-use mathlib.Core.Bool.{false, true≢false}
+use mathlib.Core.Bool.{false}
 use mathlib.Core.List.{List}
 use Prim.Native.Nat.{ℕ, _≤_, _<_}
 use native.Mathlib.Omega.{arith}
 use lib.Dec.{T, ltb}
 use lib.ListN.{length}
-use lib.Ieee.{Float, lt}
+use lib.Ieee.{Float}
 use borrow.Author.Tests.{ltb-false}
 use Rattle.answer.specs.declared.Answer.{Answer}
-use Rattle.answer.specs.declared.Answer.the-variants.{Done, NotPositive}
+use Rattle.answer.specs.declared.Answer.the-variants.{Done}
 use Rattle.answer.specs.Number.{placeOf, isDone}
 use Rattle.matrix.specs.declared.Layout.{Layout}
 use Rattle.matrix.specs.Matrix.{Matrix}
 use Rattle.matrix.specs.Loop.{for}
 use Rattle.matrix.specs.Grid.{load}
 use Rattle.matrix.specs.Layouts.{lower}
-use Rattle.matrix.specs.Rounded.{plusZero}
 use Rattle.matrix.specs.Sizes.{Fits}
 use Rattle.answer.proofs.Tests.{either}
 use Rattle.matrix.proofs.Loops.{for-keeps}
 use Rattle.cholesky.specs.Run.{Rule, Outcome, updates, continued, judgedColumn, worked, factorColumn, started, factorColumns}
-use Rattle.cholesky.specs.Crate.{positive, crateRule}
+use Rattle.cholesky.specs.Crate.{crateRule}
 use Rattle.cholesky.specs.Promise.{Extended}
 use Rattle.cholesky.specs.Batches.{RefusedIn}
+use Rattle.cholesky.proofs.Diagonal.{positive-place}
 use Rattle.cholesky.proofs.Promises.{extended-answer}
 
 -- done, or the rule's refusal of a diagonal at one of the columns lo to hi
@@ -52,14 +52,10 @@ module _ (ρ : Rule) (m lo hi first : ℕ) (bound : (j : ℕ) → lo ≤ j → m
 
 -- ---- the crate's rule
 
-pub positive-refused : (d : Float) (j : ℕ) → isDone (positive d j) ≡ false → positive d j ≡ NotPositive j
-unfolding positive
-positive-refused d j = either (λ (r : Answer). isDone r ≡ false → r ≡ NotPositive j) (lt plusZero d) (λ e failed. absurd (true≢false failed)) (λ e failed. refl)
-
 pub refused-in : {lo hi : ℕ} {r : Answer} → Answered crateRule lo hi r → RefusedIn lo hi r
 refused-in (done is) failed = absurd (subst T (sym (ap isDone is) ∙ failed) tt)
 refused-in {lo} {hi} {r} (refused d j from upto turned is) failed =
-    let place : placeOf r ≡ j = ap placeOf (is ∙ positive-refused d j turned) in
+    let place : placeOf r ≡ j = ap placeOf is ∙ positive-place d j turned in
     (omega arith, omega arith)
 
 -- ---- the call

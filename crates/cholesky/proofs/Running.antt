@@ -19,7 +19,6 @@ use Rattle.matrix.proofs.Loops.{for-none, for-one, for-join}
 use Rattle.cholesky.specs.declared.engine.Verdict.{Verdict}
 use Rattle.cholesky.specs.declared.engine.Step.{Step}
 use Rattle.cholesky.specs.Run.{Rule, Outcome, updates, below, continued, judgedColumn, worked, factorColumn, started, factorColumns}
-use Rattle.cholesky.specs.Crate.{crateRule}
 use Rattle.cholesky.specs.Leaves.{Leaves}
 use Rattle.cholesky.specs.inner.Engine.{Judgement, Ends, Advanced}
 use Rattle.cholesky.proofs.Parts.{leaves-agree, leaves-none, leaves-then}
@@ -27,16 +26,16 @@ use Rattle.cholesky.proofs.Outcomes.{Like, refusal-stays, judged-like, 
 
 -- ---- one column
 
-module _ (y : Layout) (l₀ : List Float) (j : ℕ) (d : Float) (v : Verdict) (is : d ≡ load (lower y) l₀ j j) (by : Judgement d j v) where
-  verdict-is : v .answer ≡ crateRule .verdict (load (lower y) l₀ j j) j
-  verdict-is = by .answer ∙ ap (λ (d : Float). crateRule .verdict d j) is
+module _ (ρ : Rule) (y : Layout) (l₀ : List Float) (j : ℕ) (d : Float) (v : Verdict) (is : d ≡ load (lower y) l₀ j j) (by : Judgement ρ d j v) where
+  verdict-is : v .answer ≡ ρ .verdict (load (lower y) l₀ j j) j
+  verdict-is = by .answer ∙ ap (λ (d : Float). ρ .verdict d j) is
 
   pub finish-done : {l l' : List Float} → isDone (v .answer) ≡ true
-      → Holds (lower y) l₀ l (entry (load (lower y) l₀) j j (v .root)) → Leaves y l l' (below (j + 1) j (load (lower y) l)) → Ends y l₀ l' Done (judgedColumn crateRule j (load (lower y) l₀))
+      → Holds (lower y) l₀ l (entry (load (lower y) l₀) j j (v .root)) → Leaves y l l' (below (j + 1) j (load (lower y) l)) → Ends y l₀ l' Done (judgedColumn ρ j (load (lower y) l₀))
   unfolding judgedColumn
   finish-done {l} {l'} passes put step =
-      let rooted : load (lower y) l ≡ entry (load (lower y) l₀) j j (crateRule .root (load (lower y) l₀ j j)) =
-      put .cells ∙ ap (entry (load (lower y) l₀) j j) (by .root passes ∙ ap (crateRule .root) is) in
+      let rooted : load (lower y) l ≡ entry (load (lower y) l₀) j j (ρ .root (load (lower y) l₀ j j)) =
+      put .cells ∙ ap (entry (load (lower y) l₀) j j) (by .root passes ∙ ap (ρ .root) is) in
       rw (ap isDone (sym verdict-is) ∙ passes)
       (record {
         answer = refl;
@@ -49,7 +48,7 @@ module _ (y : Layout) (l₀ : List Float) (j : ℕ) (d : Float) (v : Verdict) (i
         };
       })
 
-  pub finish-refused : Sound (lower y) l₀ → isDone (v .answer) ≡ false → Ends y l₀ l₀ (v .answer) (judgedColumn crateRule j (load (lower y) l₀))
+  pub finish-refused : Sound (lower y) l₀ → isDone (v .answer) ≡ false → Ends y l₀ l₀ (v .answer) (judgedColumn ρ j (load (lower y) l₀))
   unfolding judgedColumn
   finish-refused good refused =
       rw (ap isDone (sym verdict-is) ∙ refused)
@@ -87,43 +86,43 @@ advance-judged {y} {l₀} {l} {l'} {r} ρ m j le lt updated finished =
 -- ---- the columns
 
 -- the columns before j are done, none was refused
-pub record Running (y : Layout) (m : ℕ) (l₀ : List Float) (j : ℕ) (l : List Float) : Type 0 where
+pub record Running (ρ : Rule) (y : Layout) (m : ℕ) (l₀ : List Float) (j : ℕ) (l : List Float) : Type 0 where
   pub upto : j ≤ y .order
-  pub ends : Ends y l₀ l Done (for 0 j (factorColumn crateRule m) (started (load (lower y) l₀)))
+  pub ends : Ends y l₀ l Done (for 0 j (factorColumn ρ m) (started (load (lower y) l₀)))
 
-pub running-none : {y : Layout} {m : ℕ} {l : List Float} → Sound (lower y) l → Running y m l 0 l
-running-none {y} {m} {l} good = record {
+pub running-none : {ρ : Rule} {y : Layout} {m : ℕ} {l : List Float} → Sound (lower y) l → Running ρ y m l 0 l
+running-none {ρ} {y} {m} {l} good = record {
   upto = omega arith;
-  ends = subst (Ends y l l Done) (sym (for-none 0 (factorColumn crateRule m) (started (load (lower y) l)))) (record { answer = refl; leaves = leaves-none good });
+  ends = subst (Ends y l l Done) (sym (for-none 0 (factorColumn ρ m) (started (load (lower y) l)))) (record { answer = refl; leaves = leaves-none good });
 }
 
 -- some more columns, refused or not
-running-on : {y : Layout} {m : ℕ} {l₀ : List Float} {j : ℕ} {l l' : List Float} {s : Step} → Running y m l₀ j l → Advanced y m j l l' s
-    → Ends y l₀ l' (s .answer) (for 0 (s .next) (factorColumn crateRule m) (started (load (lower y) l₀)))
-running-on {y} {m} {l₀} {j} {l} {l'} {s} u a =
-    let o : Outcome = for 0 j (factorColumn crateRule m) (started (load (lower y) l₀)) in
-    let same : Like (y .order) (for j (s .next) (factorColumn crateRule m) (started (load (lower y) l))) (for j (s .next) (factorColumn crateRule m) o) =
-    columns-like crateRule m j (s .next) (a .within) (record { answer = u .ends .answer; cells = leaves-agree (u .ends .leaves) }) in
-    subst (Ends y l₀ l' (s .answer)) (for-join 0 j (s .next) (factorColumn crateRule m) (started (load (lower y) l₀)) (omega arith) (let h = a .onward in omega arith))
+running-on : {ρ : Rule} {y : Layout} {m : ℕ} {l₀ : List Float} {j : ℕ} {l l' : List Float} {s : Step} → Running ρ y m l₀ j l → Advanced ρ y m j l l' s
+    → Ends y l₀ l' (s .answer) (for 0 (s .next) (factorColumn ρ m) (started (load (lower y) l₀)))
+running-on {ρ} {y} {m} {l₀} {j} {l} {l'} {s} u a =
+    let o : Outcome = for 0 j (factorColumn ρ m) (started (load (lower y) l₀)) in
+    let same : Like (y .order) (for j (s .next) (factorColumn ρ m) (started (load (lower y) l))) (for j (s .next) (factorColumn ρ m) o) =
+    columns-like ρ m j (s .next) (a .within) (record { answer = u .ends .answer; cells = leaves-agree (u .ends .leaves) }) in
+    subst (Ends y l₀ l' (s .answer)) (for-join 0 j (s .next) (factorColumn ρ m) (started (load (lower y) l₀)) (omega arith) (let h = a .onward in omega arith))
     (record { answer = a .ends .answer ∙ same .answer; leaves = leaves-then (u .ends .leaves) (a .ends .leaves) (same .cells) })
 
-pub running-more : {y : Layout} {m : ℕ} {l₀ : List Float} {j : ℕ} {l l' : List Float} {s : Step} → Running y m l₀ j l → Advanced y m j l l' s → isDone (s .answer) ≡ true
-    → Running y m l₀ (s .next) l'
-running-more {y} {m} {l₀} {l' = l'} {s = s} u a done = record {
+pub running-more : {ρ : Rule} {y : Layout} {m : ℕ} {l₀ : List Float} {j : ℕ} {l l' : List Float} {s : Step} → Running ρ y m l₀ j l → Advanced ρ y m j l l' s → isDone (s .answer) ≡ true
+    → Running ρ y m l₀ (s .next) l'
+running-more {ρ} {y} {m} {l₀} {l' = l'} {s = s} u a done = record {
   upto = a .within;
-  ends = subst (λ (r : Answer). Ends y l₀ l' r (for 0 (s .next) (factorColumn crateRule m) (started (load (lower y) l₀)))) (done-is (s .answer) done) (running-on u a);
+  ends = subst (λ (r : Answer). Ends y l₀ l' r (for 0 (s .next) (factorColumn ρ m) (started (load (lower y) l₀)))) (done-is (s .answer) done) (running-on u a);
 }
 
-pub running-refused : {y : Layout} {m : ℕ} {l₀ : List Float} {j : ℕ} {l l' : List Float} {s : Step} → Running y m l₀ j l → Advanced y m j l l' s → isDone (s .answer) ≡ false
-    → Ends y l₀ l' (s .answer) (factorColumns crateRule m (y .order) (load (lower y) l₀))
+pub running-refused : {ρ : Rule} {y : Layout} {m : ℕ} {l₀ : List Float} {j : ℕ} {l l' : List Float} {s : Step} → Running ρ y m l₀ j l → Advanced ρ y m j l l' s → isDone (s .answer) ≡ false
+    → Ends y l₀ l' (s .answer) (factorColumns ρ m (y .order) (load (lower y) l₀))
 unfolding factorColumns
-running-refused {y} {m} {l₀} {l' = l'} {s = s} u a refused =
-    let e : Ends y l₀ l' (s .answer) (for 0 (s .next) (factorColumn crateRule m) (started (load (lower y) l₀))) = running-on u a in
-    let o : Outcome = for 0 (s .next) (factorColumn crateRule m) (started (load (lower y) l₀)) in
+running-refused {ρ} {y} {m} {l₀} {l' = l'} {s = s} u a refused =
+    let e : Ends y l₀ l' (s .answer) (for 0 (s .next) (factorColumn ρ m) (started (load (lower y) l₀))) = running-on u a in
+    let o : Outcome = for 0 (s .next) (factorColumn ρ m) (started (load (lower y) l₀)) in
     subst (Ends y l₀ l' (s .answer))
-    (sym (refusal-stays crateRule m (s .next) (y .order) o (ap isDone (sym (e .answer)) ∙ refused)) ∙ for-join 0 (s .next) (y .order) (factorColumn crateRule m) (started (load (lower y) l₀)) (omega arith) (a .within))
+    (sym (refusal-stays ρ m (s .next) (y .order) o (ap isDone (sym (e .answer)) ∙ refused)) ∙ for-join 0 (s .next) (y .order) (factorColumn ρ m) (started (load (lower y) l₀)) (omega arith) (a .within))
     e
 
-pub running-all : {y : Layout} {m : ℕ} {l₀ : List Float} {j : ℕ} {l : List Float} → Running y m l₀ j l → y .order ≤ j → Ends y l₀ l Done (factorColumns crateRule m (y .order) (load (lower y) l₀))
+pub running-all : {ρ : Rule} {y : Layout} {m : ℕ} {l₀ : List Float} {j : ℕ} {l : List Float} → Running ρ y m l₀ j l → y .order ≤ j → Ends y l₀ l Done (factorColumns ρ m (y .order) (load (lower y) l₀))
 unfolding factorColumns
-running-all {y} {m} {l₀} {j} {l} u past = subst (λ (k : ℕ). Ends y l₀ l Done (for 0 k (factorColumn crateRule m) (started (load (lower y) l₀)))) (omega (arith, u .upto)) (u .ends)
+running-all {ρ} {y} {m} {l₀} {j} {l} u past = subst (λ (k : ℕ). Ends y l₀ l Done (for 0 k (factorColumn ρ m) (started (load (lower y) l₀)))) (omega (arith, u .upto)) (u .ends)

@@ -1,15 +1,15 @@
--- The crate's own rule: a diagonal that is zero, below zero or NaN is refused.
+-- The crate's own rule: a diagonal above zero passes. Zero of either sign, below zero and NaN are refused, each by its own code.
 use mathlib.Core.Bool.{cond}
 use Prim.Native.Nat.{ℕ}
-use lib.Ieee.{Float, lt}
+use lib.Ieee.{Float, lt, eq}
 use Rattle.answer.specs.declared.Answer.{Answer}
-use Rattle.answer.specs.declared.Answer.the-variants.{Done, NotPositive}
+use Rattle.answer.specs.declared.Answer.the-variants.{Done, CholeskyZero, CholeskyBelowZero, CholeskyNan}
 use Rattle.matrix.specs.Rounded.{plusZero}
 use Rattle.leaf.specs.Root.{rootOf}
 use Rattle.cholesky.specs.Run.{Rule}
 
 unfoldable pub positive : Float → ℕ → Answer
-positive d j = cond (lt plusZero d) Done (NotPositive j)
+positive d j = cond (lt plusZero d) Done (cond (eq d plusZero) (CholeskyZero j) (cond (lt d plusZero) (CholeskyBelowZero j) (CholeskyNan j)))
 
 abbrev pub crateRule : Rule
 crateRule = record { verdict = positive; root = rootOf }

@@ -1,6 +1,7 @@
 pub mod Column
 pub mod Run
 pub mod Crate
+pub mod Diagonal
 pub mod Leaves
 pub mod Promise
 pub mod Batches

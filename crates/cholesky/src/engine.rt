@@ -1,10 +1,11 @@
 // The columns of a batch, one after the other.
+ghost use mathlib.Core.Path.{_≡_};
 ghost use Prim.Native.Nat.{_+_, _≤_, _<_};
 ghost use Rattle.matrix.specs.Grid.{load};
 ghost use Rattle.matrix.specs.Layouts.{lower, Laid};
 ghost use Rattle.cholesky.specs.Column.{part};
 ghost use Rattle.cholesky.specs.Run.{updates, below, judgedColumn, factorColumns};
-ghost use Rattle.cholesky.specs.Crate.{crateRule};
+ghost use Rattle.cholesky.specs.Crate.{positive, crateRule};
 ghost use Rattle.cholesky.specs.Leaves.{Leaves};
 ghost use Rattle.cholesky.specs.inner.Engine.{Reach, Sourced, lessColumns, TakenOff, Judgement, Ends, Advanced};
 use answer::Answer;
@@ -23,19 +24,38 @@ pub struct Step {
     pub next: usize,
 }
 
-// The diagonal of column j.
+// What is answered to the diagonal d of column j.
+fn positive(d: f64, j: usize) -> Answer
+    requires { ⌜ j ≤ 1024 ⌝ }
+    ensures { λ r. ⌜ r ≡ positive d j ⌝ }
+{
+    let column = j as u32;
+    if 0.0 < d {
+        return Answer::Done;
+    }
+    if d == 0.0 {
+        return Answer::CholeskyZero(column);
+    }
+    if d < 0.0 {
+        return Answer::CholeskyBelowZero(column);
+    }
+    Answer::CholeskyNan(column)
+}
+
+// The diagonal d of column j is judged.
 fn judge(d: f64, j: usize) -> Verdict
     requires { ⌜ j ≤ 1024 ⌝ }
-    ensures { λ r. ⌜ Judgement d j r ⌝ }
+    ensures { λ r. ⌜ Judgement crateRule d j r ⌝ }
 {
-    if 0.0 < d {
+    let answer = positive(d, j);
+    if answer.code() == 0 {
         return Verdict {
-            answer: Answer::Done,
+            answer: answer,
             root: leaf::root(d),
         };
     }
     Verdict {
-        answer: Answer::NotPositive(j as u32),
+        answer: answer,
         root: d,
     }
 }
@@ -137,7 +157,7 @@ fn advance(y: Layout, a: &mut [f64], m: usize, j: usize) -> Step
     requires { ⌜ Laid y (now a) ⌝ }
     requires { ⌜ m ≤ y .order ⌝ }
     requires { ⌜ j < y .order ⌝ }
-    ensures { λ s. ⌜ Advanced y m j (now (a .entry)) (now (a .exit)) s ⌝ }
+    ensures { λ s. ⌜ Advanced crateRule y m j (now (a .entry)) (now (a .exit)) s ⌝ }
 {
     if j < m {
         update(y, a, m, j);

@@ -1,13 +1,13 @@
 -- Row q of a batch is the twin of row p of an earlier batch: what `cholesky::extend` answers and leaves. Assumes nothing.
 use mathlib.Core.Path.{_≡_, refl, sym, _∙_, ap, ap₂, subst}
-use mathlib.Core.Bool.{Bool, true, false, cond}
+use mathlib.Core.Bool.{true, false}
 use mathlib.Core.List.{List}
 use Prim.Native.Nat.{ℕ, _+_, _≤_, _<_}
 use native.Mathlib.Omega.{arith}
 use lib.ListN.{length}
-use lib.Ieee.{Float, neg, lt}
+use lib.Ieee.{Float, neg, lt, eq, isNan}
 use Rattle.answer.specs.declared.Answer.{Answer}
-use Rattle.answer.specs.declared.Answer.the-variants.{Done, NotPositive}
+use Rattle.answer.specs.declared.Answer.the-variants.{Done, CholeskyZero, CholeskyBelowZero, CholeskyNan}
 use Rattle.answer.specs.Number.{isDone}
 use Rattle.leaf.specs.Root.{rootOf}
 use Rattle.matrix.specs.Matrix.{Matrix}
@@ -22,21 +22,17 @@ use Rattle.cholesky.specs.Crate.{positive, crateRule}
 use Rattle.cholesky.specs.Promise.{Extended}
 use Rattle.cholesky.specs.Batches.{Rising, Batches}
 use Rattle.cholesky.proofs.Outcomes.{refusal-stays}
-use Rattle.cholesky.proofs.Refusals.{Answered, columns-answered, positive-refused}
-use Rattle.cholesky.proofs.Refusals as refusals
+use Rattle.cholesky.specs.Diagonal.{Due, above, nought, below, none}
+use Rattle.cholesky.proofs.Diagonal.{due-is, positive-passes}
+use Rattle.cholesky.proofs.Refusals.{Answered, columns-answered}
 use Rattle.cholesky.specs.Arriving.{Arriving}
 use Rattle.cholesky.proofs.Arriving.{LikeOne, like-one, like-one-more}
 use Rattle.cholesky.proofs.Handed.{Handed, handed-none, handed-arrived, batches-arriving}
 use Rattle.twins.specs.Twins.{Twins}
 use Rattle.twins.proofs.Clauses.{Lower, lower-of-twins}
-use Rattle.twin_laws.proofs.Cholesky.{reduced, reduced-same, remainder, ruled, After, Accepted, Updated, onward, accepted-before, stands, right-of, diagonal-of, refused-diagonal, twin-left, twin-diagonal, twin-beside, twin-rest, twin-next, twin-refused, twin-between}
+use Rattle.twin_laws.proofs.Cholesky.{reduced, reduced-same, remainder, After, Accepted, Updated, onward, accepted-before, stands, right-of, diagonal-of, refused-diagonal, twin-left, twin-diagonal, twin-beside, twin-rest, twin-next, twin-refused, twin-between}
 
 -- ---- what is said of the call
-
--- done, or refused at one of the rows m to n
-pub data Answers (m n : ℕ) (r : Answer) : Type 0 where
-  done : isDone r ≡ true → Answers m n r
-  refused : (j : ℕ) → m ≤ j → j < n → r ≡ NotPositive j → Answers m n r
 
 -- A is the matrix as it was handed in, L what stands in the buffer after the call
 module _ (A L : Matrix) (p : ℕ) where
@@ -51,7 +47,8 @@ module _ (A L : Matrix) (p : ℕ) where
   module _ (q m n : ℕ) (r : Answer) where
     -- rows m to n answered r, p < m ≤ q < n: whatever r is
     pub record Across : Type 0 where
-      pub answer : Answers m n r
+      -- done, or refused by 7, 10 or 11 at one of them
+      pub answer : Answered crateRule m n r
       -- rows p and q, up to column p
       pub left : (c : ℕ) → c < p → L q c ≡ L p c
       pub diagonal : L p p ≡ rootOf v
@@ -62,29 +59,14 @@ module _ (A L : Matrix) (p : ℕ) where
 
     -- q = p + 1: the crumb decides
     pub record Neighbours : Type 0 where
-      -- not above zero: row q is refused, and the crumb stays on its diagonal
-      pub refused : lt plusZero crumb ≡ false → r ≡ NotPositive q
+      -- zero (7), below zero (10) or NaN (11): row q is refused, and the crumb stays on its diagonal
+      pub nought : eq crumb plusZero ≡ true → r ≡ CholeskyZero q
+      pub below : lt crumb plusZero ≡ true → r ≡ CholeskyBelowZero q
+      pub none : isNan crumb ≡ true → r ≡ CholeskyNan q
       pub leaves : lt plusZero crumb ≡ false → L q q ≡ crumb
       -- above zero: row q is accepted, and the crumb's root stands there
-      pub accepted : lt plusZero crumb ≡ true → Answers (q + 1) n r
+      pub accepted : lt plusZero crumb ≡ true → Answered crateRule (q + 1) n r
       pub root : lt plusZero crumb ≡ true → L q q ≡ rootOf crumb
-
--- ---- the answer of some columns
-
-ruled-is : (x : Float) (j : ℕ) → ruled crateRule x j ≡ cond (lt plusZero x) Done (NotPositive j)
-unfolding positive
-ruled-is x j = pick (lt plusZero x)
-  where
-    pick : (b : Bool) → cond (isDone (cond b Done (NotPositive j))) Done (cond b Done (NotPositive j)) ≡ cond b Done (NotPositive j)
-    pick true = refl
-    pick false = refl
-
-answers : (lo hi : ℕ) (o : Outcome) → o .answer ≡ Done → Answers lo hi (for lo hi (factorColumn crateRule 0) o .answer)
-answers lo hi o start = pick (columns-answered crateRule 0 lo hi lo (λ j low early. low) o start)
-  where
-    pick : {r : Answer} → Answered crateRule lo hi r → Answers lo hi r
-    pick (refusals.done is) = done (ap isDone is)
-    pick (refusals.refused d j from upto turned is) = refused j from upto (is ∙ positive-refused d j turned)
 
 -- ---- the call
 
@@ -133,12 +115,16 @@ module _ (room m n p q : ℕ) (cuts : List ℕ) (l₀ l l' : List Float) (r : An
       (sym (right-of crateRule A k i j upto))
       (λ t lt. ap₂ (λ (x y : Float). neg x ⊗ y) (cell k j t lt (omega arith) (omega arith) (omega arith)) (cell k i t lt (omega arith) (omega arith) (omega arith)))
 
+  -- the answer of the rows from lo on
+  answered : (lo : ℕ) (o : Outcome) → o .answer ≡ Done → Answered crateRule lo n (for lo n (factorColumn crateRule 0) o .answer)
+  answered lo o start = columns-answered crateRule 0 lo n lo (λ j low early. low) o start
+
   v-is : Updated crateRule A p p ≡ v A L p
   v-is = sym (chained p p p (omega arith) (omega arith) (omega arith))
 
   pub across : Across A L p q m n r
   across = record {
-    answer = subst (Answers m n) (ap (λ (o : Outcome). o .answer) (onward crateRule A m n (omega arith)) ∙ sym (ends .answer)) (answers m n (factorColumns crateRule 0 m A) before-done);
+    answer = subst (Answered crateRule m n) (ap (λ (o : Outcome). o .answer) (onward crateRule A m n (omega arith)) ∙ sym (ends .answer)) (answered m (factorColumns crateRule 0 m A) before-done);
     left = λ c h.
         cell (p + 1) q c (omega arith) (omega arith) (omega arith) within
         ∙ twin-left crateRule A p q apart (given .left) (given .diagonal) accepted-p c h
@@ -173,17 +159,12 @@ module _ (room m n p q : ℕ) (cuts : List ℕ) (l₀ l l' : List Float) (r : An
     crumb-is : Updated crateRule A q q ≡ crumb A L p
     crumb-is = twin-next crateRule A p q (omega arith) (given .left) (given .diagonal) accepted-p next ∙ ap (λ (x : Float). remainder crateRule x x) v-is
 
-    answer-q : factorColumns crateRule 0 (q + 1) A .answer ≡ cond (lt plusZero (crumb A L p)) Done (NotPositive q)
-    answer-q =
+    -- the answer up to row q is the one that is due to the crumb
+    due-q : {a : Answer} → Due (crumb A L p) q a → factorColumns crateRule 0 (q + 1) A .answer ≡ a
+    due-q so =
         twin-refused crateRule A p q (omega arith) (given .left) (given .diagonal) accepted-p next
-        ∙ ap (λ (x : Float). ruled crateRule (remainder crateRule x x) q) v-is
-        ∙ ruled-is (crumb A L p) q
-
-    refused-q : lt plusZero (crumb A L p) ≡ false → factorColumns crateRule 0 (q + 1) A .answer ≡ NotPositive q
-    refused-q none = answer-q ∙ rw none
-
-    done-q : lt plusZero (crumb A L p) ≡ true → factorColumns crateRule 0 (q + 1) A .answer ≡ Done
-    done-q some = answer-q ∙ rw some
+        ∙ ap (λ (x : Float). positive (remainder crateRule x x) q) v-is
+        ∙ sym (due-is so)
 
     onwards : for (q + 1) n (factorColumn crateRule 0) (factorColumns crateRule 0 (q + 1) A) ≡ factorColumns crateRule 0 n A
     onwards = onward crateRule A (q + 1) n (omega arith)
@@ -191,14 +172,18 @@ module _ (room m n p q : ℕ) (cuts : List ℕ) (l₀ l l' : List Float) (r : An
     diagonal-q : L q q ≡ After crateRule A (q + 1) q q
     diagonal-q = cell (q + 1) q q (omega arith) (omega arith) (omega arith) within
 
+    refused-q : {a : Answer} → Due (crumb A L p) q a → isDone a ≡ false → r ≡ a
+    refused-q so failed =
+        ends .answer
+        ∙ ap (λ (o : Outcome). o .answer) (sym onwards ∙ refusal-stays crateRule 0 (q + 1) n (factorColumns crateRule 0 (q + 1) A) (ap isDone (due-q so) ∙ failed))
+        ∙ due-q so
+
     pub neighbours : Neighbours A L p q m n r
-    unfolding positive
     neighbours = record {
-      refused = λ none.
-          ends .answer
-          ∙ ap (λ (o : Outcome). o .answer) (sym onwards ∙ refusal-stays crateRule 0 (q + 1) n (factorColumns crateRule 0 (q + 1) A) (ap isDone (refused-q none)))
-          ∙ refused-q none;
-      leaves = λ none. diagonal-q ∙ refused-diagonal crateRule A q accepted-q (ap (λ (x : Float). isDone (positive x q)) crumb-is ∙ rw none) ∙ crumb-is;
-      accepted = λ some. subst (Answers (q + 1) n) (ap (λ (o : Outcome). o .answer) onwards ∙ sym (ends .answer)) (answers (q + 1) n (factorColumns crateRule 0 (q + 1) A) (done-q some));
-      root = λ some. diagonal-q ∙ diagonal-of crateRule A q (ap isDone (done-q some)) ∙ ap rootOf crumb-is;
+      nought = λ h. refused-q (nought h) refl;
+      below = λ h. refused-q (below h) refl;
+      none = λ h. refused-q (none h) refl;
+      leaves = λ fails. diagonal-q ∙ refused-diagonal crateRule A q accepted-q (ap (λ (x : Float). isDone (positive x q)) crumb-is ∙ positive-passes (crumb A L p) q ∙ fails) ∙ crumb-is;
+      accepted = λ some. subst (Answered crateRule (q + 1) n) (ap (λ (o : Outcome). o .answer) onwards ∙ sym (ends .answer)) (answered (q + 1) (factorColumns crateRule 0 (q + 1) A) (due-q (above some)));
+      root = λ some. diagonal-q ∙ diagonal-of crateRule A q (ap isDone (due-q (above some))) ∙ ap rootOf crumb-is;
     }

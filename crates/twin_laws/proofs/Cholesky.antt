@@ -1,6 +1,6 @@
 -- Cholesky and twin rows p < q, for any rule of the diagonal. Assumes nothing.
 use mathlib.Core.Path.{_≡_, refl, sym, _∙_, ap, subst}
-use mathlib.Core.Bool.{Bool, true, false, cond}
+use mathlib.Core.Bool.{true, false}
 use mathlib.Core.Logic.{inr, ⊎-elim}
 use Prim.Native.Nat.{ℕ, zero, suc, _+_, _≤_, _<_}
 use native.Mathlib.Nat.{eq-or-lt-of-le}
@@ -8,9 +8,9 @@ use native.Mathlib.Numerals.{add-one}
 use native.Mathlib.Omega.{arith}
 use borrow.Author.Tests.{le-ltb}
 use lib.Ieee.{Float, binary64, neg}
-use Rattle.answer.specs.declared.Answer.{Answer}
-use Rattle.answer.specs.declared.Answer.the-variants.{Done}
 use Rattle.answer.specs.Number.{isDone}
+use Rattle.answer.proofs.Done.{done-is}
+use Rattle.answer.proofs.Tests.{either}
 use Rattle.matrix.specs.Matrix.{Matrix, entry}
 use Rattle.matrix.specs.Loop.{for}
 use Rattle.matrix.specs.Rounded.{_⊕_, _⊗_, _⊘_}
@@ -44,17 +44,11 @@ chain M N i j r c k start terms = reduced-same M M N N i j r c k start terms
 unfoldable pub remainder : Rule → Float → Float → Float
 remainder ρ v x = x ⊕ neg (x ⊘ ρ .root v) ⊗ (v ⊘ ρ .root v)
 
--- the answer to a diagonal x at column j
-abbrev pub ruled : Rule → Float → ℕ → Answer
-ruled ρ x j = cond (isDone (ρ .verdict x j)) Done (ρ .verdict x j)
-
-pub judged-answer : (ρ : Rule) (j : ℕ) (U : Matrix) → judgedColumn ρ j U .answer ≡ ruled ρ (U j j) j
+-- the answer of a judged column is the rule's
+pub judged-answer : (ρ : Rule) (j : ℕ) (U : Matrix) → judgedColumn ρ j U .answer ≡ ρ .verdict (U j j) j
 unfolding judgedColumn
-judged-answer ρ j U = pick (isDone (ρ .verdict (U j j) j))
-  where
-    pick : (b : Bool) → cond {A = Outcome} b (record { answer = Done; cells = below (j + 1) j (entry U j j (ρ .root (U j j))) }) (record { answer = ρ .verdict (U j j) j; cells = U }) .answer ≡ cond b Done (ρ .verdict (U j j) j)
-    pick true = refl
-    pick false = refl
+judged-answer ρ j U =
+    either (λ (o : Outcome). o .answer ≡ ρ .verdict (U j j) j) (isDone (ρ .verdict (U j j) j)) (λ passed. sym (done-is (ρ .verdict (U j j) j) passed)) (λ failed. refl)
 
 module _ (ρ : Rule) (A : Matrix) where
   -- the matrix after j columns
@@ -206,12 +200,12 @@ module _ (ρ : Rule) (A : Matrix) where
       pub twin-next : q ≡ p + 1 → Updated q q ≡ remainder ρ v v
       twin-next next = subst (λ (k : ℕ). updated (After k) q k q ≡ remainder ρ v v) (sym next) twin-rest
 
-      pub twin-refused : q ≡ p + 1 → factorColumns ρ 0 (q + 1) A .answer ≡ ruled ρ (remainder ρ v v) q
+      pub twin-refused : q ≡ p + 1 → factorColumns ρ 0 (q + 1) A .answer ≡ ρ .verdict (remainder ρ v v) q
       twin-refused next =
           let before : Accepted q = subst Accepted (sym next) done in
           ap (λ (o : Outcome). o .answer) (judges q before)
           ∙ judged-answer ρ q (updates q q (After q))
-          ∙ ap (λ (x : Float). ruled ρ x q) (updates-in q q (After q) q (omega arith) ∙ twin-next next)
+          ∙ ap (λ (x : Float). ρ .verdict x q) (updates-in q q (After q) q (omega arith) ∙ twin-next next)
 
       -- what row q of column k, p < k < q, holds after the columns up to p, from row k of the updated column p
       pub twin-between : (k : ℕ) → p < k → k < q → A q k ≡ A k p → updated (After (p + 1)) k (p + 1) q ≡ remainder ρ v (Updated p k)

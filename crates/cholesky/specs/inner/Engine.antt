@@ -15,8 +15,7 @@ use Rattle.strips.specs.declared.Source.{Source}
 use Rattle.cholesky.specs.declared.engine.Verdict.{Verdict}
 use Rattle.cholesky.specs.declared.engine.Step.{Step}
 use Rattle.cholesky.specs.Column.{less, part}
-use Rattle.cholesky.specs.Run.{Outcome, factorColumn, started}
-use Rattle.cholesky.specs.Crate.{crateRule}
+use Rattle.cholesky.specs.Run.{Rule, Outcome, factorColumn, started}
 use Rattle.cholesky.specs.Leaves.{Leaves}
 
 -- rows from r on of column j, from the diagonal down
@@ -42,9 +41,9 @@ pub record TakenOff (y : Layout) (r j k : ℕ) (l₀ l : List Float) (next : ℕ
   pub leaves : Leaves y l₀ l (part r j (lessColumns (load (lower y) l₀) j k next) (load (lower y) l₀))
 
 -- the diagonal d of column j is judged by the rule
-pub record Judgement (d : Float) (j : ℕ) (v : Verdict) : Type 0 where
-  pub answer : v .answer ≡ crateRule .verdict d j
-  pub root : isDone (v .answer) ≡ true → v .root ≡ crateRule .root d
+pub record Judgement (ρ : Rule) (d : Float) (j : ℕ) (v : Verdict) : Type 0 where
+  pub answer : v .answer ≡ ρ .verdict d j
+  pub root : isDone (v .answer) ≡ true → v .root ≡ ρ .root d
 
 -- the answer is the outcome's, and so is what is left
 pub record Ends (y : Layout) (l₀ l : List Float) (r : Answer) (o : Outcome) : Type 0 where
@@ -52,10 +51,10 @@ pub record Ends (y : Layout) (l₀ l : List Float) (r : Answer) (o : Outcome) : 
   pub leaves : Leaves y l₀ l (o .cells)
 
 -- the columns from j on, up to the next one, are worked on, one of them at least
-pub record Advanced (y : Layout) (m j : ℕ) (l₀ l : List Float) (s : Step) : Type 0 where
+pub record Advanced (ρ : Rule) (y : Layout) (m j : ℕ) (l₀ l : List Float) (s : Step) : Type 0 where
   pub onward : j < s .next
   pub within : s .next ≤ y .order
-  pub ends : Ends y l₀ l (s .answer) (for j (s .next) (factorColumn crateRule m) (started (load (lower y) l₀)))
+  pub ends : Ends y l₀ l (s .answer) (for j (s .next) (factorColumn ρ m) (started (load (lower y) l₀)))
 
 -- column j of M
 abbrev pub down : Matrix → ℕ → ℕ → Float

@@ -3,6 +3,7 @@ use denote.Ref.{now}
 use native.Mathlib.Omega.{arith}
 use Rattle.answer.proofs.Done.{code-done, code-refused}
 use Rattle.matrix.proofs.Sizes.{laid-after}
+use Rattle.cholesky.specs.Crate.{crateRule}
 use Rattle.cholesky.proofs.Running.{finish-done, finish-refused}
 use borrow.Author.Needs.{needs}
 use Rattle.cholesky.proofs.engine.finish.Statement.{statement}
@@ -39,7 +40,7 @@ returns c =
     let if1 = c .before .before .before .before .before .before .before .before .if1 in
     let put = c .before .before .before .before .before .before .put in
     let start = c .before .before .before .before .before .before .before .before .before .before .before .before .before .before in
-    finish-done (start .args .y) (now (start .args .a)) (start .args .j)
+    finish-done crateRule (start .args .y) (now (start .args .a)) (start .args .j)
     (get .result)
     (judge .result)
     (get .ensures)
@@ -53,7 +54,7 @@ same-length-2 c = search needs
 returns-2 : tie.Need-returns-2
 returns-2 c =
     let start = c .before .before .before .before .before .before in
-    finish-refused (start .args .y) (now (start .args .a)) (start .args .j) (c .before .before .before .get .result) (c .before .before .judge .result)
+    finish-refused crateRule (start .args .y) (now (start .args .a)) (start .args .j) (c .before .before .before .get .result) (c .before .before .judge .result)
     (c .before .before .before .get .ensures) (c .before .before .judge .ensures) (start .pre .0 .sound) (code-refused (c .before .before .judge .result .answer) (c .before .code .ensures) (c .if1 .left))
 
 pub finish-spec : {M : Type 1} → statement M

@@ -1,20 +1,25 @@
 -- `engine::judge` meets its contract. Assumes nothing.
+use Rattle.answer.proofs.Done.{code-refused}
+use Rattle.cholesky.specs.Crate.{crateRule}
 use Rattle.cholesky.proofs.Judging.{judge-passed, judge-refused}
 use borrow.Author.Needs.{needs}
 use Rattle.cholesky.proofs.engine.judge.Statement.{statement}
 use Rattle.cholesky.proofs.engine.judge.Tie as tie
 
+positive-requires : tie.Need-positive-requires
+positive-requires c κs = search needs
+
+code-requires : tie.Need-code-requires
+code-requires c κs = search needs
+
 root-requires : tie.Need-root-requires
 root-requires c κs = search needs
 
 returns : tie.Need-returns
-returns c = judge-passed _ _ _ (c .before .if1 .taken) (c .root .ensures)
-
-cast-t6 : tie.Need-cast-t6
-cast-t6 c = search needs
+returns c = judge-passed crateRule _ _ _ (c .before .before .before .positive .ensures) (c .root .ensures)
 
 returns-2 : tie.Need-returns-2
-returns-2 c = judge-refused _ _ _ (c .if1 .left)
+returns-2 c = judge-refused crateRule _ _ _ (c .before .before .positive .ensures) (code-refused (c .before .before .positive .result) (c .before .code .ensures) (c .if1 .left))
 
 pub judge-spec : {M : Type 1} → statement M
-judge-spec = tie.close (tie.spec root-requires returns cast-t6 returns-2)
+judge-spec = tie.close (tie.spec positive-requires code-requires root-requires returns returns-2)

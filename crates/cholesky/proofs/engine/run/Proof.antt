@@ -2,6 +2,7 @@
 use Prim.Native.Nat.{_-_}
 use native.Mathlib.Omega.{arith}
 use Rattle.answer.proofs.Done.{code-done, code-refused}
+use Rattle.cholesky.specs.Crate.{crateRule}
 use Rattle.cholesky.proofs.Parts.{leaves-laid}
 use Rattle.cholesky.proofs.Running.{Running, running-none, running-more, running-refused, running-all}
 use borrow.Author.Needs.{needs}
@@ -9,7 +10,7 @@ use Rattle.cholesky.proofs.engine.run.Statement.{statement}
 use Rattle.cholesky.proofs.engine.run.Tie as tie
 
 abbrev Inv-loop : tie.InvT-loop
-Inv-loop y a₀ m n j₀ a j = Running y m a₀ j a
+Inv-loop y a₀ m n j₀ a j = Running crateRule y m a₀ j a
 
 abbrev μ-loop : tie.MeasureT-loop
 μ-loop y a₀ m n j₀ a j = y .order - j

@@ -1,0 +1,24 @@
+-- Which answer is due to a diagonal: by a test for each, and by the number itself. `positive` is both (proofs/Diagonal).
+use mathlib.Core.Path.{_≡_}
+use mathlib.Core.Bool.{true, false}
+use Prim.Native.Nat.{ℕ, zero, suc}
+use lib.Ieee.{Float, nan, inf, fin, lt, eq, isNan}
+use Rattle.answer.specs.declared.Answer.{Answer}
+use Rattle.answer.specs.declared.Answer.the-variants.{Done, CholeskyZero, CholeskyBelowZero, CholeskyNan}
+use Rattle.matrix.specs.Rounded.{plusZero}
+
+-- the answer to the diagonal d of column j
+pub data Due (d : Float) (j : ℕ) : Answer → Type 0 where
+  above : lt plusZero d ≡ true → Due d j Done
+  nought : eq d plusZero ≡ true → Due d j (CholeskyZero j)
+  below : lt d plusZero ≡ true → Due d j (CholeskyBelowZero j)
+  none : isNan d ≡ true → Due d j (CholeskyNan j)
+
+-- `inf s` is an infinity, `fin s m e` is m·2^e, with a minus where s is true
+unfoldable pub dueTo : Float → ℕ → Answer
+dueTo nan j = CholeskyNan j
+dueTo (inf false) j = Done
+dueTo (inf true) j = CholeskyBelowZero j
+dueTo (fin s zero e) j = CholeskyZero j
+dueTo (fin false (suc m) e) j = Done
+dueTo (fin true (suc m) e) j = CholeskyBelowZero j
