@@ -23,22 +23,26 @@
  * ANSWERS. An answer is code * 4096 + place; 0 is done. The checks run in the order of the codes, and the first that fails
  * is the answer. After a refusal by 1 to 6 every buffer is as it was.
  *
- *   code                         given exactly if                                              place
- *   0 URGYELPAT_DONE             the result stands in the buffers                              0
- *   1 URGYELPAT_OUT_OF_RANGE     an order, room or column count is above 1024, or UDU has      0
- *                                order 0
- *   2 URGYELPAT_ORDER_ABOVE_ROOM an order is above its room, or an earlier order above the     0
- *                                order
- *   3 URGYELPAT_MATRIX_LENGTH    the first matrix has the wrong length                         0
- *   4 URGYELPAT_SLICE_LENGTH     another slice has the wrong length                            0
- *   5 URGYELPAT_BAD_RECORD       the pivot record breaks its rule                              the row, or n for its mark
- *   6 URGYELPAT_ZERO_MARK        solve: the record marks a row without a pivot                 the marked row, of the factor:
+ *   code                             given exactly if                                          place
+ *   0  URGYELPAT_DONE                the result stands in the buffers                          0
+ *   1  URGYELPAT_OUT_OF_RANGE        an order, room or column count is above 1024, or UDU      0
+ *                                    has order 0
+ *   2  URGYELPAT_ORDER_ABOVE_ROOM    an order is above its room, or an earlier order above     0
+ *                                    the order
+ *   3  URGYELPAT_MATRIX_LENGTH       the first matrix has the wrong length                     0
+ *   4  URGYELPAT_SLICE_LENGTH        another slice has the wrong length                        0
+ *   5  URGYELPAT_BAD_RECORD          the pivot record breaks its rule                          the row, or n for its mark
+ *   6  URGYELPAT_ZERO_MARK           solve: the record marks a row without a pivot             the marked row, of the
+ *                                                                                              factor:
  *                                                                                              urgyelpat_callers_row
- *   7 URGYELPAT_NOT_POSITIVE     Cholesky: a diagonal is zero, negative or NaN                 its column j
- *   8 URGYELPAT_ZERO_DIAGONAL    UDU: a diagonal is zero                                       its column j
+ *   7  URGYELPAT_CHOLESKY_ZERO       Cholesky: a diagonal is zero, of either sign              its column j
+ *   8  URGYELPAT_ZERO_DIAGONAL       UDU: a diagonal is zero                                   its column j
+ *   10 URGYELPAT_CHOLESKY_BELOW_ZERO Cholesky: a diagonal is below zero, -infinity included    its column j
+ *   11 URGYELPAT_CHOLESKY_NAN        Cholesky: a diagonal is NaN                               its column j
  *
- * What stands in the buffers after 7 and 8 is said at the functions that give them. Everything is promised to the bit but a
- * NaN's sign and payload: a NaN is a NaN, in results and in what is kept. (That a kept NaN keeps its bits is tested.)
+ * Cholesky judges a diagonal once it is updated by the columns before it; exactly one of "passes", 7, 10 and 11 fits it.
+ * What stands in the buffers after 7, 8, 10 and 11 is said at the functions that give them. Everything is promised to the bit
+ * but a NaN's sign and payload: a NaN is a NaN, in results and in what is kept. (That a kept NaN keeps its bits is tested.)
  */
 #ifndef URGYELPAT_H
 #define URGYELPAT_H
@@ -69,8 +73,10 @@ extern "C" {
 #define URGYELPAT_SLICE_LENGTH 4u
 #define URGYELPAT_BAD_RECORD 5u
 #define URGYELPAT_ZERO_MARK 6u
-#define URGYELPAT_NOT_POSITIVE 7u
+#define URGYELPAT_CHOLESKY_ZERO 7u
 #define URGYELPAT_ZERO_DIAGONAL 8u
+#define URGYELPAT_CHOLESKY_BELOW_ZERO 10u
+#define URGYELPAT_CHOLESKY_NAN 11u
 
 /* The code of an answer, and its place. */
 static inline uint32_t urgyelpat_code(uint64_t answer) { return (uint32_t)(answer / 4096u); }
@@ -140,15 +146,17 @@ URGYELPAT_MUST_USE uint64_t urgyelpat_lblt_l_permuted(const double *a, size_t a_
 /* ---- Cholesky: A = L L^T on paper, in a room, row batch by row batch ---- */
 
 /* Factors the first n rows and columns of the lower part of a (room*room numbers) in place.
- * After 7 at column j: the columns before j are finished, column j is updated and not divided, later columns are as given.
- * Answers 0, 1, 2, 3 (a), 7. */
+ * After 7, 10 or 11 at column j: the columns before j are finished, column j is updated and not divided, later columns are as
+ * given.
+ * Answers 0, 1, 2, 3 (a), 7, 10, 11. */
 URGYELPAT_MUST_USE uint64_t urgyelpat_cholesky_factor(double *a, size_t a_length, size_t room, size_t n);
 
 /* Takes the first `earlier` rows as factored and factors the rows earlier to n - 1 in place, so that the batches of a matrix
- * give what one call on the whole gives, to the bit, and are refused at the same row.
- * After 7 at column j (earlier <= j): the rows from `earlier` on are left as by the factor call, the rows before as they were.
+ * give what one call on the whole gives, to the bit, and are refused by the same code at the same row.
+ * After 7, 10 or 11 at column j (earlier <= j): the rows from `earlier` on are left as by the factor call, the rows before as
+ * they were.
  * A row that came twice is often not refused: ask urgyelpat_first_twin_since first.
- * Answers 0, 1, 2, 3 (a), 7. */
+ * Answers 0, 1, 2, 3 (a), 7, 10, 11. */
 URGYELPAT_MUST_USE uint64_t urgyelpat_cholesky_extend(double *a, size_t a_length, size_t room, size_t earlier, size_t n);
 
 /* Solves A X = B in b (n*columns numbers, n for each column, whatever the room) by the factor that stands in a. The solution

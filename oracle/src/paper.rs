@@ -1,10 +1,11 @@
 //! The calls, written from document 01's steps and without the text: a matrix is read and written by `a[(i, j)]`, the loops run entry by entry.
-//! Cholesky's solve is written from document 02's steps.
+//! Cholesky's solve and the codes of a diagonal that is turned down are written from document 02.
 //! The calls for rows that came twice are written from what twin rows are: all pairs are compared, one after the other.
 
 // sums and quotients stand as the documents write them
 #![allow(clippy::assign_op_pattern)]
 
+use std::cmp::Ordering;
 use std::ops::{Index, IndexMut};
 
 use crate::call::{Calls, word};
@@ -144,22 +145,24 @@ impl Lent<'_> {
         x
     }
 
-    /// Column j for the rows from `from` on; `None` if the diagonal is turned down.
-    fn cholesky_column(&mut self, n: usize, from: usize, j: usize) -> Option<()> {
+    /// Column j for the rows from `from` on, and its answer.
+    fn cholesky_column(&mut self, n: usize, from: usize, j: usize) -> u64 {
         for i in from.max(j)..n {
             self[(i, j)] = self.updated(i, j);
         }
         if from <= j {
             let x = self[(j, j)];
-            if x.is_nan() || x <= 0.0 {
-                return None;
+            match x.partial_cmp(&0.0) {
+                Some(Ordering::Greater) => self[(j, j)] = x.sqrt(),
+                Some(Ordering::Equal) => return code(7, j),
+                Some(Ordering::Less) => return code(10, j),
+                None => return code(11, j),
             }
-            self[(j, j)] = x.sqrt();
         }
         for i in from.max(j + 1)..n {
             self[(i, j)] = self[(i, j)] / self[(j, j)];
         }
-        Some(())
+        0
     }
 }
 
@@ -420,7 +423,7 @@ impl Calls for Paper {
             return refused;
         }
         let mut a = Lent { cells: a, room };
-        (0..n).find(|&j| a.cholesky_column(n, earlier, j).is_none()).map_or(0, |j| code(7, j))
+        (0..n).map(|j| a.cholesky_column(n, earlier, j)).find(|&answer| answer != 0).unwrap_or(0)
     }
 
     fn cholesky_solve(&self, a: &[f64], b: &mut [f64], room: usize, n: usize, columns: usize) -> u64 {

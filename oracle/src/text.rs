@@ -105,8 +105,12 @@ fn updated(a: &[f64], room: usize, i: usize, j: usize) -> f64 {
     (0..j).fold(a[i + j * room], |x, k| x + -a[j + k * room] * a[i + k * room])
 }
 
-fn turned_down(diagonal: f64) -> bool {
-    diagonal.is_nan() || diagonal <= 0.0
+/// Document 02: the code of a diagonal that is turned down.
+fn turned_down(diagonal: f64) -> Option<u64> {
+    if diagonal.is_nan() {
+        return Some(11);
+    }
+    (diagonal <= 0.0).then_some(if diagonal == 0.0 { 7 } else { 10 })
 }
 
 /// What the text leaves behind when it answers `None`: the columns before the refused one are those of `new_unchecked`, which refuses nothing.
@@ -116,13 +120,13 @@ fn refused_cholesky(a: &mut [f64], room: usize, n: usize) -> u64 {
     let finished = Cholesky::new_unchecked(given.clone()).unpack_dirty();
     for j in 0..n {
         let diagonal = updated(a, room, j, j);
-        if turned_down(diagonal) {
+        if let Some(code) = turned_down(diagonal) {
             assert!(Cholesky::new(leading_of(&given, n, j)).is_some(), "the text refuses before {j}");
             assert!(Cholesky::new(leading_of(&given, n, j + 1)).is_none(), "the text goes beyond {j}");
             for i in j..n {
                 a[i + j * room] = updated(a, room, i, j);
             }
-            return refusal(7, j);
+            return refusal(code, j);
         }
         for i in j..n {
             a[i + j * room] = finished[(i, j)];
@@ -211,8 +215,8 @@ impl Calls for Text {
             }
             if j >= earlier {
                 let diagonal = a[j + j * room];
-                if turned_down(diagonal) {
-                    return refusal(7, j);
+                if let Some(code) = turned_down(diagonal) {
+                    return refusal(code, j);
                 }
                 a[j + j * room] = diagonal.sqrt();
             }

@@ -106,8 +106,15 @@ fn cholesky() {
         assert_eq!(calls.cholesky_factor(&mut a, 2, 2), 7 * 4096 + 1);
         assert_eq!(lower(&a, 2), [1.0, 1.0, 0.0]);
 
-        let mut a = matrix(1, &[-0.0]);
-        assert_eq!(calls.cholesky_factor(&mut a, 1, 1), 7 * 4096);
+        for (x, code) in
+            [(-0.0, 7), (0.0, 7), (-1.0, 10), (f64::NEG_INFINITY, 10), (-f64::from_bits(1), 10), (f64::NAN, 11), (-f64::NAN, 11)]
+        {
+            assert_eq!(calls.cholesky_factor(&mut [x], 1, 1), code * 4096);
+            let mut beside = matrix(2, &[1.0, 0.0, x]);
+            assert_eq!(calls.cholesky_extend(&mut beside, 2, 1, 2), code * 4096 + 1);
+        }
+        let mut a = matrix(2, &[3.0, 3.0, 3.0]);
+        assert_eq!(calls.cholesky_factor(&mut a, 2, 2), 10 * 4096 + 1);
 
         for (x, root) in [(2.0, 0x3ff6_a09e_667f_3bcd), (f64::from_bits(1), 0x1e60_0000_0000_0000)] {
             let mut a = [x];

@@ -117,18 +117,25 @@ static void factors_refused(void)
 {
     factor("zero", 1, 1, NUMBERS(0), ANSWER(7, 0), NUMBERS(0));
     factor("minus zero", 1, 1, NUMBERS(-0.0), ANSWER(7, 0), NUMBERS(-0.0));
-    factor("below zero", 1, 1, NUMBERS(-1), ANSWER(7, 0), NUMBERS(-1));
-    factor("minus infinity", 1, 1, NUMBERS(-INF), ANSWER(7, 0), NUMBERS(-INF));
-    factor("a NaN", 1, 1, NUMBERS(NAN), ANSWER(7, 0), NUMBERS(NAN));
-    factor("twins", 2, 2, NUMBERS(1, 1, KEPT, 1), ANSWER(7, 1), NUMBERS(1, 1, KEPT, 0));
+    factor("below zero", 1, 1, NUMBERS(-1), ANSWER(10, 0), NUMBERS(-1));
+    factor("the first below zero", 1, 1, NUMBERS(-0x1p-1074), ANSWER(10, 0), NUMBERS(-0x1p-1074));
+    factor("minus infinity", 1, 1, NUMBERS(-INF), ANSWER(10, 0), NUMBERS(-INF));
+    factor("a NaN", 1, 1, NUMBERS(NAN), ANSWER(11, 0), NUMBERS(NAN));
+    factor("a NaN with a sign", 1, 1, NUMBERS(-NAN), ANSWER(11, 0), NUMBERS(-NAN));
+    factor("twins, nothing left", 2, 2, NUMBERS(1, 1, KEPT, 1), ANSWER(7, 1), NUMBERS(1, 1, KEPT, 0));
+    factor("twins, a crumb below zero", 2, 2, NUMBERS(3, 3, KEPT, 3), ANSWER(10, 1),
+           NUMBERS(from_bits(0x3ffbb67ae8584caa), from_bits(0x3ffbb67ae8584cab), KEPT, -0x1p-51));
+    factor("twins, infinite", 2, 2, NUMBERS(INF, INF, KEPT, INF), ANSWER(11, 1), NUMBERS(INF, NAN, KEPT, NAN));
+    factor("a NaN beside the diagonal", 2, 2, NUMBERS(1, NAN, KEPT, 1), ANSWER(11, 1), NUMBERS(1, NAN, KEPT, NAN));
+    factor("infinity beside the diagonal", 2, 2, NUMBERS(1, INF, KEPT, 1), ANSWER(10, 1), NUMBERS(1, INF, KEPT, -INF));
     factor("order 4, column 0", 4, 4, NUMBERS(-4, 2, 6, 2, KEPT, 5, 5, 7, KEPT, KEPT, 14, 9, KEPT, KEPT, KEPT, 3),
-           ANSWER(7, 0), NUMBERS(-4, 2, 6, 2, KEPT, 5, 5, 7, KEPT, KEPT, 14, 9, KEPT, KEPT, KEPT, 3));
+           ANSWER(10, 0), NUMBERS(-4, 2, 6, 2, KEPT, 5, 5, 7, KEPT, KEPT, 14, 9, KEPT, KEPT, KEPT, 3));
     factor("order 4, column 1", 4, 4, NUMBERS(4, 2, 6, 2, KEPT, 1, 5, 7, KEPT, KEPT, 14, 9, KEPT, KEPT, KEPT, 3),
            ANSWER(7, 1), NUMBERS(2, 1, 3, 1, KEPT, 0, 2, 6, KEPT, KEPT, 14, 9, KEPT, KEPT, KEPT, 3));
     factor("order 4, column 2", 4, 4, NUMBERS(4, 2, 6, 2, KEPT, 5, 5, 7, KEPT, KEPT, 9, 9, KEPT, KEPT, KEPT, 3),
-           ANSWER(7, 2), NUMBERS(2, 1, 3, 1, KEPT, 2, 1, 3, KEPT, KEPT, -1, 3, KEPT, KEPT, KEPT, 3));
+           ANSWER(10, 2), NUMBERS(2, 1, 3, 1, KEPT, 2, 1, 3, KEPT, KEPT, -1, 3, KEPT, KEPT, KEPT, 3));
     factor("order 4, column 3", 4, 4, NUMBERS(4, 2, 6, 2, KEPT, 5, 5, 7, KEPT, KEPT, 14, 9, KEPT, KEPT, KEPT, 3),
-           ANSWER(7, 3), NUMBERS(2, 1, 3, 1, KEPT, 2, 1, 3, KEPT, KEPT, 2, 1.5, KEPT, KEPT, KEPT, -9.25));
+           ANSWER(10, 3), NUMBERS(2, 1, 3, 1, KEPT, 2, 1, 3, KEPT, KEPT, 2, 1.5, KEPT, KEPT, KEPT, -9.25));
 }
 
 static void batches(void)
@@ -146,9 +153,11 @@ static void batches(void)
            NUMBERS(2, 1, 3, KEPT, 0, 2, KEPT, KEPT, 14));
     extend("refused at its second row", 3, 1, 3, NUMBERS(2, 2, 6, KEPT, 5, 5, KEPT, KEPT, 10), ANSWER(7, 2),
            NUMBERS(2, 1, 3, KEPT, 2, 1, KEPT, KEPT, 0));
-    extend("refused at the last row", 3, 2, 3, NUMBERS(2, 1, 6, KEPT, 2, 5, KEPT, KEPT, NAN), ANSWER(7, 2),
+    extend("below zero at the last row", 3, 2, 3, NUMBERS(2, 1, 6, KEPT, 2, 5, KEPT, KEPT, 9), ANSWER(10, 2),
+           NUMBERS(2, 1, 3, KEPT, 2, 1, KEPT, KEPT, -1));
+    extend("a NaN at the last row", 3, 2, 3, NUMBERS(2, 1, 6, KEPT, 2, 5, KEPT, KEPT, NAN), ANSWER(11, 2),
            NUMBERS(2, 1, 3, KEPT, 2, 1, KEPT, KEPT, NAN));
-    extend("a zero in the earlier factor", 2, 1, 2, NUMBERS(0, 2, KEPT, 5), ANSWER(7, 1), NUMBERS(0, INF, KEPT, -INF));
+    extend("a zero in the earlier factor", 2, 1, 2, NUMBERS(0, 2, KEPT, 5), ANSWER(10, 1), NUMBERS(0, INF, KEPT, -INF));
 }
 
 static void solves(void)
@@ -324,7 +333,10 @@ static void largest_order(void)
     unit[1023 * 1025] = 0;
     extend("order 1024 from 1023, refused", 1024, 1023, 1024, a, ANSWER(7, 1023), a);
     unit[0] = -1;
-    factor("order 1024, column 0", 1024, 1024, a, ANSWER(7, 0), a);
+    factor("order 1024, column 0", 1024, 1024, a, ANSWER(10, 0), a);
+    unit[0] = 1;
+    unit[1023 * 1025] = NAN;
+    extend("order 1024 from 1023, a NaN", 1024, 1023, 1024, a, ANSWER(11, 1023), a);
 }
 
 void cholesky_cases(void)

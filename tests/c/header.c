@@ -26,8 +26,10 @@ const char *meaning(uint64_t answer)
     case URGYELPAT_BAD_RECORD:
     case URGYELPAT_ZERO_MARK:
         return "record";
-    case URGYELPAT_NOT_POSITIVE:
+    case URGYELPAT_CHOLESKY_ZERO:
     case URGYELPAT_ZERO_DIAGONAL:
+    case URGYELPAT_CHOLESKY_BELOW_ZERO:
+    case URGYELPAT_CHOLESKY_NAN:
         return "diagonal";
     default:
         return "no answer";

@@ -13,8 +13,9 @@ use crate::{ffi, kept, whole_columns, LARGEST};
 /// Factors the first n rows and columns of the lower part of `a` (room·room numbers) in place.
 ///
 /// Refused by [`OutOfRange`](Refusal::OutOfRange), [`OrderAboveRoom`](Refusal::OrderAboveRoom),
-/// [`MatrixLength`](Refusal::MatrixLength), and by [`NotPositive`](Refusal::NotPositive) at column j. The columns before j
-/// are then finished, column j is updated and not divided, and later columns are as given.
+/// [`MatrixLength`](Refusal::MatrixLength), and at the first column j whose updated diagonal is
+/// [zero](Refusal::CholeskyZero), [below zero](Refusal::CholeskyBelowZero) or [NaN](Refusal::CholeskyNan). The columns before
+/// j are then finished, column j is updated and not divided, and later columns are as given.
 ///
 /// ```
 /// let mut a = [4.0, 2.0, 0.0, 5.0];
@@ -29,8 +30,8 @@ pub fn factor(a: &mut [f64], room: usize, n: usize) -> Result<(), Refusal> {
 
 /// Takes the first `earlier` rows as factored and factors the rows `earlier..n` in place.
 ///
-/// The batches of a matrix give what one call on the whole gives, to the bit, and are refused at the same row. Refused as
-/// [`factor`] is, by [`NotPositive`](Refusal::NotPositive) at a column from `earlier` on; the rows before are left alone.
+/// The batches of a matrix give what one call on the whole gives, to the bit, and are refused by the same code at the same
+/// row. Refused as [`factor`] is, a diagonal at a column from `earlier` on; the rows before are left alone.
 /// A row that came twice is often not refused: ask [`first_twin_since`] first, of the rows as they came and not of `a`.
 ///
 /// ```
@@ -158,7 +159,7 @@ impl Error for BatchRefusal {}
 ///
 /// // a batch that is refused leaves the factor as it was
 /// let refused = factor.extend(&[6.0, 5.0, 14.0, 13.0]);
-/// assert_eq!(refused, Err(BatchRefusal::Refused(Refusal::NotPositive { column: 3 })));
+/// assert_eq!(refused, Err(BatchRefusal::Refused(Refusal::CholeskyBelowZero { column: 3 })));
 /// assert_eq!(factor.order(), 3);
 /// # Ok::<(), BatchRefusal>(())
 /// ```
@@ -207,7 +208,8 @@ impl Cholesky {
     /// Factors a matrix of order n, n·n numbers, of which the lower part is read.
     ///
     /// Refused by [`OutOfRange`](Refusal::OutOfRange) and [`MatrixLength`](Refusal::MatrixLength), with the
-    /// [first twins](first_twin) of the matrix, and by [`NotPositive`](Refusal::NotPositive).
+    /// [first twins](first_twin) of the matrix, and at a diagonal that is [zero](Refusal::CholeskyZero),
+    /// [below zero](Refusal::CholeskyBelowZero) or [NaN](Refusal::CholeskyNan).
     ///
     /// ```
     /// use urgyelpat::{BatchRefusal, Cholesky, Twins};
@@ -226,14 +228,17 @@ impl Cholesky {
 
     /// [`new`](Cholesky::new) for a matrix that may have twins: they are not looked for.
     ///
-    /// Refused by [`OutOfRange`](Refusal::OutOfRange), [`MatrixLength`](Refusal::MatrixLength) and
-    /// [`NotPositive`](Refusal::NotPositive), which meets some twins and lets others through.
+    /// Refused by [`OutOfRange`](Refusal::OutOfRange) and [`MatrixLength`](Refusal::MatrixLength), and at a diagonal that is
+    /// [zero](Refusal::CholeskyZero), [below zero](Refusal::CholeskyBelowZero) or [NaN](Refusal::CholeskyNan), which meets
+    /// some twins and lets others through.
     ///
     /// ```
     /// use urgyelpat::{Cholesky, Refusal};
     ///
     /// let refused = Cholesky::new_insisting(vec![1.0, 1.0, 0.0, 1.0], 2);
-    /// assert_eq!(refused.unwrap_err(), Refusal::NotPositive { column: 1 });
+    /// assert_eq!(refused.unwrap_err(), Refusal::CholeskyZero { column: 1 });
+    /// let refused = Cholesky::new_insisting(vec![3.0, 3.0, 0.0, 3.0], 2);
+    /// assert_eq!(refused.unwrap_err(), Refusal::CholeskyBelowZero { column: 1 });
     /// assert!(Cholesky::new_insisting(vec![2.0, 2.0, 0.0, 2.0], 2).is_ok());
     /// ```
     pub fn new_insisting(matrix: Vec<f64>, n: usize) -> Result<Cholesky, Refusal> {
@@ -273,8 +278,9 @@ impl Cholesky {
     ///
     /// The factor is then the one that a single call gives for the whole matrix, to the bit. Refused by
     /// [`OutOfRange`](Refusal::OutOfRange), by [`SliceLength`](Refusal::SliceLength) if the last row is not whole, with the
-    /// [first twins](first_twin_since) that the batch brings, and by [`NotPositive`](Refusal::NotPositive). The factor and the
-    /// rows are then as they were, without any row of the batch, and only the room may be larger.
+    /// [first twins](first_twin_since) that the batch brings, and at a diagonal that is [zero](Refusal::CholeskyZero),
+    /// [below zero](Refusal::CholeskyBelowZero) or [NaN](Refusal::CholeskyNan). The factor and the rows are then as they were,
+    /// without any row of the batch, and only the room may be larger.
     ///
     /// ```
     /// use urgyelpat::{BatchRefusal, Cholesky, Twins};
@@ -297,8 +303,9 @@ impl Cholesky {
     /// [`extend`](Cholesky::extend) for a batch that may bring twins: they are not looked for, and a pair that was taken is
     /// not told with later batches.
     ///
-    /// Refused by [`OutOfRange`](Refusal::OutOfRange), [`SliceLength`](Refusal::SliceLength) and
-    /// [`NotPositive`](Refusal::NotPositive), which meets some twins and lets others through.
+    /// Refused by [`OutOfRange`](Refusal::OutOfRange) and [`SliceLength`](Refusal::SliceLength), and at a diagonal that is
+    /// [zero](Refusal::CholeskyZero), [below zero](Refusal::CholeskyBelowZero) or [NaN](Refusal::CholeskyNan), which meets
+    /// some twins and lets others through.
     ///
     /// ```
     /// let mut factor = urgyelpat::Cholesky::default();

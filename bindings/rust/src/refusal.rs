@@ -5,8 +5,8 @@ use crate::ffi::Determined;
 
 /// Why a call was refused, and where.
 ///
-/// The checks run in the order of the codes, and the first that fails is the answer. A refusal by 1 to 6 leaves every slice as
-/// it was; what 7 and 8 leave is said at the calls that give them.
+/// The checks run in the order of the codes, and the first that fails is the answer; of 7, 10 and 11 just one fits a diagonal.
+/// A refusal by 1 to 6 leaves every slice as it was; what 7, 8, 10 and 11 leave is said at the calls that give them.
 #[derive(Clone, Copy, Debug, PartialEq, Eq, Hash)]
 #[non_exhaustive]
 pub enum Refusal {
@@ -29,13 +29,23 @@ pub enum Refusal {
         /// The first such row of the factor; [`callers_row`](crate::lblt::callers_row) says which row that was as given.
         row: usize,
     },
-    /// Code 7: a diagonal of Cholesky is zero, negative or NaN.
-    NotPositive {
+    /// Code 7: a diagonal of Cholesky is zero, of either sign.
+    CholeskyZero {
         /// Its row and column.
         column: usize,
     },
     /// Code 8: a diagonal of UDU is zero.
     ZeroDiagonal {
+        /// Its row and column.
+        column: usize,
+    },
+    /// Code 10: a diagonal of Cholesky is below zero, minus infinity included.
+    CholeskyBelowZero {
+        /// Its row and column.
+        column: usize,
+    },
+    /// Code 11: a diagonal of Cholesky is NaN.
+    CholeskyNan {
         /// Its row and column.
         column: usize,
     },
@@ -51,8 +61,10 @@ impl Refusal {
             Refusal::SliceLength => 4,
             Refusal::BadRecord { .. } => 5,
             Refusal::ZeroMark { .. } => 6,
-            Refusal::NotPositive { .. } => 7,
+            Refusal::CholeskyZero { .. } => 7,
             Refusal::ZeroDiagonal { .. } => 8,
+            Refusal::CholeskyBelowZero { .. } => 10,
+            Refusal::CholeskyNan { .. } => 11,
         }
     }
 
@@ -61,7 +73,10 @@ impl Refusal {
         match self {
             Refusal::OutOfRange | Refusal::OrderAboveRoom | Refusal::MatrixLength | Refusal::SliceLength => 0,
             Refusal::BadRecord { row } | Refusal::ZeroMark { row } => row,
-            Refusal::NotPositive { column } | Refusal::ZeroDiagonal { column } => column,
+            Refusal::CholeskyZero { column }
+            | Refusal::ZeroDiagonal { column }
+            | Refusal::CholeskyBelowZero { column }
+            | Refusal::CholeskyNan { column } => column,
         }
     }
 }
@@ -93,13 +108,21 @@ impl fmt::Display for Refusal {
                 f,
                 "the factor found nothing to divide by at its row {row}: zeros, NaN beside a zero, or NaN on the last diagonal. Look first for NaN or infinite numbers in all rows. Which row of yours this one is, callers_row tells. Look there for zeros, a broken reading or a batch that came twice"
             ),
-            Refusal::NotPositive { column } => write!(
+            Refusal::CholeskyZero { column } => write!(
                 f,
-                "the diagonal of row {column} became zero, negative or NaN: the row adds nothing to the rows before it, contradicts them, or is a broken reading. Leave its batch out, or measure it again"
+                "the diagonal of row {column} became exactly zero: perhaps the row came twice, or adds nothing to the rows before it. Ask first_twin of the rows as they came, and leave the row out"
             ),
             Refusal::ZeroDiagonal { column } => write!(
                 f,
                 "the diagonal of row {column} became zero, and UDU cannot go on: perhaps the row adds nothing to the rows after it. Leave its batch out, or measure it again"
+            ),
+            Refusal::CholeskyBelowZero { column } => write!(
+                f,
+                "the diagonal of row {column} fell below zero: perhaps the row came twice and rounding left a crumb below zero, or it contradicts the rows before it, or a number is far too large. Ask first_twin of the rows as they came; if it finds none, measure the row again"
+            ),
+            Refusal::CholeskyNan { column } => write!(
+                f,
+                "the diagonal of row {column} is NaN, not a number: look for NaN, infinite or far too large numbers in that row and the rows before it, and for a broken probe or cable. Measure again"
             ),
         }
     }
@@ -118,8 +141,10 @@ pub(crate) fn done(answer: u64) -> Result<(), Refusal> {
         4 => Refusal::SliceLength,
         5 => Refusal::BadRecord { row: place },
         6 => Refusal::ZeroMark { row: place },
-        7 => Refusal::NotPositive { column: place },
+        7 => Refusal::CholeskyZero { column: place },
         8 => Refusal::ZeroDiagonal { column: place },
+        10 => Refusal::CholeskyBelowZero { column: place },
+        11 => Refusal::CholeskyNan { column: place },
         code => {
             panic!("liburgyelpat.a answers code {code}, which this crate does not know: build both from one version")
         }

@@ -132,6 +132,8 @@ struct Batches {
     /// Refused at the first, second, third or a later row that came again, or earlier; accepted.
     at: [u64; 5],
     accepted: u64,
+    /// Refused by 7, 10 and 11, at a row that came again.
+    codes: [u64; 3],
     /// Of rows that came again: the largest that passed and the largest refused, as shares of v.
     passed: f64,
     refused: f64,
@@ -169,12 +171,16 @@ fn batch(r: &mut Rng, k: usize, near: Option<f64>, seen: &mut Batches) {
         seen.last.push(factor[n * n - 1] / factor[(k - 1) * (n + 1)]);
     } else {
         seen.at[if rows < k { 4 } else { (rows - k).min(3) }] += 1;
+        if rows >= k {
+            let code = [7, 10, 11].iter().position(|&code| code == answer / 4096);
+            seen.codes[code.expect("a diagonal is turned down")] += 1;
+        }
     }
 }
 
 fn batches(matrices: u64, near: Option<f64>) {
     println!(
-        "  k     1st     2nd     3rd   later  before  accepted  passed            reach       refused           beside            last diagonals"
+        "  k     1st     2nd     3rd   later  before  accepted    by 7   by 10   by 11  passed            reach       refused           beside            last diagonals"
     );
     for k in [1, 2, 3, 5, 10, 20] {
         let mut seen = Batches::default();
@@ -182,7 +188,8 @@ fn batches(matrices: u64, near: Option<f64>) {
             batch(&mut Rng::new(seed), k, near, &mut seen);
         }
         let percent = |c: u64| 100.0 * c as f64 / matrices as f64;
-        let shares: String = seen.at.iter().map(|&c| format!("  {:6.2}", percent(c))).collect();
+        let shares = |counts: &[u64]| -> String { counts.iter().map(|&c| format!("  {:6.2}", percent(c))).collect() };
+        let (at, codes) = (shares(&seen.at), shares(&seen.codes));
         seen.last.sort_by(f64::total_cmp);
         let last = match seen.last[..] {
             [] => "none".to_string(),
@@ -190,7 +197,7 @@ fn batches(matrices: u64, near: Option<f64>) {
         };
         let [passed, refused, beside] = [seen.passed, seen.refused, seen.beside].map(power);
         let reach = format!("{} of {}", seen.reach, seen.rows);
-        println!("{k:3}{shares}    {:6.2}  {passed:<16}  {reach:<10}  {refused:<16}  {beside:<16}  {last}", percent(seen.accepted));
+        println!("{k:3}{at}    {:6.2}{codes}  {passed:<16}  {reach:<10}  {refused:<16}  {beside:<16}  {last}", percent(seen.accepted));
     }
 }
 
@@ -201,6 +208,7 @@ fn main() {
     println!();
     println!("a batch of k rows twice, {matrices} matrices of order 2k by the text");
     println!("1st .. before: percent refused at that row of those that came again, or before them; then percent accepted");
+    println!("by 7, 10, 11: percent refused at a row that came again, by its code: zero, below zero, NaN");
     println!("passed: the largest number on the diagonal of an accepted row that came again, as a share of its first twin's v");
     println!("reach: how many of these reach 2^-51; refused: the largest size of such a number where the row was refused");
     println!("beside: the largest entry of a row that came again right of its first twin's column, where exact numbers leave");

@@ -202,6 +202,30 @@ fn lblt(w: &mut Writer) {
     w.sweep(1, &SPECIAL);
 }
 
+/// Diagonals on both sides of each test: alone, last of three in one call, and last of three in a batch of its own.
+fn diagonals(w: &mut Writer) {
+    let least = f64::from_bits(1);
+    let given = [0.0, -0.0, least, -least, 1.0, -1.0, f64::MAX, f64::MIN, f64::INFINITY, f64::NEG_INFINITY, f64::NAN, -f64::NAN];
+    for x in given {
+        let last = matrix(3, &[1.0, 0.0, 1.0, 0.0, 0.0, x]);
+        emit_all(
+            w,
+            &[
+                Case { x: 1, ..Case::new(Call::CholeskyFactor, 1, vec![x]) },
+                Case { x: 3, ..Case::new(Call::CholeskyFactor, 3, last.clone()) },
+                Case { x: 3, y: 2, ..Case::new(Call::CholeskyExtend, 3, last) },
+            ],
+        );
+    }
+    // what is left of a row that came twice: zero, below zero, above zero, NaN
+    for x in [1.0, 3.0, 2.0, f64::INFINITY] {
+        let twins = matrix(2, &[x, x, x]);
+        emit_all(w, [&Case { x: 2, ..Case::new(Call::CholeskyFactor, 2, twins.clone()) }]);
+        emit_all(w, [&Case { x: 2, y: 0, ..Case::new(Call::CholeskyExtend, 1, twins) }]);
+        w.call(Call::CholeskyExtend, 2, 2, 1);
+    }
+}
+
 fn cholesky(w: &mut Writer) {
     let document: [(usize, &[f64]); 5] = [(0, &[]), (2, &[4.0, 2.0, 5.0]), (2, &[1.0, 1.0, 1.0]), (1, &[-0.0]), (2, &[4.0, 2.0, 3.0])];
     for (n, lower) in document {
@@ -212,6 +236,7 @@ fn cholesky(w: &mut Writer) {
         w.call(Call::CholeskyL, n, n, 0);
         w.call(Call::CholeskyUnpack, n, n, 0);
     }
+    diagonals(w);
     let calls = [Call::CholeskyFactor, Call::CholeskyExtend, Call::CholeskyL, Call::CholeskyUnpack, Call::CholeskyDeterminant];
     refusals(w, &calls);
     families(w, Call::CholeskyFactor, 1..=3, 3000, 2_000_000);

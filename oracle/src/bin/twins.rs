@@ -1,13 +1,15 @@
 //! How often the factors notice a row that came twice: random symmetric positive matrices with one row and column repeated.
 //!
-//! `twins [MATRICES [FIRST SEED]]` prints, for each order, the share that each factor refuses or marks.
+//! `twins [MATRICES [FIRST SEED]]` prints, for each order, the share that each factor refuses or marks, Cholesky's also by code.
 
+use std::collections::BTreeMap;
+
+use oracle::call::Calls;
 use oracle::cases::Rng;
-use oracle::linalg::cholesky::Cholesky;
 use oracle::linalg::lblt::LBLT;
 use oracle::linalg::lblt::parts::apart;
 use oracle::linalg::udu::UDU;
-use oracle::text::square;
+use oracle::text::{Text, square};
 
 /// G·Gᵀ of order n − 1, G with two columns more than rows and entries in −1..1; then row and column `from` again, at the place `to` behind it.
 fn twin_matrix(r: &mut Rng, n: usize) -> Vec<f64> {
@@ -39,16 +41,26 @@ fn main() {
     let mut words = std::env::args().skip(1).map(|w| w.parse::<u64>().expect("a number"));
     let (matrices, first) = (words.next().unwrap_or(10_000), words.next().unwrap_or(1));
     println!("{matrices} matrices of each order, seeds from {first}");
-    println!("order  Cholesky refuses  UDU refuses  LBLT marks");
+    println!("order  Cholesky refuses      by 7     by 10     by 11  UDU refuses  LBLT marks");
     for n in [2, 4, 8, 16, 32] {
-        let mut counts = [0u64; 3];
+        let mut cholesky = BTreeMap::<u64, u64>::new();
+        let [mut udu, mut lblt] = [0u64; 2];
         for seed in first..first + matrices {
             let a = twin_matrix(&mut Rng::new(seed), n);
-            counts[0] += Cholesky::new(square(n, a.clone())).is_none() as u64;
-            counts[1] += UDU::new(square(n, a.clone())).is_none() as u64;
-            counts[2] += apart(LBLT::new(square(n, a))).2.is_some() as u64;
+            *cholesky.entry(Text.cholesky_factor(&mut a.clone(), n, n) / 4096).or_default() += 1;
+            udu += UDU::new(square(n, a.clone())).is_none() as u64;
+            lblt += apart(LBLT::new(square(n, a))).2.is_some() as u64;
         }
         let share = |c: u64| 100.0 * c as f64 / matrices as f64;
-        println!("{n:5}  {:15.1}%  {:10.1}%  {:9.1}%", share(counts[0]), share(counts[1]), share(counts[2]));
+        let by = |code| cholesky.get(&code).copied().unwrap_or(0);
+        println!(
+            "{n:5}  {:15.1}%  {:7.1}%  {:7.1}%  {:7.1}%  {:10.1}%  {:9.1}%",
+            share(matrices - by(0)),
+            share(by(7)),
+            share(by(10)),
+            share(by(11)),
+            share(udu),
+            share(lblt)
+        );
     }
 }

@@ -155,15 +155,12 @@ fn insisted_batches_at_every_cut_give_what_one_call_gives() {
 
 #[test]
 fn nan_is_nan_and_the_zeros_are_two() {
-    let not_positive = Refusal::NotPositive { column: 0 };
+    let none = Refusal::CholeskyNan { column: 0 };
     let batch = [f64::NAN, -f64::NAN, f64::from_bits(0x7ff0_0000_0000_0001)];
     assert_eq!(Cholesky::default().extend(&batch), Err(twins(0, 1)));
-    assert_eq!(Cholesky::default().extend_insisting(&batch), Err(not_positive));
+    assert_eq!(Cholesky::default().extend_insisting(&batch), Err(none));
     let apart = [f64::NAN, f64::NAN, 1.0];
-    assert_eq!(
-        Cholesky::default().extend(&apart),
-        Err(BatchRefusal::Refused(not_positive))
-    );
+    assert_eq!(Cholesky::default().extend(&apart), Err(BatchRefusal::Refused(none)));
 
     assert_eq!(with(&[4.0, 0.0, 2.0]).extend(&[0.0, 2.0, 2.0]), Err(twins(1, 2)));
     assert_eq!(with(&[4.0, 0.0, 2.0]).extend(&[-0.0, 2.0, 2.0]), Ok(()));
@@ -191,8 +188,8 @@ fn rows_are_kept_whichever_call_took_them() {
 #[test]
 fn rows_of_a_refused_batch_are_not_kept() {
     let mut factor = with(&[4.0]);
-    let not_positive = BatchRefusal::Refused(Refusal::NotPositive { column: 2 });
-    assert_eq!(factor.extend(&[2.0, 5.0, 1.0, 1.0, -1.0]), Err(not_positive));
+    let below_zero = BatchRefusal::Refused(Refusal::CholeskyBelowZero { column: 2 });
+    assert_eq!(factor.extend(&[2.0, 5.0, 1.0, 1.0, -1.0]), Err(below_zero));
     assert_eq!(factor.extend(&[2.0, 5.0, 2.0, 5.0, 5.0]), Err(twins(1, 2)));
     factor.extend(&[2.0, 5.0]).unwrap();
     assert_eq!(seen(&factor), seen(&with(&[4.0, 2.0, 5.0])));
@@ -239,7 +236,7 @@ fn the_refusal_says_which_rows_and_what_to_do() {
     for part in ["row 3", "row 8", "came twice", "Leave row 8 out", "insist"] {
         assert!(sentence.contains(part), "{sentence}");
     }
-    let refusal = Refusal::NotPositive { column: 4 };
+    let refusal = Refusal::CholeskyNan { column: 4 };
     assert_eq!(BatchRefusal::from(refusal), BatchRefusal::Refused(refusal));
     assert_eq!(BatchRefusal::Refused(refusal).to_string(), refusal.to_string());
 }

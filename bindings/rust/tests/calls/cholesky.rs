@@ -34,7 +34,7 @@ fn a_refused_batch_leaves_the_factor_and_another_may_follow() {
     assert_eq!((factor.order(), factor.room()), (0, 3));
     factor.extend(&[4.0, 2.0, 5.0]).unwrap();
     let batch = [6.0, 5.0, 14.0, 6.0, 5.0, 14.0, 13.0];
-    let refused = Refusal::NotPositive { column: 3 };
+    let refused = Refusal::CholeskyBelowZero { column: 3 };
     assert_eq!(factor.extend(&batch), Err(BatchRefusal::Refused(refused)));
     assert_eq!(factor.extend_insisting(&batch), Err(refused));
     assert_eq!(factor.order(), 2);
@@ -46,11 +46,25 @@ fn a_refused_batch_leaves_the_factor_and_another_may_follow() {
 
 #[test]
 fn a_diagonal_that_fails_is_named() {
-    for diagonal in [0.0, -0.0, -1.0, f64::NAN, f64::NEG_INFINITY] {
-        let refused = Refusal::NotPositive { column: 0 };
+    let zero = |column| Refusal::CholeskyZero { column };
+    let below_zero = |column| Refusal::CholeskyBelowZero { column };
+    let nan = |column| Refusal::CholeskyNan { column };
+    let named: [(f64, &dyn Fn(usize) -> Refusal); 8] = [
+        (0.0, &zero),
+        (-0.0, &zero),
+        (-1.0, &below_zero),
+        (-f64::from_bits(1), &below_zero),
+        (f64::NEG_INFINITY, &below_zero),
+        (f64::NAN, &nan),
+        (-f64::NAN, &nan),
+        (f64::from_bits(0x7ff0_0000_0000_0001), &nan),
+    ];
+    for (diagonal, refused) in named {
         let whole = Cholesky::new(vec![diagonal], 1).unwrap_err();
-        assert_eq!(whole, BatchRefusal::Refused(refused));
-        assert_eq!(Cholesky::new_insisting(vec![diagonal], 1).unwrap_err(), refused);
+        assert_eq!(whole, BatchRefusal::Refused(refused(0)));
+        assert_eq!(Cholesky::new_insisting(vec![diagonal], 1).unwrap_err(), refused(0));
+        let mut factor = Cholesky::new(vec![1.0], 1).unwrap();
+        assert_eq!(factor.extend(&[0.0, diagonal]), Err(BatchRefusal::Refused(refused(1))));
     }
 }
 
@@ -85,7 +99,7 @@ fn nothing_outside_the_order_enters_a_solution() {
 
     let mut factor = Cholesky::with_room(4).unwrap();
     factor.extend(&[4.0, 2.0, 5.0]).unwrap();
-    let refused = BatchRefusal::Refused(Refusal::NotPositive { column: 2 });
+    let refused = BatchRefusal::Refused(Refusal::CholeskyNan { column: 2 });
     assert_eq!(factor.extend(&[nan; 3]), Err(refused));
     assert_eq!((factor.order(), factor.room()), (2, 4));
     assert_eq!(factor.solve(&[8.0, 11.0, 2.0, 5.0]).unwrap(), b);
@@ -108,7 +122,7 @@ fn what_stands_on_the_diagonal_is_divided_by() {
 
     // what a refused factor left
     let mut a = [1.0, 1.0, nan, 1.0];
-    let refused = Refusal::NotPositive { column: 1 };
+    let refused = Refusal::CholeskyZero { column: 1 };
     assert_eq!(cholesky::factor(&mut a, 2, 2), Err(refused));
     assert_eq!(solved(a), [-infinity, infinity]);
 }

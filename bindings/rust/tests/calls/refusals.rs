@@ -15,6 +15,8 @@ fn all() -> Vec<Refusal> {
         lblt::solve_mut(&a, &[0, 1, 1, 1, 2], &mut b, 2, 1).unwrap_err(),
         cholesky::factor(&mut [1.0, 1.0, 0.0, 1.0], 2, 2).unwrap_err(),
         udu::factor(&[1.0, 0.0, 1.0, 0.0], &mut u, &mut b, 2).unwrap_err(),
+        cholesky::factor(&mut [1.0, 2.0, 0.0, 1.0], 2, 2).unwrap_err(),
+        cholesky::factor(&mut [1.0, f64::NAN, 0.0, 1.0], 2, 2).unwrap_err(),
     ]
 }
 
@@ -27,14 +29,14 @@ fn each_has_its_code_and_place() {
         Refusal::SliceLength,
         Refusal::BadRecord { row: 1 },
         Refusal::ZeroMark { row: 1 },
-        Refusal::NotPositive { column: 1 },
+        Refusal::CholeskyZero { column: 1 },
         Refusal::ZeroDiagonal { column: 1 },
+        Refusal::CholeskyBelowZero { column: 1 },
+        Refusal::CholeskyNan { column: 1 },
     ];
     assert_eq!(all(), expected);
-    for (at, refusal) in expected.into_iter().enumerate() {
-        assert_eq!(refusal.code() as usize, at + 1);
-        assert_eq!(refusal.place(), usize::from(at >= 4));
-    }
+    assert_eq!(expected.map(Refusal::code), [1, 2, 3, 4, 5, 6, 7, 8, 10, 11]);
+    assert_eq!(expected.map(Refusal::place), [0, 0, 0, 0, 1, 1, 1, 1, 1, 1]);
 }
 
 #[test]
