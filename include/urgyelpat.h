@@ -40,7 +40,8 @@
  *   10 URGYELPAT_CHOLESKY_BELOW_ZERO Cholesky: a diagonal is below zero, -infinity included    its column j
  *   11 URGYELPAT_CHOLESKY_NAN        Cholesky: a diagonal is NaN                               its column j
  *
- * Cholesky judges a diagonal once it is updated by the columns before it; exactly one of "passes", 7, 10 and 11 fits it.
+ * Cholesky judges a diagonal once it is updated by the columns before it; exactly one of "passes", 7, 10 and 11 fits it. A row
+ * with a NaN is never accepted: it is refused by 11, if no row before it is refused.
  * What stands in the buffers after 7, 8, 10 and 11 is said at the functions that give them. Everything is promised to the bit
  * but a NaN's sign and payload: a NaN is a NaN, in results and in what is kept. (That a kept NaN keeps its bits is tested.)
  */

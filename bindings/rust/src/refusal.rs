@@ -44,7 +44,8 @@ pub enum Refusal {
         /// Its row and column.
         column: usize,
     },
-    /// Code 11: a diagonal of Cholesky is NaN.
+    /// Code 11: a diagonal of Cholesky is NaN. A row with a NaN in it is never accepted, and ends so unless a row before it is
+    /// refused.
     CholeskyNan {
         /// Its row and column.
         column: usize,

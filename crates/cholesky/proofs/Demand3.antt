@@ -1,4 +1,4 @@
--- Demand 3: batches over any rising list of cuts give what the one call on the whole matrix gives. Assumes nothing.
+-- Demand 3: batches over any rising list of cuts give what the one call on the whole matrix gives, refused with the same code and row. Assumes nothing.
 use mathlib.Core.Path.{_≡_, refl, sym, _∙_, ap, subst}
 use mathlib.Core.Bool.{true, true≢false}
 use mathlib.Core.List.{List, [], _∷_}

@@ -8,6 +8,7 @@ pub mod Rows
 pub mod Promises
 pub mod Batch
 pub mod Refusals
+pub mod Nan
 pub mod Arriving
 pub mod Handed
 pub mod Demand3

@@ -1,4 +1,4 @@
--- What a column leaves alone, and what a passed column leaves. Assumes nothing.
+-- What a column leaves alone, what it answers, and what a passed column leaves. Assumes nothing.
 use mathlib.Core.Path.{_≡_, refl, sym, _∙_}
 use mathlib.Core.Bool.{true, true≢false}
 use mathlib.Core.Logic.{_⊎_, inl, inr}
@@ -11,6 +11,7 @@ use Rattle.answer.specs.Number.{isDone}
 use Rattle.matrix.specs.Matrix.{Matrix, entry}
 use Rattle.matrix.specs.Loop.{for}
 use Rattle.matrix.specs.Rounded.{_⊘_}
+use Rattle.answer.proofs.Done.{done-is}
 use Rattle.answer.proofs.Tests.{either}
 use Rattle.matrix.proofs.Loops.{for-still}
 use Rattle.matrix.proofs.Stores.{entry-skip}
@@ -81,6 +82,12 @@ module _ (ρ : Rule) (i c : ℕ) where
   columns-off m lo hi o off =
       for-still (λ (p : Outcome). p .cells i c) lo hi (factorColumn ρ m) o
       (λ j p from upto. either (λ (q : Outcome). q .cells i c ≡ p .cells i c) (isDone (p .answer)) (λ e. worked-off m j (p .cells) (off j from upto)) (λ e. refl))
+
+-- the answer of a judged column is the rule's
+pub judged-answer : (ρ : Rule) (j : ℕ) (U : Matrix) → judgedColumn ρ j U .answer ≡ ρ .verdict (U j j) j
+unfolding judgedColumn
+judged-answer ρ j U =
+    either (λ (o : Outcome). o .answer ≡ ρ .verdict (U j j) j) (isDone (ρ .verdict (U j j) j)) (λ passed. sym (done-is (ρ .verdict (U j j) j) passed)) (λ failed. refl)
 
 -- a column that passed has its root, and the rows below are divided by it
 pub judged-passed : (ρ : Rule) (j : ℕ) (U : Matrix) → isDone (judgedColumn ρ j U .answer) ≡ true → judgedColumn ρ j U .cells ≡ below (j + 1) j (entry U j j (ρ .root (U j j)))

@@ -34,9 +34,9 @@ pub data Arriving (given : Matrix) : ℕ → Matrix → List ℕ → ℕ → Mat
 
 -- Batches over cuts that end at e stopped with c rows handed in, which hold N, and the answer r; the one call on n rows leaves `whole` and answers w.
 pub record ArrivedAsOne (n e c : ℕ) (N : Matrix) (r : Answer) (whole : Matrix) (w : Answer) : Type 0 where
-  -- the cuts end at n: a batch is refused exactly if the one call is, with the same code and row
+  -- the cuts end at n: the answers are equal, so a batch is refused exactly if the one call is, with the same code and row
   pub ended : e ≡ n → r ≡ w
-  -- they end anywhere: a batch that is refused is refused as the one call is
+  -- they end anywhere: a batch that is refused is refused with the one call's code and row
   pub refused : isDone r ≡ false → r ≡ w
   -- no batch is refused: the one call is refused, if at all, at a later row
   pub later : isDone r ≡ true → RefusedIn e n w

@@ -30,9 +30,9 @@ RefusedIn lo hi r = isDone r ≡ false → (lo ≤ placeOf r) × (placeOf r < hi
 
 -- Batches over cuts that end at e stopped with c rows handed in, the buffer l and the answer r; the one call on n rows leaves `whole` and answers w.
 pub record SameAsOne (room n : ℕ) (l₀ : List Float) (e c : ℕ) (l : List Float) (r : Answer) (whole : List Float) (w : Answer) : Type 0 where
-  -- the cuts end at n: a batch is refused exactly if the one call is, with the same code and row
+  -- the cuts end at n: the answers are equal, so a batch is refused exactly if the one call is, with the same code and row
   pub ended : e ≡ n → r ≡ w
-  -- they end anywhere: a batch that is refused is refused as the one call is, at a row handed in
+  -- they end anywhere: a batch that is refused is refused with the one call's code and row, a row handed in
   pub refused : isDone r ≡ false → r ≡ w
   pub within : RefusedIn 0 c r
   -- no batch is refused: all rows are handed in, and the one call is refused, if at all, at a later row

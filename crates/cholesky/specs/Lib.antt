@@ -6,6 +6,7 @@ pub mod Leaves
 pub mod Promise
 pub mod Batches
 pub mod Arriving
+pub mod Nan
 pub mod Readers
 pub mod Solve
 pub mod inner

@@ -1,5 +1,5 @@
 -- Cholesky and twin rows p < q, for any rule of the diagonal. Assumes nothing.
-use mathlib.Core.Path.{_≡_, refl, sym, _∙_, ap, subst}
+use mathlib.Core.Path.{_≡_, sym, _∙_, ap, subst}
 use mathlib.Core.Bool.{true, false}
 use mathlib.Core.Logic.{inr, ⊎-elim}
 use Prim.Native.Nat.{ℕ, zero, suc, _+_, _≤_, _<_}
@@ -9,8 +9,6 @@ use native.Mathlib.Omega.{arith}
 use borrow.Author.Tests.{le-ltb}
 use lib.Ieee.{Float, binary64, neg}
 use Rattle.answer.specs.Number.{isDone}
-use Rattle.answer.proofs.Done.{done-is}
-use Rattle.answer.proofs.Tests.{either}
 use Rattle.matrix.specs.Matrix.{Matrix, entry}
 use Rattle.matrix.specs.Loop.{for}
 use Rattle.matrix.specs.Rounded.{_⊕_, _⊗_, _⊘_}
@@ -18,7 +16,7 @@ use Rattle.matrix.proofs.Loops.{for-more, for-same, for-join}
 use Rattle.cholesky.specs.Column.{less, updated}
 use Rattle.cholesky.specs.Run.{Rule, Outcome, updates, below, judgedColumn, worked, factorColumn, started, factorColumns}
 use Rattle.cholesky.proofs.Batch.{done-before}
-use Rattle.cholesky.proofs.Rows.{updates-in, below-in, below-above, columns-off, judged-passed}
+use Rattle.cholesky.proofs.Rows.{updates-in, below-in, below-above, columns-off, judged-answer, judged-passed}
 use Rattle.matrix.proofs.Products.{neg-exchanges}
 use Rattle.matrix.proofs.Stores.{entry-here, entry-row}
 
@@ -43,12 +41,6 @@ chain M N i j r c k start terms = reduced-same M M N N i j r c k start terms
 -- what column p leaves of x in row q, if v is the first twin's updated diagonal: x + (−(x / root v))·(v / root v)
 unfoldable pub remainder : Rule → Float → Float → Float
 remainder ρ v x = x ⊕ neg (x ⊘ ρ .root v) ⊗ (v ⊘ ρ .root v)
-
--- the answer of a judged column is the rule's
-pub judged-answer : (ρ : Rule) (j : ℕ) (U : Matrix) → judgedColumn ρ j U .answer ≡ ρ .verdict (U j j) j
-unfolding judgedColumn
-judged-answer ρ j U =
-    either (λ (o : Outcome). o .answer ≡ ρ .verdict (U j j) j) (isDone (ρ .verdict (U j j) j)) (λ passed. sym (done-is (ρ .verdict (U j j) j) passed)) (λ failed. refl)
 
 module _ (ρ : Rule) (A : Matrix) where
   -- the matrix after j columns

@@ -1,0 +1,14 @@
+-- What a row with a NaN in it is answered.
+use mathlib.Core.Path.{_≡_}
+use mathlib.Core.Bool.{false}
+use Prim.Native.Nat.{ℕ, _≤_}
+use Rattle.answer.specs.declared.Answer.{Answer}
+use Rattle.answer.specs.declared.Answer.the-variants.{CholeskyNan}
+use Rattle.answer.specs.Number.{placeOf, isDone}
+
+-- row i of a batch from row m on has a NaN: the batch is refused, at a row before i or at i, and at i by 11
+pub record NanTold (m i : ℕ) (r : Answer) : Type 0 where
+  pub refused : isDone r ≡ false
+  pub from : m ≤ placeOf r
+  pub upto : placeOf r ≤ i
+  pub here : placeOf r ≡ i → r ≡ CholeskyNan i
