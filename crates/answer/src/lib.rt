@@ -21,7 +21,7 @@ pub enum Answer {
     CholeskyZero(u32),
     // UDU: the diagonal at this column is zero.
     ZeroDiagonal(u32),
-    // Cholesky: the diagonal at this column is below zero.
+    // Cholesky: the diagonal at this column is below zero, −infinity included.
     CholeskyBelowZero(u32),
     // Cholesky: the diagonal at this column is NaN.
     CholeskyNan(u32),

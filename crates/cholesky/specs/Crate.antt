@@ -8,8 +8,12 @@ use Rattle.matrix.specs.Rounded.{plusZero}
 use Rattle.leaf.specs.Root.{rootOf}
 use Rattle.cholesky.specs.Run.{Rule}
 
+-- what is answered to the diagonal d of column j, `Done` if it passes; what is neither above zero, nor zero, nor below it is NaN
 unfoldable pub positive : Float → ℕ → Answer
-positive d j = cond (lt plusZero d) Done (cond (eq d plusZero) (CholeskyZero j) (cond (lt d plusZero) (CholeskyBelowZero j) (CholeskyNan j)))
+positive d j =
+    cond (lt plusZero d) Done
+    (cond (eq d plusZero) (CholeskyZero j)
+    (cond (lt d plusZero) (CholeskyBelowZero j) (CholeskyNan j)))
 
 abbrev pub crateRule : Rule
 crateRule = record { verdict = positive; root = rootOf }

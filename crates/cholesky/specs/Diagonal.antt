@@ -1,4 +1,4 @@
--- Which answer is due to a diagonal: by a test for each, and by the number itself. `positive` is both (proofs/Diagonal).
+-- Which answer is due to the diagonal d of column j, said twice: by a test for each answer, and by the number itself. `positive` gives it (proofs/Diagonal).
 use mathlib.Core.Path.{_≡_}
 use mathlib.Core.Bool.{true, false}
 use Prim.Native.Nat.{ℕ, zero, suc}
@@ -7,14 +7,14 @@ use Rattle.answer.specs.declared.Answer.{Answer}
 use Rattle.answer.specs.declared.Answer.the-variants.{Done, CholeskyZero, CholeskyBelowZero, CholeskyNan}
 use Rattle.matrix.specs.Rounded.{plusZero}
 
--- the answer to the diagonal d of column j
+-- each answer with a test of its own; one fits, and no other
 pub data Due (d : Float) (j : ℕ) : Answer → Type 0 where
   above : lt plusZero d ≡ true → Due d j Done
   nought : eq d plusZero ≡ true → Due d j (CholeskyZero j)
   below : lt d plusZero ≡ true → Due d j (CholeskyBelowZero j)
   none : isNan d ≡ true → Due d j (CholeskyNan j)
 
--- `inf s` is an infinity, `fin s m e` is m·2^e, with a minus where s is true
+-- `inf s` is an infinity and `fin s m e` is m·2^e, with a minus where s is true
 unfoldable pub dueTo : Float → ℕ → Answer
 dueTo nan j = CholeskyNan j
 dueTo (inf false) j = Done

@@ -6,7 +6,7 @@ use Rattle.answer.specs.declared.Answer.{Answer}
 use Rattle.answer.specs.declared.Answer.the-variants.{CholeskyNan}
 use Rattle.answer.specs.Number.{placeOf, isDone}
 
--- row i of a batch from row m on has a NaN: the batch is refused, at a row before i or at i, and at i by 11
+-- row i of a batch from row m on has a NaN on its diagonal or left of it: the batch is refused, at a row up to i, and at i by 11
 pub record NanTold (m i : ℕ) (r : Answer) : Type 0 where
   pub refused : isDone r ≡ false
   pub from : m ≤ placeOf r
