@@ -123,7 +123,7 @@ impl fmt::Display for Refusal {
             ),
             Refusal::CholeskyNan { column } => write!(
                 f,
-                "the diagonal of row {column} is NaN, not a number: look for NaN, infinite or far too large numbers in that row and the rows before it, and for a broken probe or cable. Measure again"
+                "the diagonal of row {column} is NaN, not a number: look for NaN, infinite or far too large numbers, first in that row, and for a broken probe or cable. Measure again"
             ),
         }
     }
