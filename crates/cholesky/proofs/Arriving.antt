@@ -16,14 +16,15 @@ use Rattle.matrix.specs.Loop.{for}
 use Rattle.matrix.specs.Grid.{load}
 use Rattle.matrix.specs.Layouts.{inRoom, lower}
 use Rattle.matrix.specs.Sizes.{Fits}
-use Rattle.matrix.proofs.Loops.{for-none, for-join}
+use Rattle.matrix.proofs.Loops.{for-none}
 use Rattle.cholesky.specs.Run.{Outcome, factorColumn, started, factorColumns}
 use Rattle.cholesky.specs.Crate.{crateRule}
 use Rattle.cholesky.specs.Promise.{Extended}
 use Rattle.cholesky.specs.Batches.{Rising, RefusedIn}
 use Rattle.cholesky.specs.Arriving.{Arrived, Arriving, none, refused, more, ArrivedAsOne}
 use Rattle.cholesky.proofs.Parts.{Agree, leaves-agree}
-use Rattle.cholesky.proofs.Outcomes.{Like, refusal-stays}
+use Rattle.cholesky.proofs.Onward.{columns-on, refusal-answers}
+use Rattle.cholesky.proofs.Outcomes.{Like}
 use Rattle.cholesky.proofs.Rows.{columns-off}
 use Rattle.cholesky.proofs.Promises.{extended-answer, extended-leaves}
 use Rattle.cholesky.proofs.Refusals.{columns-answered, refused-in}
@@ -92,18 +93,11 @@ module _ (given : Matrix) where
 -- ---- the one call on more rows
 
 module _ (given : Matrix) (c n : ℕ) (upto : c ≤ n) where
-  longer : for c n (factorColumn crateRule 0) (factorColumns crateRule 0 c given) ≡ factorColumns crateRule 0 n given
-  unfolding factorColumns
-  longer = for-join 0 c n (factorColumn crateRule 0) (started given) (omega arith) upto
-
   longer-row : (i j : ℕ) → i < c → factorColumns crateRule 0 n given .cells i j ≡ factorColumns crateRule 0 c given .cells i j
-  longer-row i j lt = sym (ap (λ (o : Outcome). o .cells i j) longer) ∙ columns-off crateRule i j 0 c n (factorColumns crateRule 0 c given) (λ k from below. inl (omega arith))
-
-  longer-refused : isDone (factorColumns crateRule 0 c given .answer) ≡ false → factorColumns crateRule 0 c given .answer ≡ factorColumns crateRule 0 n given .answer
-  longer-refused failed = ap (λ (o : Outcome). o .answer) (sym (refusal-stays crateRule 0 c n (factorColumns crateRule 0 c given) failed) ∙ longer)
+  longer-row i j lt = sym (ap (λ (o : Outcome). o .cells i j) (columns-on crateRule 0 given c n upto)) ∙ columns-off crateRule i j 0 c n (factorColumns crateRule 0 c given) (λ k from below. inl (omega arith))
 
   longer-done : factorColumns crateRule 0 c given .answer ≡ Done → RefusedIn c n (factorColumns crateRule 0 n given .answer)
-  longer-done done = subst (λ (o : Outcome). RefusedIn c n (o .answer)) longer (refused-in (columns-answered crateRule 0 c n c (λ j low early. low) (factorColumns crateRule 0 c given) done))
+  longer-done done = subst (λ (o : Outcome). RefusedIn c n (o .answer)) (columns-on crateRule 0 given c n upto) (refused-in (columns-answered crateRule 0 c n c (λ j low early. low) (factorColumns crateRule 0 c given) done))
 
 -- ---- the statement
 
@@ -138,4 +132,4 @@ module _ (room n : ℕ) (l₀ : List Float) (fits : Fits (inRoom n room) 0 (leng
       answered = extended-answer call fits
 
       failing : isDone r ≡ false → r ≡ w
-      failing failed = ends .answer ∙ longer-refused given c n inside (ap isDone (sym (ends .answer)) ∙ failed) ∙ sym answered
+      failing failed = ends .answer ∙ ap (λ (o : Outcome). o .answer) (refusal-answers crateRule 0 given c n inside (ap isDone (sym (ends .answer)) ∙ failed)) ∙ sym answered

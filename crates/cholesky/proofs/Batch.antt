@@ -17,16 +17,9 @@ use Rattle.matrix.proofs.Loops.{for-none, for-more, for-same, for-join}
 use Rattle.matrix.proofs.Stores.{entry-row}
 use Rattle.cholesky.specs.Run.{Rule, Outcome, updates, below, continued, judgedColumn, worked, factorColumn, started, factorColumns}
 use Rattle.cholesky.proofs.Parts.{Where, within, above, beside, where?, updated-agree}
-use Rattle.cholesky.proofs.Outcomes.{Like, refusal-stays, columns-like}
+use Rattle.cholesky.proofs.Onward.{accepted-before}
+use Rattle.cholesky.proofs.Outcomes.{Like, columns-like}
 use Rattle.cholesky.proofs.Rows.{Off, updates-in, updates-above, below-in, below-above, columns-off, judged-passed}
-
--- a run that is not refused up to m was not refused before
-pub done-before : (ρ : Rule) (k lo hi : ℕ) (o : Outcome) → isDone (for lo hi (factorColumn ρ k) o .answer) ≡ true → isDone (o .answer) ≡ true
-done-before ρ k lo hi o done = pick (isDone (o .answer)) refl
-  where
-    pick : (b : Bool) → isDone (o .answer) ≡ b → isDone (o .answer) ≡ true
-    pick true e = e
-    pick false e = sym (ap (λ (p : Outcome). isDone (p .answer)) (refusal-stays ρ k lo hi o e)) ∙ done
 
 -- one column more
 column-done : (ρ : Rule) (k j : ℕ) (o : Outcome) → isDone (o .answer) ≡ true → factorColumn ρ k j o ≡ worked ρ k j (o .cells)
@@ -52,9 +45,8 @@ module _ (ρ : Rule) (m n : ℕ) (A M : Matrix) (le : m ≤ n) where
       (before : (i c : ℕ) → c ≤ i → i < m → M i c ≡ one m .cells i c)
       (given : (i c : ℕ) → c ≤ i → m ≤ i → i < n → M i c ≡ A i c) where
     one-done : (j : ℕ) → j ≤ m → isDone (one j .answer) ≡ true
-    one-done j upto =
-        done-before ρ 0 j m (one j)
-        (ap (λ (o : Outcome). isDone (o .answer)) (for-join 0 j m (factorColumn ρ 0) (started A) (omega arith) upto) ∙ ap isDone done)
+    unfolding factorColumns
+    one-done j upto = accepted-before ρ 0 A j m upto (ap isDone done)
 
     along-none : Along 0
     along-none = record {

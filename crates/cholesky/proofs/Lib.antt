@@ -1,4 +1,5 @@
 pub mod Parts
+pub mod Onward
 pub mod Outcomes
 pub mod Diagonal
 pub mod Judging

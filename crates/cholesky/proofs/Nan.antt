@@ -8,7 +8,6 @@ use native.Mathlib.Omega.{arith}
 use lib.Dec.{ltb}
 use lib.ListN.{length}
 use lib.Ieee.{Float, nan, inf, fin, add, mul, div, neg}
-use borrow.Author.Tests.{le-ltb}
 use Rattle.answer.specs.declared.Answer.{Answer}
 use Rattle.answer.specs.declared.Answer.the-variants.{CholeskyNan}
 use Rattle.answer.specs.Number.{placeOf, isDone}
@@ -30,7 +29,7 @@ use Rattle.cholesky.specs.Diagonal.{dueTo}
 use Rattle.cholesky.specs.Promise.{Extended}
 use Rattle.cholesky.specs.Nan.{NanTold}
 use Rattle.cholesky.proofs.Diagonal.{positive-is}
-use Rattle.cholesky.proofs.Outcomes.{refusal-stays}
+use Rattle.cholesky.proofs.Onward.{refusal-answers, judges}
 use Rattle.cholesky.proofs.Rows.{updates-in, below-in, worked-off, judged-answer}
 use Rattle.cholesky.proofs.Promises.{extended-answer}
 use Rattle.cholesky.proofs.Refusals.{columns-answered, refused-in}
@@ -93,51 +92,56 @@ module _ (ρ : Rule) (m i k : ℕ) (late : m ≤ i) where
       by (inr other) = worked-off ρ i k m j M (inr other) ∙ e
 
   -- after the columns before i
-  columns-nan : (A : Matrix) → A i k ≡ nan → for 0 i (factorColumn ρ m) (started A) .cells i k ≡ nan
-  unfolding factorColumn
+  columns-nan : (A : Matrix) → A i k ≡ nan → factorColumns ρ m i A .cells i k ≡ nan
+  unfolding factorColumns factorColumn
   columns-nan A e =
       for-keeps (λ (o : Outcome). o .cells i k ≡ nan) 0 i (factorColumn ρ m) (started A) e
       (λ j o from upto is. either (λ (p : Outcome). p .cells i k ≡ nan) (isDone (o .answer)) (λ go. column-nan j (o .cells) upto is) (λ stop. is))
 
 -- ---- the call
 
-module _ {y : Layout} {m : ℕ} {l l' : List Float} {r : Answer} (fits : Fits y m (length l)) (call : Extended y m l l' r) (i k : ℕ) (late : m ≤ i) (within : i < y .order) (left : k ≤ i) (broken : load (lower y) l i k ≡ nan) where
-  A : Matrix
+module _ {y : Layout} {m : ℕ} {l l' : List Float} {r : Answer} (fits : Fits y m (length l)) (call : Extended y m l l' r)
+    (i k : ℕ)
+    (late : m ≤ i)
+    (within : i < y .order)
+    (left : k ≤ i)
+    (broken : load (lower y) l i k ≡ nan) where
+  abbrev A : Matrix
   A = load (lower y) l
 
-  before : Outcome
-  before = for 0 i (factorColumn crateRule m) (started A)
+  -- what the columns before i give, and what those up to i give
+  abbrev before : Outcome
+  before = factorColumns crateRule m i A
 
-  -- a refusal after c columns is the call's answer
-  refused-after : (c : ℕ) (o : Outcome) → c ≤ y .order → o ≡ for 0 c (factorColumn crateRule m) (started A) → isDone (o .answer) ≡ false → r ≡ o .answer
-  unfolding factorColumns A
-  refused-after c o upto is failed =
-      extended-answer call fits
-      ∙ ap (λ (o : Outcome). o .answer) (sym (for-join 0 c (y .order) (factorColumn crateRule m) (started A) (omega arith) upto) ∙ ap (for c (y .order) (factorColumn crateRule m)) (sym is) ∙ refusal-stays crateRule m c (y .order) o failed)
+  abbrev upto : Outcome
+  upto = factorColumns crateRule m (i + 1) A
 
   -- row i is judged
-  judged : isDone (before .answer) ≡ true → factorColumn crateRule m i before .answer ≡ CholeskyNan i
-  unfolding factorColumn worked before A dueTo
-  judged done =
-      let M = before .cells in
-      rw (done, le-ltb i m late)
-      (judged-answer crateRule i (updates i i M) ∙ ap (λ (x : Float). positive x i) (updates-in i i M i (omega arith) ∙ diagonal-nan M i k (columns-nan crateRule m i k late A broken) left) ∙ positive-is nan i)
+  judged : isDone (before .answer) ≡ true → upto .answer ≡ CholeskyNan i
+  unfolding dueTo
+  judged passed =
+      ap (λ (o : Outcome). o .answer) (judges crateRule m A i late passed)
+      ∙ judged-answer crateRule i (updates i i (before .cells))
+      ∙ ap (λ (x : Float). positive x i) (updates-in i i (before .cells) i (omega arith) ∙ diagonal-nan (before .cells) i k (columns-nan crateRule m i k late A broken) left)
+      ∙ positive-is nan i
+
+  -- a refusal in the first c columns is the call's
+  refused-first : (c : ℕ) → c ≤ y .order → isDone (factorColumns crateRule m c A .answer) ≡ false → r ≡ factorColumns crateRule m c A .answer
+  refused-first c inside failed = extended-answer call fits ∙ ap (λ (o : Outcome). o .answer) (sym (refusal-answers crateRule m A c (y .order) inside failed))
 
   pub nan-told : NanTold m i r
-  unfolding before
+  unfolding factorColumns
   nan-told = done-or-refused (before .answer) at-row earlier
     where
       at-row : isDone (before .answer) ≡ true → NanTold m i r
-      at-row done =
-          let answer : r ≡ CholeskyNan i =
-          refused-after (i + 1) (factorColumn crateRule m i before) (omega arith) (sym (for-more 0 i (factorColumn crateRule m) (started A) (omega arith))) (ap isDone (judged done))
-          ∙ judged done in
+      at-row passed =
+          let answer : r ≡ CholeskyNan i = refused-first (i + 1) (omega arith) (ap isDone (judged passed)) ∙ judged passed in
           let place : placeOf r ≡ i = ap placeOf answer in
           record { refused = ap isDone answer; from = omega arith; upto = omega arith; here = λ h. answer }
 
       earlier : isDone (before .answer) ≡ false → NanTold m i r
       earlier failed =
-          let answer : r ≡ before .answer = refused-after i before (omega arith) refl failed in
+          let answer : r ≡ before .answer = refused-first i (omega arith) failed in
           let in-rows = refused-in (columns-answered crateRule m 0 i m (λ j low from. from) (started A) refl) failed in
           let place : placeOf r ≡ placeOf (before .answer) = ap placeOf answer in
           record { refused = ap isDone answer ∙ failed; from = omega arith; upto = omega arith; here = λ h. absurd (omega arith) }

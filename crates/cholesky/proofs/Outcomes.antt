@@ -1,6 +1,6 @@
 -- The run on two matrices that agree on the first n rows: its columns below n answer alike and leave matrices that agree there.
 -- Assumes nothing.
-use mathlib.Core.Path.{_≡_, refl, _∙_, ap, ap₂, subst}
+use mathlib.Core.Path.{_≡_, refl, ap₂, subst}
 use mathlib.Core.Bool.{Bool, true, false, cond}
 use Prim.Native.Nat.{ℕ, _+_, _≤_, _<_}
 use native.Mathlib.Omega.{arith}
@@ -13,7 +13,7 @@ use Rattle.answer.specs.Number.{isDone}
 use Rattle.matrix.specs.Matrix.{Matrix, entry}
 use Rattle.matrix.specs.Loop.{for}
 use Rattle.matrix.specs.Rounded.{_⊘_}
-use Rattle.matrix.proofs.Loops.{for-related, for-keeps}
+use Rattle.matrix.proofs.Loops.{for-related}
 use Rattle.cholesky.specs.Column.{updated, divided}
 use Rattle.cholesky.specs.Run.{Rule, Outcome, updates, below, continued, judgedColumn, worked, factorColumn}
 use Rattle.cholesky.proofs.Parts.{Agree, part-agree, updated-agree, entry-agree}
@@ -69,13 +69,6 @@ column-like {n} {o} {p} ρ m j lt same = subst (λ (r : Answer). Like n (factorC
     pick : (b : Bool) → Like n (cond b (worked ρ m j (o .cells)) o) (cond b (worked ρ m j (p .cells)) p)
     pick true = worked-like ρ m j lt (same .cells)
     pick false = same
-
--- a refusal stays
-pub refusal-stays : (ρ : Rule) (m lo hi : ℕ) (o : Outcome) → isDone (o .answer) ≡ false → for lo hi (factorColumn ρ m) o ≡ o
-unfolding factorColumn
-refusal-stays ρ m lo hi o refused =
-    for-keeps (λ (p : Outcome). p ≡ o) lo hi (factorColumn ρ m) o refl
-    (λ j p from upto e. ap (λ (q : Outcome). cond (isDone (q .answer)) (worked ρ m j (q .cells)) q) e ∙ rw refused)
 
 -- columns lo to hi
 pub columns-like : {n : ℕ} {o p : Outcome} (ρ : Rule) (m lo hi : ℕ) → hi ≤ n → Like n o p → Like n (for lo hi (factorColumn ρ m) o) (for lo hi (factorColumn ρ m) p)

@@ -22,7 +22,8 @@ use Rattle.cholesky.specs.Run.{Rule, Outcome, updates, below, continued,
 use Rattle.cholesky.specs.Leaves.{Leaves}
 use Rattle.cholesky.specs.inner.Engine.{Judgement, Ends, Advanced}
 use Rattle.cholesky.proofs.Parts.{leaves-agree, leaves-none, leaves-then}
-use Rattle.cholesky.proofs.Outcomes.{Like, refusal-stays, judged-like, below-agree, columns-like}
+use Rattle.cholesky.proofs.Onward.{refusal-answers}
+use Rattle.cholesky.proofs.Outcomes.{Like, judged-like, below-agree, columns-like}
 
 -- ---- one column
 
@@ -118,10 +119,7 @@ pub running-refused : {ρ : Rule} {y : Layout} {m : ℕ} {l₀ : List Float} {j 
 unfolding factorColumns
 running-refused {ρ} {y} {m} {l₀} {l' = l'} {s = s} u a refused =
     let e : Ends y l₀ l' (s .answer) (for 0 (s .next) (factorColumn ρ m) (started (load (lower y) l₀))) = running-on u a in
-    let o : Outcome = for 0 (s .next) (factorColumn ρ m) (started (load (lower y) l₀)) in
-    subst (Ends y l₀ l' (s .answer))
-    (sym (refusal-stays ρ m (s .next) (y .order) o (ap isDone (sym (e .answer)) ∙ refused)) ∙ for-join 0 (s .next) (y .order) (factorColumn ρ m) (started (load (lower y) l₀)) (omega arith) (a .within))
-    e
+    subst (Ends y l₀ l' (s .answer)) (refusal-answers ρ m (load (lower y) l₀) (s .next) (y .order) (a .within) (ap isDone (sym (e .answer)) ∙ refused)) e
 
 pub running-all : {ρ : Rule} {y : Layout} {m : ℕ} {l₀ : List Float} {j : ℕ} {l : List Float} → Running ρ y m l₀ j l → y .order ≤ j → Ends y l₀ l Done (factorColumns ρ m (y .order) (load (lower y) l₀))
 unfolding factorColumns

@@ -21,7 +21,7 @@ use Rattle.cholesky.specs.Run.{Outcome, factorColumn, factorColumns}
 use Rattle.cholesky.specs.Crate.{positive, crateRule}
 use Rattle.cholesky.specs.Promise.{Extended}
 use Rattle.cholesky.specs.Batches.{Rising, Batches}
-use Rattle.cholesky.proofs.Outcomes.{refusal-stays}
+use Rattle.cholesky.proofs.Onward.{columns-on, refusal-answers, accepted-before}
 use Rattle.cholesky.specs.Diagonal.{Due, above, nought, below, none}
 use Rattle.cholesky.proofs.Diagonal.{due-is, positive-passes}
 use Rattle.cholesky.proofs.Refusals.{Answered, columns-answered}
@@ -30,7 +30,7 @@ use Rattle.cholesky.proofs.Arriving.{LikeOne, like-one, like-one-more}
 use Rattle.cholesky.proofs.Handed.{Handed, handed-none, handed-arrived, batches-arriving}
 use Rattle.twins.specs.Twins.{Twins}
 use Rattle.twins.proofs.Clauses.{Lower, lower-of-twins}
-use Rattle.twin_laws.proofs.Cholesky.{reduced, reduced-same, remainder, After, Accepted, Updated, onward, accepted-before, stands, right-of, diagonal-of, refused-diagonal, twin-left, twin-diagonal, twin-beside, twin-rest, twin-next, twin-refused, twin-between}
+use Rattle.twin_laws.proofs.Cholesky.{reduced, reduced-same, remainder, After, Accepted, Updated, stands, right-of, diagonal-of, refused-diagonal, twin-left, twin-diagonal, twin-beside, twin-rest, twin-next, twin-refused, twin-between}
 
 -- ---- what is said of the call
 
@@ -102,7 +102,7 @@ module _ (room m n p q : ℕ) (cuts : List ℕ) (l₀ l l' : List Float) (r : An
   before-done = sym (ends-before .answer)
 
   accepted-p : Accepted crateRule A (p + 1)
-  accepted-p = accepted-before crateRule A (p + 1) m (omega arith) (ap isDone before-done)
+  accepted-p = accepted-before crateRule 0 A (p + 1) m (omega arith) (ap isDone before-done)
 
   -- the entries of finished columns are the run's
   cell : (k i c : ℕ) → c < k → k ≤ n → c ≤ i → i < n → L i c ≡ After crateRule A k i c
@@ -124,7 +124,7 @@ module _ (room m n p q : ℕ) (cuts : List ℕ) (l₀ l l' : List Float) (r : An
 
   pub across : Across A L p q m n r
   across = record {
-    answer = subst (Answered crateRule m n) (ap (λ (o : Outcome). o .answer) (onward crateRule A m n (omega arith)) ∙ sym (ends .answer)) (answered m (factorColumns crateRule 0 m A) before-done);
+    answer = subst (Answered crateRule m n) (ap (λ (o : Outcome). o .answer) (columns-on crateRule 0 A m n (omega arith)) ∙ sym (ends .answer)) (answered m (factorColumns crateRule 0 m A) before-done);
     left = λ c h.
         cell (p + 1) q c (omega arith) (omega arith) (omega arith) within
         ∙ twin-left crateRule A p q apart (given .left) (given .diagonal) accepted-p c h
@@ -166,16 +166,13 @@ module _ (room m n p q : ℕ) (cuts : List ℕ) (l₀ l l' : List Float) (r : An
         ∙ ap (λ (x : Float). positive (remainder crateRule x x) q) v-is
         ∙ sym (due-is so)
 
-    onwards : for (q + 1) n (factorColumn crateRule 0) (factorColumns crateRule 0 (q + 1) A) ≡ factorColumns crateRule 0 n A
-    onwards = onward crateRule A (q + 1) n (omega arith)
-
     diagonal-q : L q q ≡ After crateRule A (q + 1) q q
     diagonal-q = cell (q + 1) q q (omega arith) (omega arith) (omega arith) within
 
     refused-q : {a : Answer} → Due (crumb A L p) q a → isDone a ≡ false → r ≡ a
     refused-q so failed =
         ends .answer
-        ∙ ap (λ (o : Outcome). o .answer) (sym onwards ∙ refusal-stays crateRule 0 (q + 1) n (factorColumns crateRule 0 (q + 1) A) (ap isDone (due-q so) ∙ failed))
+        ∙ ap (λ (o : Outcome). o .answer) (sym (refusal-answers crateRule 0 A (q + 1) n (omega arith) (ap isDone (due-q so) ∙ failed)))
         ∙ due-q so
 
     pub neighbours : Neighbours A L p q m n r
@@ -184,6 +181,6 @@ module _ (room m n p q : ℕ) (cuts : List ℕ) (l₀ l l' : List Float) (r : An
       below = λ h. refused-q (below h) refl;
       none = λ h. refused-q (none h) refl;
       leaves = λ fails. diagonal-q ∙ refused-diagonal crateRule A q accepted-q (ap (λ (x : Float). isDone (positive x q)) crumb-is ∙ positive-passes (crumb A L p) q ∙ fails) ∙ crumb-is;
-      accepted = λ some. subst (Answered crateRule (q + 1) n) (ap (λ (o : Outcome). o .answer) onwards ∙ sym (ends .answer)) (answered (q + 1) (factorColumns crateRule 0 (q + 1) A) (due-q (above some)));
+      accepted = λ some. subst (Answered crateRule (q + 1) n) (ap (λ (o : Outcome). o .answer) (columns-on crateRule 0 A (q + 1) n (omega arith)) ∙ sym (ends .answer)) (answered (q + 1) (factorColumns crateRule 0 (q + 1) A) (due-q (above some)));
       root = λ some. diagonal-q ∙ diagonal-of crateRule A q (ap isDone (due-q (above some))) ∙ ap rootOf crumb-is;
     }

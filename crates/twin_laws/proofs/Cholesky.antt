@@ -6,16 +6,15 @@ use Prim.Native.Nat.{ℕ, zero, suc, _+_, _≤_, _<_}
 use native.Mathlib.Nat.{eq-or-lt-of-le}
 use native.Mathlib.Numerals.{add-one}
 use native.Mathlib.Omega.{arith}
-use borrow.Author.Tests.{le-ltb}
 use lib.Ieee.{Float, binary64, neg}
 use Rattle.answer.specs.Number.{isDone}
 use Rattle.matrix.specs.Matrix.{Matrix, entry}
 use Rattle.matrix.specs.Loop.{for}
 use Rattle.matrix.specs.Rounded.{_⊕_, _⊗_, _⊘_}
-use Rattle.matrix.proofs.Loops.{for-more, for-same, for-join}
+use Rattle.matrix.proofs.Loops.{for-more, for-same}
 use Rattle.cholesky.specs.Column.{less, updated}
-use Rattle.cholesky.specs.Run.{Rule, Outcome, updates, below, judgedColumn, worked, factorColumn, started, factorColumns}
-use Rattle.cholesky.proofs.Batch.{done-before}
+use Rattle.cholesky.specs.Run.{Rule, Outcome, updates, below, judgedColumn, started, factorColumns}
+use Rattle.cholesky.proofs.Onward.{columns-on, accepted-before, judges}
 use Rattle.cholesky.proofs.Rows.{updates-in, below-in, below-above, columns-off, judged-answer, judged-passed}
 use Rattle.matrix.proofs.Products.{neg-exchanges}
 use Rattle.matrix.proofs.Stores.{entry-here, entry-row}
@@ -50,39 +49,21 @@ module _ (ρ : Rule) (A : Matrix) where
   abbrev pub Accepted : ℕ → Type 0
   Accepted j = isDone (factorColumns ρ 0 j A .answer) ≡ true
 
-  step : (j : ℕ) → factorColumns ρ 0 (j + 1) A ≡ factorColumn ρ 0 j (factorColumns ρ 0 j A)
-  unfolding factorColumns
-  step j = for-more 0 j (factorColumn ρ 0) (started A) (omega arith)
-
-  -- the first j columns, and then those up to k
-  pub onward : (j k : ℕ) → j ≤ k → for j k (factorColumn ρ 0) (factorColumns ρ 0 j A) ≡ factorColumns ρ 0 k A
-  unfolding factorColumns
-  onward j k upto = for-join 0 j k (factorColumn ρ 0) (started A) (omega arith) upto
-
-  -- the columns before an accepted one are accepted
-  pub accepted-before : (j k : ℕ) → j ≤ k → Accepted k → Accepted j
-  accepted-before j k upto done = done-before ρ 0 j k (factorColumns ρ 0 j A) (ap (λ (o : Outcome). isDone (o .answer)) (onward j k upto) ∙ done)
-
   -- the updated column j
   abbrev pub Updated : ℕ → ℕ → Float
   Updated j i = updated (After j) j j i
-
-  -- after accepted columns, column j is judged
-  pub judges : (j : ℕ) → Accepted j → factorColumns ρ 0 (j + 1) A ≡ judgedColumn ρ j (updates j j (After j))
-  unfolding factorColumn worked
-  judges j done = step j ∙ simp (done, le-ltb j 0 (omega arith))
 
   -- a refused column: its diagonal stays updated
   pub refused-diagonal : (j : ℕ) → Accepted j → isDone (ρ .verdict (Updated j j) j) ≡ false → After (j + 1) j j ≡ Updated j j
   unfolding judgedColumn
   refused-diagonal j done refused =
       let here = updates-in j j (After j) j (omega arith) in
-      ap (λ (o : Outcome). o .cells j j) (judges j done) ∙ rw (ap (λ (x : Float). isDone (ρ .verdict x j)) here ∙ refused) here
+      ap (λ (o : Outcome). o .cells j j) (judges ρ 0 A j (omega arith) done) ∙ rw (ap (λ (x : Float). isDone (ρ .verdict x j)) here ∙ refused) here
 
   -- an accepted column
   passed : (j : ℕ) → Accepted (j + 1) → After (j + 1) ≡ below (j + 1) j (entry (updates j j (After j)) j j (ρ .root (updates j j (After j) j j)))
   passed j done =
-      let is = judges j (accepted-before j (j + 1) (omega arith) done) in
+      let is = judges ρ 0 A j (omega arith) (accepted-before ρ 0 A j (j + 1) (omega arith) done) in
       ap (λ (o : Outcome). o .cells) is ∙ judged-passed ρ j (updates j j (After j)) (subst (λ (o : Outcome). isDone (o .answer) ≡ true) is done)
 
   pub diagonal-of : (j : ℕ) → Accepted (j + 1) → After (j + 1) j j ≡ ρ .root (Updated j j)
@@ -103,7 +84,7 @@ module _ (ρ : Rule) (A : Matrix) where
 
   -- the columns from j on leave what stands left of them, and the columns before c leave column c
   pub stands : (j k i c : ℕ) → c < j → j ≤ k → After k i c ≡ After j i c
-  stands j k i c h upto = ap (λ (o : Outcome). o .cells i c) (sym (onward j k upto)) ∙ columns-off ρ i c 0 j k (factorColumns ρ 0 j A) (λ t from to. inr (λ e. omega arith))
+  stands j k i c h upto = ap (λ (o : Outcome). o .cells i c) (sym (columns-on ρ 0 A j k upto)) ∙ columns-off ρ i c 0 j k (factorColumns ρ 0 j A) (λ t from to. inr (λ e. omega arith))
 
   left-of : (j i c : ℕ) → c < j → After (j + 1) i c ≡ After j i c
   left-of j i c h = stands j (j + 1) i c h (omega arith)
@@ -142,7 +123,7 @@ module _ (ρ : Rule) (A : Matrix) where
     alike-upto (suc j) h done =
         let next : j + 1 ≡ suc j = add-one j in
         let done' : Accepted (j + 1) = subst Accepted (sym next) done in
-        subst Alike next (alike-more j (omega arith) done' (alike-upto j (omega arith) (accepted-before j (j + 1) (omega arith) done')))
+        subst Alike next (alike-more j (omega arith) done' (alike-upto j (omega arith) (accepted-before ρ 0 A j (j + 1) (omega arith) done')))
 
     module _ (done : Accepted (p + 1)) where
       -- the updated diagonal at p
@@ -150,7 +131,7 @@ module _ (ρ : Rule) (A : Matrix) where
       v = Updated p p
 
       alike : Alike p
-      alike = alike-upto p (omega arith) (accepted-before p (p + 1) (omega arith) done)
+      alike = alike-upto p (omega arith) (accepted-before ρ 0 A p (p + 1) (omega arith) done)
 
       -- l(q,k) = l(p,k) for k < p
       pub twin-left : (k : ℕ) → k < p → After (p + 1) q k ≡ After (p + 1) p k
@@ -195,7 +176,7 @@ module _ (ρ : Rule) (A : Matrix) where
       pub twin-refused : q ≡ p + 1 → factorColumns ρ 0 (q + 1) A .answer ≡ ρ .verdict (remainder ρ v v) q
       twin-refused next =
           let before : Accepted q = subst Accepted (sym next) done in
-          ap (λ (o : Outcome). o .answer) (judges q before)
+          ap (λ (o : Outcome). o .answer) (judges ρ 0 A q (omega arith) before)
           ∙ judged-answer ρ q (updates q q (After q))
           ∙ ap (λ (x : Float). ρ .verdict x q) (updates-in q q (After q) q (omega arith) ∙ twin-next next)
 
