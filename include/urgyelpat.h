@@ -20,8 +20,9 @@
  * Nothing else is asked: sizes, lengths and contents that do not fit are refused by a number, and every double is a content,
  * infinities and NaN too. A call keeps nothing after it returns, takes no memory of its own but stack, and ends.
  *
- * ANSWERS. An answer is code * 4096 + place; 0 is done. The checks run in the order of the codes, and the first that fails
- * is the answer. After a refusal by 1 to 6 every buffer is as it was.
+ * ANSWERS. An answer is code * 4096 + place; 0 is done. The checks 1 to 6 run in the order of the codes, and the first that
+ * fails is the answer; every buffer is then as it was. Cholesky and UDU go on from there column by column, UDU from the last
+ * one back, and the first diagonal that fails gives its code.
  *
  *   code                             given exactly if                                          place
  *   0  URGYELPAT_DONE                the result stands in the buffers                          0
@@ -35,13 +36,13 @@
  *   6  URGYELPAT_ZERO_MARK           solve: the record marks a row without a pivot             the marked row, of the
  *                                                                                              factor:
  *                                                                                              urgyelpat_callers_row
- *   7  URGYELPAT_CHOLESKY_ZERO       Cholesky: a diagonal is zero, of either sign              its column j
- *   8  URGYELPAT_ZERO_DIAGONAL       UDU: a diagonal is zero                                   its column j
- *   10 URGYELPAT_CHOLESKY_BELOW_ZERO Cholesky: a diagonal is below zero, -infinity included    its column j
- *   11 URGYELPAT_CHOLESKY_NAN        Cholesky: a diagonal is NaN                               its column j
+ *   7  URGYELPAT_CHOLESKY_ZERO       Cholesky: that diagonal is zero, of either sign           its column j
+ *   8  URGYELPAT_ZERO_DIAGONAL       UDU: that diagonal is zero                                its column j
+ *   10 URGYELPAT_CHOLESKY_BELOW_ZERO Cholesky: that diagonal is below zero, -infinity too      its column j
+ *   11 URGYELPAT_CHOLESKY_NAN        Cholesky: that diagonal is NaN                            its column j
  *
- * Cholesky judges a diagonal once it is updated by the columns before it; exactly one of "passes", 7, 10 and 11 fits it. A row
- * with a NaN is never accepted: it is refused by 11, if no row before it is refused.
+ * Cholesky judges a diagonal once it is updated by the columns before it; exactly one of "passes", 7, 10 and 11 fits it. A NaN
+ * on the diagonal of a row that is handed in, or left of it, is never accepted: that row is refused by 11, if none before it is.
  * What stands in the buffers after 7, 8, 10 and 11 is said at the functions that give them. Everything is promised to the bit
  * but a NaN's sign and payload: a NaN is a NaN, in results and in what is kept. (That a kept NaN keeps its bits is tested.)
  */

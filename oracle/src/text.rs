@@ -2,7 +2,7 @@
 //!
 //! The text itself answers `LBLT::new`, `solve_mut`, `determinant`, `d`, `l_permuted`, `Cholesky::new`, `l`, `unpack`, `determinant` and
 //! `UDU::new`. What follows document 01 because the text says nothing of it is marked "document 01": the checks before a call, the room, the
-//! further batch, and what stays in the buffers after a refusal. The text has no call for rows that came twice, and its Cholesky solve rests on
+//! further batch, and what stays in the buffers after a refusal; and "document 02": the codes of a diagonal that is turned down. The text has no call for rows that came twice, and its Cholesky solve rests on
 //! triangular solves that it does not contain: the steps answer these calls here too.
 
 use crate::call::Calls;
@@ -108,9 +108,14 @@ fn updated(a: &[f64], room: usize, i: usize, j: usize) -> f64 {
 /// Document 02: the code of a diagonal that is turned down.
 fn turned_down(diagonal: f64) -> Option<u64> {
     if diagonal.is_nan() {
-        return Some(11);
+        Some(11)
+    } else if diagonal < 0.0 {
+        Some(10)
+    } else if diagonal == 0.0 {
+        Some(7)
+    } else {
+        None
     }
-    (diagonal <= 0.0).then_some(if diagonal == 0.0 { 7 } else { 10 })
 }
 
 /// What the text leaves behind when it answers `None`: the columns before the refused one are those of `new_unchecked`, which refuses nothing.

@@ -1,4 +1,5 @@
-//! Document 01's cases, answered by the text and by document 01's steps; Cholesky's solve and rows that came twice, by the steps.
+//! Document 01's cases and document 02's codes of a diagonal, answered by the text and by the steps; Cholesky's solve and rows that came twice, by the
+//! steps.
 
 use std::hint::black_box;
 
@@ -109,12 +110,18 @@ fn cholesky() {
         for (x, code) in
             [(-0.0, 7), (0.0, 7), (-1.0, 10), (f64::NEG_INFINITY, 10), (-f64::from_bits(1), 10), (f64::NAN, 11), (-f64::NAN, 11)]
         {
-            assert_eq!(calls.cholesky_factor(&mut [x], 1, 1), code * 4096);
-            let mut beside = matrix(2, &[1.0, 0.0, x]);
-            assert_eq!(calls.cholesky_extend(&mut beside, 2, 1, 2), code * 4096 + 1);
+            let mut alone = [x];
+            assert_eq!(calls.cholesky_factor(&mut alone, 1, 1), code * 4096);
+            assert_eq!(words(&alone), words(&[x]));
+            let mut last = matrix(2, &[1.0, 0.0, x]);
+            assert_eq!(calls.cholesky_extend(&mut last, 2, 1, 2), code * 4096 + 1);
+            assert_eq!(words(&lower(&last, 2)), words(&[1.0, 0.0, x]));
         }
         let mut a = matrix(2, &[3.0, 3.0, 3.0]);
         assert_eq!(calls.cholesky_factor(&mut a, 2, 2), 10 * 4096 + 1);
+        assert_eq!(words(&lower(&a, 2)), [0x3ffb_b67a_e858_4caa, 0x3ffb_b67a_e858_4cab, 0xbcc0_0000_0000_0000]);
+        let mut a = matrix(2, &[f64::NAN, 0.0, 0.0]);
+        assert_eq!(calls.cholesky_factor(&mut a, 2, 2), 11 * 4096, "the first that fails");
 
         for (x, root) in [(2.0, 0x3ff6_a09e_667f_3bcd), (f64::from_bits(1), 0x1e60_0000_0000_0000)] {
             let mut a = [x];

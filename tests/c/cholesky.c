@@ -128,6 +128,9 @@ static void factors_refused(void)
     factor("twins, infinite", 2, 2, NUMBERS(INF, INF, KEPT, INF), ANSWER(11, 1), NUMBERS(INF, NAN, KEPT, NAN));
     factor("a NaN beside the diagonal", 2, 2, NUMBERS(1, NAN, KEPT, 1), ANSWER(11, 1), NUMBERS(1, NAN, KEPT, NAN));
     factor("infinity beside the diagonal", 2, 2, NUMBERS(1, INF, KEPT, 1), ANSWER(10, 1), NUMBERS(1, INF, KEPT, -INF));
+    factor("a NaN, then a zero", 2, 2, NUMBERS(NAN, 0, KEPT, 0), ANSWER(11, 0), NUMBERS(NAN, 0, KEPT, 0));
+    factor("below zero, then a NaN", 2, 2, NUMBERS(-1, 0, KEPT, NAN), ANSWER(10, 0), NUMBERS(-1, 0, KEPT, NAN));
+    factor("a zero, then below zero", 2, 2, NUMBERS(0, 0, KEPT, -1), ANSWER(7, 0), NUMBERS(0, 0, KEPT, -1));
     factor("order 4, column 0", 4, 4, NUMBERS(-4, 2, 6, 2, KEPT, 5, 5, 7, KEPT, KEPT, 14, 9, KEPT, KEPT, KEPT, 3),
            ANSWER(10, 0), NUMBERS(-4, 2, 6, 2, KEPT, 5, 5, 7, KEPT, KEPT, 14, 9, KEPT, KEPT, KEPT, 3));
     factor("order 4, column 1", 4, 4, NUMBERS(4, 2, 6, 2, KEPT, 1, 5, 7, KEPT, KEPT, 14, 9, KEPT, KEPT, KEPT, 3),
@@ -157,6 +160,12 @@ static void batches(void)
            NUMBERS(2, 1, 3, KEPT, 2, 1, KEPT, KEPT, -1));
     extend("a NaN at the last row", 3, 2, 3, NUMBERS(2, 1, 6, KEPT, 2, 5, KEPT, KEPT, NAN), ANSWER(11, 2),
            NUMBERS(2, 1, 3, KEPT, 2, 1, KEPT, KEPT, NAN));
+    extend("a NaN beside the earlier factor", 2, 1, 2, NUMBERS(2, NAN, KEPT, 5), ANSWER(11, 1), NUMBERS(2, NAN, KEPT, NAN));
+    extend("a NaN within the batch", 3, 1, 3, NUMBERS(2, 2, 6, KEPT, 5, NAN, KEPT, KEPT, 14), ANSWER(11, 2),
+           NUMBERS(2, 1, 3, KEPT, 2, NAN, KEPT, KEPT, NAN));
+    extend("minus zero", 2, 1, 2, NUMBERS(2, 0, KEPT, -0.0), ANSWER(7, 1), NUMBERS(2, 0, KEPT, -0.0));
+    extend("infinity less infinity", 2, 1, 2, NUMBERS(2, INF, KEPT, INF), ANSWER(11, 1), NUMBERS(2, INF, KEPT, NAN));
+    extend("a NaN in the earlier factor", 2, 1, 2, NUMBERS(NAN, 2, KEPT, 5), ANSWER(11, 1), NUMBERS(NAN, NAN, KEPT, NAN));
     extend("a zero in the earlier factor", 2, 1, 2, NUMBERS(0, 2, KEPT, 5), ANSWER(10, 1), NUMBERS(0, INF, KEPT, -INF));
 }
 

@@ -31,7 +31,7 @@ pub fn factor(a: &mut [f64], room: usize, n: usize) -> Result<(), Refusal> {
 /// Takes the first `earlier` rows as factored and factors the rows `earlier..n` in place.
 ///
 /// The batches of a matrix give what one call on the whole gives, to the bit, and are refused by the same code at the same
-/// row. Refused as [`factor`] is, a diagonal at a column from `earlier` on; the rows before are left alone.
+/// row. Refused as [`factor`] is, a diagonal only from column `earlier` on; the rows before are left alone.
 /// A row that came twice is often not refused: ask [`first_twin_since`] first, of the rows as they came and not of `a`.
 ///
 /// ```
@@ -229,7 +229,7 @@ impl Cholesky {
     /// [`new`](Cholesky::new) for a matrix that may have twins: they are not looked for.
     ///
     /// Refused by [`OutOfRange`](Refusal::OutOfRange) and [`MatrixLength`](Refusal::MatrixLength), and at a diagonal that is
-    /// [zero](Refusal::CholeskyZero), [below zero](Refusal::CholeskyBelowZero) or [NaN](Refusal::CholeskyNan), which meets
+    /// [zero](Refusal::CholeskyZero), [below zero](Refusal::CholeskyBelowZero) or [NaN](Refusal::CholeskyNan); that test meets
     /// some twins and lets others through.
     ///
     /// ```
@@ -304,7 +304,7 @@ impl Cholesky {
     /// not told with later batches.
     ///
     /// Refused by [`OutOfRange`](Refusal::OutOfRange) and [`SliceLength`](Refusal::SliceLength), and at a diagonal that is
-    /// [zero](Refusal::CholeskyZero), [below zero](Refusal::CholeskyBelowZero) or [NaN](Refusal::CholeskyNan), which meets
+    /// [zero](Refusal::CholeskyZero), [below zero](Refusal::CholeskyBelowZero) or [NaN](Refusal::CholeskyNan); that test meets
     /// some twins and lets others through.
     ///
     /// ```

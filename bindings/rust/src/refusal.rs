@@ -5,8 +5,9 @@ use crate::ffi::Determined;
 
 /// Why a call was refused, and where.
 ///
-/// The checks run in the order of the codes, and the first that fails is the answer; of 7, 10 and 11 just one fits a diagonal.
-/// A refusal by 1 to 6 leaves every slice as it was; what 7, 8, 10 and 11 leave is said at the calls that give them.
+/// The checks 1 to 6 run in the order of the codes, and the first that fails is the answer; every slice is then as it was.
+/// Cholesky and UDU go on from there column by column, UDU from the last one back, and the first diagonal that fails gives its
+/// code: for Cholesky just one of 7, 10 and 11 fits it. What 7, 8, 10 and 11 leave is said at the calls that give them.
 #[derive(Clone, Copy, Debug, PartialEq, Eq, Hash)]
 #[non_exhaustive]
 pub enum Refusal {
@@ -44,8 +45,8 @@ pub enum Refusal {
         /// Its row and column.
         column: usize,
     },
-    /// Code 11: a diagonal of Cholesky is NaN. A row with a NaN in it is never accepted, and ends so unless a row before it is
-    /// refused.
+    /// Code 11: a diagonal of Cholesky is NaN. A factor call never accepts a NaN on the diagonal of a row or left of it: the row
+    /// ends so, if none before it is refused.
     CholeskyNan {
         /// Its row and column.
         column: usize,
@@ -111,7 +112,7 @@ impl fmt::Display for Refusal {
             ),
             Refusal::CholeskyZero { column } => write!(
                 f,
-                "the diagonal of row {column} became exactly zero: perhaps the row came twice, or adds nothing to the rows before it. Ask first_twin of the rows as they came, and leave the row out"
+                "the diagonal of row {column} became exactly zero: perhaps the row came twice, or adds nothing to the rows before it. Ask first_twin of the rows as they came, and leave out the later of the two that it names; if it names none, look at the points of that row"
             ),
             Refusal::ZeroDiagonal { column } => write!(
                 f,
@@ -119,7 +120,7 @@ impl fmt::Display for Refusal {
             ),
             Refusal::CholeskyBelowZero { column } => write!(
                 f,
-                "the diagonal of row {column} fell below zero: perhaps the row came twice and rounding left a crumb below zero, or it contradicts the rows before it, or a number is far too large. Ask first_twin of the rows as they came; if it finds none, measure the row again"
+                "the diagonal of row {column} fell below zero: perhaps the row came twice and rounding left a crumb below zero, or it contradicts the rows before it, or a number is far too large. Ask first_twin of the rows as they came; if it names none, measure the row again"
             ),
             Refusal::CholeskyNan { column } => write!(
                 f,

@@ -1,4 +1,4 @@
--- Document 01's starred cases, those of Cholesky's solve, and one of a mark after an interchange.
+-- Document 01's starred cases, those of Cholesky's solve and of the codes of a diagonal, and one of a mark after an interchange.
 use mathlib.Core.List.{List, [], _∷_}
 use Prim.Native.Nat.{ℕ}
 use Rattle.cases.specs.Bits as bits
@@ -45,15 +45,13 @@ table =
     -- Cholesky [1 / 1 1]: code 7 at 1, leaving 0 at (1,1); by what is left, (1, 2) solves to (−∞, ∞)
     ∷ (choleskyFactor 2 2 (bits.one ∷ bits.one ∷ stray ∷ bits.one ∷ []) ⇒ refused 7 1 ∷ (bits.one ∷ bits.one ∷ stray ∷ bits.zero ∷ []) ∷ [])
     ∷ (choleskySolve 2 2 (bits.one ∷ bits.one ∷ stray ∷ bits.one ∷ []) (bits.one ∷ bits.two ∷ []) ⇒ done ∷ (bits.minusInfinity ∷ bits.infinity ∷ []) ∷ [])
-    -- Cholesky [−0] and [0]: code 7 at 0; [−1] and [−∞]: code 10 at 0; [NaN]: code 11 at 0; [∞] passes
+    -- Cholesky [−0] and [0]: code 7 at 0; [−1] and [−∞]: code 10 at 0; [NaN]: code 11 at 0; [∞] passes. ([3 / 3 3], code 10 at 1, is among the twins.)
     ∷ (choleskyFactor 1 1 (bits.minusZero ∷ []) ⇒ refused 7 0 ∷ (bits.minusZero ∷ []) ∷ [])
     ∷ (choleskyFactor 1 1 (bits.zero ∷ []) ⇒ refused 7 0 ∷ (bits.zero ∷ []) ∷ [])
     ∷ (choleskyFactor 1 1 (bits.minusOne ∷ []) ⇒ refused 10 0 ∷ (bits.minusOne ∷ []) ∷ [])
     ∷ (choleskyFactor 1 1 (bits.minusInfinity ∷ []) ⇒ refused 10 0 ∷ (bits.minusInfinity ∷ []) ∷ [])
     ∷ (choleskyFactor 1 1 (bits.nan ∷ []) ⇒ refused 11 0 ∷ (bits.nan ∷ []) ∷ [])
     ∷ (choleskyFactor 1 1 (bits.infinity ∷ []) ⇒ done ∷ (bits.infinity ∷ []) ∷ [])
-    -- Cholesky [3 / 3 3]: code 10 at 1, leaving −2^−51 at (1,1)
-    ∷ (choleskyFactor 2 2 (bits.three ∷ bits.three ∷ stray ∷ bits.three ∷ []) ⇒ refused 10 1 ∷ (0x3ffb_b67a_e858_4caa ∷ 0x3ffb_b67a_e858_4cab ∷ stray ∷ 0xbcc0_0000_0000_0000 ∷ []) ∷ [])
     -- no NaN was handed in: Cholesky [1 / ∞ ∞], code 11 at 1; [1 / ∞ 1], code 10 at 1
     ∷ (choleskyFactor 2 2 (bits.one ∷ bits.infinity ∷ stray ∷ bits.infinity ∷ []) ⇒ refused 11 1 ∷ (bits.one ∷ bits.infinity ∷ stray ∷ bits.nan ∷ []) ∷ [])
     ∷ (choleskyFactor 2 2 (bits.one ∷ bits.infinity ∷ stray ∷ bits.one ∷ []) ⇒ refused 10 1 ∷ (bits.one ∷ bits.infinity ∷ stray ∷ bits.minusInfinity ∷ []) ∷ [])

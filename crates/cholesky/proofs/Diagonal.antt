@@ -1,8 +1,8 @@
 -- The answer to a diagonal. Assumes nothing.
---     positive-is       by the number alone: NaN 11, zero 7, below zero 10, else it passes
+--     answer-is         by the number alone: NaN 11, zero 7, below zero 10, else it passes
 --     some-due, due-is  one of the four answers is due, and no other
---     positive-passes   a diagonal passes exactly if it is above zero
---     positive-place    a refusal names its column
+--     answer-passes     a diagonal passes exactly if it is above zero
+--     answer-place      a refusal names its column
 use mathlib.Core.Path.{_≡_, refl, sym, _∙_, ap, subst}
 use mathlib.Core.Bool.{Bool, true, false, true≢false}
 use Prim.Native.Nat.{ℕ, zero, suc, _*_, _<_}
@@ -15,107 +15,107 @@ use Rattle.answer.specs.declared.Answer.{Answer}
 use Rattle.answer.specs.declared.Answer.the-variants.{Done, CholeskyZero, CholeskyBelowZero, CholeskyNan}
 use Rattle.answer.specs.Number.{placeOf, isDone}
 use Rattle.matrix.specs.Rounded.{plusZero}
-use Rattle.cholesky.specs.Crate.{positive}
-use Rattle.cholesky.specs.Diagonal.{Due, above, nought, below, none, dueTo}
+use Rattle.cholesky.specs.Crate.{answerTo}
+use Rattle.cholesky.specs.Diagonal.{Due, above-zero, is-zero, below-zero, is-nan, dueTo}
 
 -- ---- the four tests of a number
 
 record Tests (d : Float) (a z b n : Bool) : Type 0 where
-  above : lt plusZero d ≡ a
-  nought : eq d plusZero ≡ z
-  below : lt d plusZero ≡ b
-  none : isNan d ≡ n
+  above-zero : lt plusZero d ≡ a
+  is-zero : eq d plusZero ≡ z
+  below-zero : lt d plusZero ≡ b
+  is-nan : isNan d ≡ n
 
--- one of them holds, and r is the answer for it
-data One (d : Float) (j : ℕ) : Answer → Type 0 where
-  one-above : Tests d true false false false → One d j Done
-  one-nought : Tests d false true false false → One d j (CholeskyZero j)
-  one-below : Tests d false false true false → One d j (CholeskyBelowZero j)
-  one-none : Tests d false false false true → One d j (CholeskyNan j)
+-- just one of them holds, and r is the answer for it
+data Only (d : Float) (j : ℕ) : Answer → Type 0 where
+  only-above : Tests d true false false false → Only d j Done
+  only-zero : Tests d false true false false → Only d j (CholeskyZero j)
+  only-below : Tests d false false true false → Only d j (CholeskyBelowZero j)
+  only-nan : Tests d false false false true → Only d j (CholeskyNan j)
 
-one : (d : Float) (j : ℕ) → One d j (dueTo d j)
+only : (d : Float) (j : ℕ) → Only d j (dueTo d j)
 unfolding dueTo lt eq isNan ofBits
-one nan j = one-none (record { above = refl; nought = refl; below = refl; none = refl })
-one (inf false) j = one-above (record { above = refl; nought = refl; below = refl; none = refl })
-one (inf true) j = one-below (record { above = refl; nought = refl; below = refl; none = refl })
-one (fin false zero e) j = one-nought (record { above = simp zero-mul; nought = simp zero-mul; below = simp zero-mul; none = refl })
-one (fin true zero e) j = one-nought (record { above = refl; nought = simp zero-mul; below = simp zero-mul; none = refl })
-one (fin false (suc m) e) j =
+only nan j = only-nan (record { above-zero = refl; is-zero = refl; below-zero = refl; is-nan = refl })
+only (inf false) j = only-above (record { above-zero = refl; is-zero = refl; below-zero = refl; is-nan = refl })
+only (inf true) j = only-below (record { above-zero = refl; is-zero = refl; below-zero = refl; is-nan = refl })
+only (fin false zero e) j = only-zero (record { above-zero = simp zero-mul; is-zero = simp zero-mul; below-zero = simp zero-mul; is-nan = refl })
+only (fin true zero e) j = only-zero (record { above-zero = refl; is-zero = simp zero-mul; below-zero = simp zero-mul; is-nan = refl })
+only (fin false (suc m) e) j =
     let some : 0 < suc m * up e = mul-pos (zero-lt-suc m) (up-pos e) in
-    one-above (record {
-      above = simp (zero-mul, mul-one, lt-ltb 0 (suc m * up e) some);
-      nought = simp (zero-mul, mul-one, ne-eqb (suc m * up e) 0 (λ gone. omega arith));
-      below = simp (zero-mul, mul-one, le-ltb (suc m * up e) 0 (omega arith));
-      none = refl;
+    only-above (record {
+      above-zero = simp (zero-mul, mul-one, lt-ltb 0 (suc m * up e) some);
+      is-zero = simp (zero-mul, mul-one, ne-eqb (suc m * up e) 0 (λ gone. omega arith));
+      below-zero = simp (zero-mul, mul-one, le-ltb (suc m * up e) 0 (omega arith));
+      is-nan = refl;
     })
-one (fin true (suc m) e) j =
+only (fin true (suc m) e) j =
     let some : 0 < suc m * up e = mul-pos (zero-lt-suc m) (up-pos e) in
-    one-below (record {
-      above = refl;
-      nought = simp (zero-mul, mul-one, ne-eqb (suc m * up e) 0 (λ gone. omega arith));
-      below = simp (zero-mul, mul-one, add-zero, lt-ltb 0 (suc m * up e) some);
-      none = refl;
+    only-below (record {
+      above-zero = refl;
+      is-zero = simp (zero-mul, mul-one, ne-eqb (suc m * up e) 0 (λ gone. omega arith));
+      below-zero = simp (zero-mul, mul-one, add-zero, lt-ltb 0 (suc m * up e) some);
+      is-nan = refl;
     })
 
 -- ---- the answer
 
-pub positive-is : (d : Float) (j : ℕ) → positive d j ≡ dueTo d j
-unfolding positive
-positive-is d j = by (one d j)
+pub answer-is : (d : Float) (j : ℕ) → answerTo d j ≡ dueTo d j
+unfolding answerTo
+answer-is d j = by (only d j)
   where
-    by : {r : Answer} → One d j r → positive d j ≡ r
-    by (one-above t) = simp (t .above)
-    by (one-nought t) = simp (t .above, t .nought)
-    by (one-below t) = simp (t .above, t .nought, t .below)
-    by (one-none t) = simp (t .above, t .nought, t .below)
+    by : {r : Answer} → Only d j r → answerTo d j ≡ r
+    by (only-above t) = simp (t .above-zero)
+    by (only-zero t) = simp (t .above-zero, t .is-zero)
+    by (only-below t) = simp (t .above-zero, t .is-zero, t .below-zero)
+    by (only-nan t) = simp (t .above-zero, t .is-zero, t .below-zero)
 
-pub some-due : (d : Float) (j : ℕ) → Due d j (positive d j)
-some-due d j = subst (Due d j) (sym (positive-is d j)) (by (one d j))
+pub some-due : (d : Float) (j : ℕ) → Due d j (answerTo d j)
+some-due d j = subst (Due d j) (sym (answer-is d j)) (by (only d j))
   where
-    by : {r : Answer} → One d j r → Due d j r
-    by (one-above t) = above (t .above)
-    by (one-nought t) = nought (t .nought)
-    by (one-below t) = below (t .below)
-    by (one-none t) = none (t .none)
+    by : {r : Answer} → Only d j r → Due d j r
+    by (only-above t) = above-zero (t .above-zero)
+    by (only-zero t) = is-zero (t .is-zero)
+    by (only-below t) = below-zero (t .below-zero)
+    by (only-nan t) = is-nan (t .is-nan)
 
-pub due-is : {d : Float} {j : ℕ} {r : Answer} → Due d j r → r ≡ positive d j
-due-is {d} {j} so = by (one d j) so ∙ sym (positive-is d j)
+pub due-is : {d : Float} {j : ℕ} {r : Answer} → Due d j r → r ≡ answerTo d j
+due-is {d} {j} so = by (only d j) so ∙ sym (answer-is d j)
   where
     no : {P : Type 0} {b : Bool} → b ≡ true → b ≡ false → P
     no holds fails = absurd (true≢false (sym holds ∙ fails))
 
-    by : {r s : Answer} → One d j s → Due d j r → r ≡ s
-    by (one-above t) (above h) = refl
-    by (one-above t) (nought h) = no h (t .nought)
-    by (one-above t) (below h) = no h (t .below)
-    by (one-above t) (none h) = no h (t .none)
-    by (one-nought t) (above h) = no h (t .above)
-    by (one-nought t) (nought h) = refl
-    by (one-nought t) (below h) = no h (t .below)
-    by (one-nought t) (none h) = no h (t .none)
-    by (one-below t) (above h) = no h (t .above)
-    by (one-below t) (nought h) = no h (t .nought)
-    by (one-below t) (below h) = refl
-    by (one-below t) (none h) = no h (t .none)
-    by (one-none t) (above h) = no h (t .above)
-    by (one-none t) (nought h) = no h (t .nought)
-    by (one-none t) (below h) = no h (t .below)
-    by (one-none t) (none h) = refl
+    by : {r s : Answer} → Only d j s → Due d j r → r ≡ s
+    by (only-above t) (above-zero h) = refl
+    by (only-above t) (is-zero h) = no h (t .is-zero)
+    by (only-above t) (below-zero h) = no h (t .below-zero)
+    by (only-above t) (is-nan h) = no h (t .is-nan)
+    by (only-zero t) (above-zero h) = no h (t .above-zero)
+    by (only-zero t) (is-zero h) = refl
+    by (only-zero t) (below-zero h) = no h (t .below-zero)
+    by (only-zero t) (is-nan h) = no h (t .is-nan)
+    by (only-below t) (above-zero h) = no h (t .above-zero)
+    by (only-below t) (is-zero h) = no h (t .is-zero)
+    by (only-below t) (below-zero h) = refl
+    by (only-below t) (is-nan h) = no h (t .is-nan)
+    by (only-nan t) (above-zero h) = no h (t .above-zero)
+    by (only-nan t) (is-zero h) = no h (t .is-zero)
+    by (only-nan t) (below-zero h) = no h (t .below-zero)
+    by (only-nan t) (is-nan h) = refl
 
-pub positive-passes : (d : Float) (j : ℕ) → isDone (positive d j) ≡ lt plusZero d
-positive-passes d j = ap isDone (positive-is d j) ∙ by (one d j)
+pub answer-passes : (d : Float) (j : ℕ) → isDone (answerTo d j) ≡ lt plusZero d
+answer-passes d j = ap isDone (answer-is d j) ∙ by (only d j)
   where
-    by : {r : Answer} → One d j r → isDone r ≡ lt plusZero d
-    by (one-above t) = sym (t .above)
-    by (one-nought t) = sym (t .above)
-    by (one-below t) = sym (t .above)
-    by (one-none t) = sym (t .above)
+    by : {r : Answer} → Only d j r → isDone r ≡ lt plusZero d
+    by (only-above t) = sym (t .above-zero)
+    by (only-zero t) = sym (t .above-zero)
+    by (only-below t) = sym (t .above-zero)
+    by (only-nan t) = sym (t .above-zero)
 
-pub positive-place : (d : Float) (j : ℕ) → isDone (positive d j) ≡ false → placeOf (positive d j) ≡ j
-positive-place d j = by (some-due d j)
+pub answer-place : (d : Float) (j : ℕ) → isDone (answerTo d j) ≡ false → placeOf (answerTo d j) ≡ j
+answer-place d j = by (some-due d j)
   where
     by : {r : Answer} → Due d j r → isDone r ≡ false → placeOf r ≡ j
-    by (above h) failed = absurd (true≢false failed)
-    by (nought h) failed = refl
-    by (below h) failed = refl
-    by (none h) failed = refl
+    by (above-zero h) failed = absurd (true≢false failed)
+    by (is-zero h) failed = refl
+    by (below-zero h) failed = refl
+    by (is-nan h) failed = refl

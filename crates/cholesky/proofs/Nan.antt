@@ -1,4 +1,4 @@
--- A row with a NaN in it is never accepted: it is refused by 11, if no earlier row of its batch is refused. Assumes nothing.
+-- A NaN in a row of a batch, on its diagonal or left of it, is never accepted: it is refused by 11, if no earlier row of the batch is refused. Assumes nothing.
 use mathlib.Core.Path.{_≡_, refl, sym, _∙_, ap, subst}
 use mathlib.Core.Bool.{true, false}
 use mathlib.Core.List.{List}
@@ -24,11 +24,11 @@ use Rattle.matrix.proofs.Loops.{for-keeps, for-more, for-join}
 use Rattle.matrix.proofs.Stores.{entry-row}
 use Rattle.cholesky.specs.Column.{less, updated}
 use Rattle.cholesky.specs.Run.{Rule, Outcome, updates, below, continued, judgedColumn, worked, factorColumn, started, factorColumns}
-use Rattle.cholesky.specs.Crate.{positive, crateRule}
+use Rattle.cholesky.specs.Crate.{answerTo, crateRule}
 use Rattle.cholesky.specs.Diagonal.{dueTo}
 use Rattle.cholesky.specs.Promise.{Extended}
 use Rattle.cholesky.specs.Nan.{NanTold}
-use Rattle.cholesky.proofs.Diagonal.{positive-is}
+use Rattle.cholesky.proofs.Diagonal.{answer-is}
 use Rattle.cholesky.proofs.Onward.{refusal-answers, judges}
 use Rattle.cholesky.proofs.Rows.{updates-in, below-in, worked-off, judged-answer}
 use Rattle.cholesky.proofs.Promises.{extended-answer}
@@ -113,17 +113,17 @@ module _ {y : Layout} {m : ℕ} {l l' : List Float} {r : Answer} (fits : Fits y 
   abbrev before : Outcome
   before = factorColumns crateRule m i A
 
-  abbrev upto : Outcome
-  upto = factorColumns crateRule m (i + 1) A
+  abbrev with-row : Outcome
+  with-row = factorColumns crateRule m (i + 1) A
 
   -- row i is judged
-  judged : isDone (before .answer) ≡ true → upto .answer ≡ CholeskyNan i
+  judged : isDone (before .answer) ≡ true → with-row .answer ≡ CholeskyNan i
   unfolding dueTo
   judged passed =
       ap (λ (o : Outcome). o .answer) (judges crateRule m A i late passed)
       ∙ judged-answer crateRule i (updates i i (before .cells))
-      ∙ ap (λ (x : Float). positive x i) (updates-in i i (before .cells) i (omega arith) ∙ diagonal-nan (before .cells) i k (columns-nan crateRule m i k late A broken) left)
-      ∙ positive-is nan i
+      ∙ ap (λ (x : Float). answerTo x i) (updates-in i i (before .cells) i (omega arith) ∙ diagonal-nan (before .cells) i k (columns-nan crateRule m i k late A broken) left)
+      ∙ answer-is nan i
 
   -- a refusal in the first c columns is the call's
   refused-first : (c : ℕ) → c ≤ y .order → isDone (factorColumns crateRule m c A .answer) ≡ false → r ≡ factorColumns crateRule m c A .answer

@@ -23,10 +23,10 @@ use Rattle.cholesky.specs.Run.{Rule, Outcome, updates, continued, judged
 use Rattle.cholesky.specs.Crate.{crateRule}
 use Rattle.cholesky.specs.Promise.{Extended}
 use Rattle.cholesky.specs.Batches.{RefusedIn}
-use Rattle.cholesky.proofs.Diagonal.{positive-place}
+use Rattle.cholesky.proofs.Diagonal.{answer-place}
 use Rattle.cholesky.proofs.Promises.{extended-answer}
 
--- done, or the rule's refusal of a diagonal at one of the columns lo to hi
+-- done, or the rule's refusal of some number on the diagonal of one of the columns lo to hi
 pub data Answered (ρ : Rule) (lo hi : ℕ) (r : Answer) : Type 0 where
   done : r ≡ Done → Answered ρ lo hi r
   refused : (d : Float) (j : ℕ) → lo ≤ j → j < hi → isDone (ρ .verdict d j) ≡ false → r ≡ ρ .verdict d j → Answered ρ lo hi r
@@ -55,7 +55,7 @@ module _ (ρ : Rule) (m lo hi first : ℕ) (bound : (j : ℕ) → lo ≤ j → m
 pub refused-in : {lo hi : ℕ} {r : Answer} → Answered crateRule lo hi r → RefusedIn lo hi r
 refused-in (done is) failed = absurd (subst T (sym (ap isDone is) ∙ failed) tt)
 refused-in {lo} {hi} {r} (refused d j from upto turned is) failed =
-    let place : placeOf r ≡ j = ap placeOf is ∙ positive-place d j turned in
+    let place : placeOf r ≡ j = ap placeOf is ∙ answer-place d j turned in
     (omega arith, omega arith)
 
 -- ---- the call

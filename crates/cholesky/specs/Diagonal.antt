@@ -1,4 +1,4 @@
--- Which answer is due to the diagonal d of column j, said twice: by a test for each answer, and by the number itself. `positive` gives it (proofs/Diagonal).
+-- Which answer is due to the diagonal d of column j, said twice: by a test for each answer, and by the number itself. `answerTo` gives it (proofs/Diagonal).
 use mathlib.Core.Path.{_≡_}
 use mathlib.Core.Bool.{true, false}
 use Prim.Native.Nat.{ℕ, zero, suc}
@@ -9,10 +9,10 @@ use Rattle.matrix.specs.Rounded.{plusZero}
 
 -- each answer with a test of its own; one fits, and no other
 pub data Due (d : Float) (j : ℕ) : Answer → Type 0 where
-  above : lt plusZero d ≡ true → Due d j Done
-  nought : eq d plusZero ≡ true → Due d j (CholeskyZero j)
-  below : lt d plusZero ≡ true → Due d j (CholeskyBelowZero j)
-  none : isNan d ≡ true → Due d j (CholeskyNan j)
+  above-zero : lt plusZero d ≡ true → Due d j Done
+  is-zero : eq d plusZero ≡ true → Due d j (CholeskyZero j)
+  below-zero : lt d plusZero ≡ true → Due d j (CholeskyBelowZero j)
+  is-nan : isNan d ≡ true → Due d j (CholeskyNan j)
 
 -- `inf s` is an infinity and `fin s m e` is m·2^e, with a minus where s is true
 unfoldable pub dueTo : Float → ℕ → Answer

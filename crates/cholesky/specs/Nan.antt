@@ -1,4 +1,4 @@
--- What a row with a NaN in it is answered.
+-- What is answered to a NaN in a row of a batch, on its diagonal or left of it.
 use mathlib.Core.Path.{_≡_}
 use mathlib.Core.Bool.{false}
 use Prim.Native.Nat.{ℕ, _≤_}
@@ -6,7 +6,7 @@ use Rattle.answer.specs.declared.Answer.{Answer}
 use Rattle.answer.specs.declared.Answer.the-variants.{CholeskyNan}
 use Rattle.answer.specs.Number.{placeOf, isDone}
 
--- row i of a batch from row m on has a NaN on its diagonal or left of it: the batch is refused, at a row up to i, and at i by 11
+-- the NaN is in row i and the batch starts at row m: refused at one of the rows m to i, and at i by 11
 pub record NanTold (m i : ℕ) (r : Answer) : Type 0 where
   pub refused : isDone r ≡ false
   pub from : m ≤ placeOf r

@@ -5,7 +5,7 @@ ghost use Rattle.matrix.specs.Grid.{load};
 ghost use Rattle.matrix.specs.Layouts.{lower, Laid};
 ghost use Rattle.cholesky.specs.Column.{part};
 ghost use Rattle.cholesky.specs.Run.{updates, below, judgedColumn, factorColumns};
-ghost use Rattle.cholesky.specs.Crate.{positive, crateRule};
+ghost use Rattle.cholesky.specs.Crate.{answerTo, crateRule};
 ghost use Rattle.cholesky.specs.Leaves.{Leaves};
 ghost use Rattle.cholesky.specs.inner.Engine.{Reach, Sourced, lessColumns, TakenOff, Judgement, Ends, Advanced};
 use answer::Answer;
@@ -25,9 +25,9 @@ pub struct Step {
 }
 
 // What is answered to the diagonal d of column j.
-fn positive(d: f64, j: usize) -> Answer
+fn answer_to(d: f64, j: usize) -> Answer
     requires { ⌜ j ≤ 1024 ⌝ }
-    ensures { λ r. ⌜ r ≡ positive d j ⌝ }
+    ensures { λ r. ⌜ r ≡ answerTo d j ⌝ }
 {
     let column = j as u32;
     if 0.0 < d {
@@ -47,7 +47,7 @@ fn judge(d: f64, j: usize) -> Verdict
     requires { ⌜ j ≤ 1024 ⌝ }
     ensures { λ r. ⌜ Judgement crateRule d j r ⌝ }
 {
-    let answer = positive(d, j);
+    let answer = answer_to(d, j);
     if answer.code() == 0 {
         return Verdict {
             answer: answer,

@@ -18,12 +18,12 @@ use Rattle.matrix.specs.Sizes.{Fits}
 use Rattle.matrix.specs.Rounded.{_⊗_, _⊘_, plusZero}
 use Rattle.cholesky.specs.Column.{updated}
 use Rattle.cholesky.specs.Run.{Outcome, factorColumn, factorColumns}
-use Rattle.cholesky.specs.Crate.{positive, crateRule}
+use Rattle.cholesky.specs.Crate.{answerTo, crateRule}
 use Rattle.cholesky.specs.Promise.{Extended}
 use Rattle.cholesky.specs.Batches.{Rising, Batches}
 use Rattle.cholesky.proofs.Onward.{columns-on, refusal-answers, accepted-before}
-use Rattle.cholesky.specs.Diagonal.{Due, above, nought, below, none}
-use Rattle.cholesky.proofs.Diagonal.{due-is, positive-passes}
+use Rattle.cholesky.specs.Diagonal.{Due, above-zero, is-zero, below-zero, is-nan}
+use Rattle.cholesky.proofs.Diagonal.{due-is, answer-passes}
 use Rattle.cholesky.proofs.Refusals.{Answered, columns-answered}
 use Rattle.cholesky.specs.Arriving.{Arriving}
 use Rattle.cholesky.proofs.Arriving.{LikeOne, like-one, like-one-more}
@@ -60,9 +60,9 @@ module _ (A L : Matrix) (p : ℕ) where
     -- q = p + 1: the crumb decides
     pub record Neighbours : Type 0 where
       -- zero (7), below zero (10) or NaN (11): row q is refused, and the crumb stays on its diagonal
-      pub nought : eq crumb plusZero ≡ true → r ≡ CholeskyZero q
-      pub below : lt crumb plusZero ≡ true → r ≡ CholeskyBelowZero q
-      pub none : isNan crumb ≡ true → r ≡ CholeskyNan q
+      pub is-zero : eq crumb plusZero ≡ true → r ≡ CholeskyZero q
+      pub below-zero : lt crumb plusZero ≡ true → r ≡ CholeskyBelowZero q
+      pub is-nan : isNan crumb ≡ true → r ≡ CholeskyNan q
       pub leaves : lt plusZero crumb ≡ false → L q q ≡ crumb
       -- above zero: row q is accepted, and the crumb's root stands there
       pub accepted : lt plusZero crumb ≡ true → Answered crateRule (q + 1) n r
@@ -163,7 +163,7 @@ module _ (room m n p q : ℕ) (cuts : List ℕ) (l₀ l l' : List Float) (r : An
     due-q : {a : Answer} → Due (crumb A L p) q a → factorColumns crateRule 0 (q + 1) A .answer ≡ a
     due-q so =
         twin-refused crateRule A p q (omega arith) (given .left) (given .diagonal) accepted-p next
-        ∙ ap (λ (x : Float). positive (remainder crateRule x x) q) v-is
+        ∙ ap (λ (x : Float). answerTo (remainder crateRule x x) q) v-is
         ∙ sym (due-is so)
 
     diagonal-q : L q q ≡ After crateRule A (q + 1) q q
@@ -177,10 +177,10 @@ module _ (room m n p q : ℕ) (cuts : List ℕ) (l₀ l l' : List Float) (r : An
 
     pub neighbours : Neighbours A L p q m n r
     neighbours = record {
-      nought = λ h. refused-q (nought h) refl;
-      below = λ h. refused-q (below h) refl;
-      none = λ h. refused-q (none h) refl;
-      leaves = λ fails. diagonal-q ∙ refused-diagonal crateRule A q accepted-q (ap (λ (x : Float). isDone (positive x q)) crumb-is ∙ positive-passes (crumb A L p) q ∙ fails) ∙ crumb-is;
-      accepted = λ some. subst (Answered crateRule (q + 1) n) (ap (λ (o : Outcome). o .answer) (columns-on crateRule 0 A (q + 1) n (omega arith)) ∙ sym (ends .answer)) (answered (q + 1) (factorColumns crateRule 0 (q + 1) A) (due-q (above some)));
-      root = λ some. diagonal-q ∙ diagonal-of crateRule A q (ap isDone (due-q (above some))) ∙ ap rootOf crumb-is;
+      is-zero = λ h. refused-q (is-zero h) refl;
+      below-zero = λ h. refused-q (below-zero h) refl;
+      is-nan = λ h. refused-q (is-nan h) refl;
+      leaves = λ fails. diagonal-q ∙ refused-diagonal crateRule A q accepted-q (ap (λ (x : Float). isDone (answerTo x q)) crumb-is ∙ answer-passes (crumb A L p) q ∙ fails) ∙ crumb-is;
+      accepted = λ some. subst (Answered crateRule (q + 1) n) (ap (λ (o : Outcome). o .answer) (columns-on crateRule 0 A (q + 1) n (omega arith)) ∙ sym (ends .answer)) (answered (q + 1) (factorColumns crateRule 0 (q + 1) A) (due-q (above-zero some)));
+      root = λ some. diagonal-q ∙ diagonal-of crateRule A q (ap isDone (due-q (above-zero some))) ∙ ap rootOf crumb-is;
     }

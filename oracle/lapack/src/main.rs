@@ -105,7 +105,8 @@ fn definite(matrices: u64, first: u64) -> bool {
         let answer = Text.cholesky_factor(&mut text, n, n);
         let mut other = a.clone();
         let info = dpotf2(&mut other, n);
-        let wanted = if answer == 0 { 0 } else { (answer - 7 * 4096) as usize + 1 };
+        // INFO names the row alone, from 1
+        let wanted = if answer == 0 { 0 } else { answer as usize % 4096 + 1 };
         refused += (wanted != 0) as u64;
         if info == wanted {
             same += 1;

@@ -1,5 +1,5 @@
 //! stored FOLDER: writes the stored lists, each as FOLDER/NAME/stdin.
-//! stored --replay FOLDER: replays them on the text and on document 01's steps and says what differs.
+//! stored --replay FOLDER: replays them on the text and on the steps and says what differs.
 
 use std::path::Path;
 use std::process::ExitCode;

@@ -46,5 +46,16 @@ fn each_says_what_to_do_and_where() {
         let sentence = boxed.to_string();
         assert!(sentence.len() > 40, "{sentence}");
         assert_eq!(sentence.contains("row 1"), refusal.place() == 1, "{sentence}");
+        for (code, words) in [(7, "exactly zero"), (10, "fell below zero"), (11, "is NaN")] {
+            assert_eq!(sentence.contains(words), refusal.code() == code, "{sentence}");
+        }
     }
+}
+
+#[test]
+fn the_first_diagonal_that_fails_gives_its_code() {
+    let of = |first, second| cholesky::factor(&mut [first, 0.0, 0.0, second], 2, 2).unwrap_err();
+    assert_eq!(of(f64::NAN, 0.0), Refusal::CholeskyNan { column: 0 });
+    assert_eq!(of(-1.0, f64::NAN), Refusal::CholeskyBelowZero { column: 0 });
+    assert_eq!(of(0.0, -1.0), Refusal::CholeskyZero { column: 0 });
 }

@@ -6,8 +6,8 @@ use borrow.Author.Needs.{needs}
 use Rattle.cholesky.proofs.engine.judge.Statement.{statement}
 use Rattle.cholesky.proofs.engine.judge.Tie as tie
 
-positive-requires : tie.Need-positive-requires
-positive-requires c κs = search needs
+answer-to-requires : tie.Need-answer-to-requires
+answer-to-requires c κs = search needs
 
 code-requires : tie.Need-code-requires
 code-requires c κs = search needs
@@ -16,10 +16,10 @@ root-requires : tie.Need-root-requires
 root-requires c κs = search needs
 
 returns : tie.Need-returns
-returns c = judge-passed crateRule _ _ _ (c .before .before .before .positive .ensures) (c .root .ensures)
+returns c = judge-passed crateRule _ _ _ (c .before .before .before .answer-to .ensures) (c .root .ensures)
 
 returns-2 : tie.Need-returns-2
-returns-2 c = judge-refused crateRule _ _ _ (c .before .before .positive .ensures) (code-refused (c .before .before .positive .result) (c .before .code .ensures) (c .if1 .left))
+returns-2 c = judge-refused crateRule _ _ _ (c .before .before .answer-to .ensures) (code-refused (c .before .before .answer-to .result) (c .before .code .ensures) (c .if1 .left))
 
 pub judge-spec : {M : Type 1} → statement M
-judge-spec = tie.close (tie.spec positive-requires code-requires root-requires returns returns-2)
+judge-spec = tie.close (tie.spec answer-to-requires code-requires root-requires returns returns-2)
