@@ -42,7 +42,8 @@
  *   11 URGYELPAT_CHOLESKY_NAN        Cholesky: that diagonal is NaN                            its column j
  *
  * Cholesky judges a diagonal once it is updated by the columns before it; exactly one of "passes", 7, 10 and 11 fits it. A NaN
- * on the diagonal of a row that is handed in, or left of it, is never accepted: that row is refused by 11, if none before it is.
+ * on the diagonal of a row that is handed in, or left of it, is never accepted: where the sizes fit, that row is refused by 11,
+ * if none before it is.
  * What stands in the buffers after 7, 8, 10 and 11 is said at the functions that give them. Everything is promised to the bit
  * but a NaN's sign and payload: a NaN is a NaN, in results and in what is kept. (That a kept NaN keeps its bits is tested.)
  */

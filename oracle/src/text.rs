@@ -2,8 +2,9 @@
 //!
 //! The text itself answers `LBLT::new`, `solve_mut`, `determinant`, `d`, `l_permuted`, `Cholesky::new`, `l`, `unpack`, `determinant` and
 //! `UDU::new`. What follows document 01 because the text says nothing of it is marked "document 01": the checks before a call, the room, the
-//! further batch, and what stays in the buffers after a refusal; and "document 02": the codes of a diagonal that is turned down. The text has no call for rows that came twice, and its Cholesky solve rests on
-//! triangular solves that it does not contain: the steps answer these calls here too.
+//! further batch, and what stays in the buffers after a refusal. Marked "document 02" are the codes of a diagonal that is turned down. The text
+//! has no call for rows that came twice, and its Cholesky solve rests on triangular solves that it does not contain: the steps answer these calls
+//! here too.
 
 use crate::call::Calls;
 use crate::linalg::cholesky::Cholesky;

@@ -45,8 +45,8 @@ pub enum Refusal {
         /// Its row and column.
         column: usize,
     },
-    /// Code 11: a diagonal of Cholesky is NaN. A factor call never accepts a NaN on the diagonal of a row or left of it: the row
-    /// ends so, if none before it is refused.
+    /// Code 11: a diagonal of Cholesky is NaN. A NaN on the diagonal of a row that is factored, or left of it, is never
+    /// accepted: where the sizes fit, the row ends so, if none before it is refused.
     CholeskyNan {
         /// Its row and column.
         column: usize,

@@ -155,12 +155,12 @@ fn insisted_batches_at_every_cut_give_what_one_call_gives() {
 
 #[test]
 fn nan_is_nan_and_the_zeros_are_two() {
-    let none = Refusal::CholeskyNan { column: 0 };
+    let nan = Refusal::CholeskyNan { column: 0 };
     let batch = [f64::NAN, -f64::NAN, f64::from_bits(0x7ff0_0000_0000_0001)];
     assert_eq!(Cholesky::default().extend(&batch), Err(twins(0, 1)));
-    assert_eq!(Cholesky::default().extend_insisting(&batch), Err(none));
+    assert_eq!(Cholesky::default().extend_insisting(&batch), Err(nan));
     let apart = [f64::NAN, f64::NAN, 1.0];
-    assert_eq!(Cholesky::default().extend(&apart), Err(BatchRefusal::Refused(none)));
+    assert_eq!(Cholesky::default().extend(&apart), Err(BatchRefusal::Refused(nan)));
 
     assert_eq!(with(&[4.0, 0.0, 2.0]).extend(&[0.0, 2.0, 2.0]), Err(twins(1, 2)));
     assert_eq!(with(&[4.0, 0.0, 2.0]).extend(&[-0.0, 2.0, 2.0]), Ok(()));
