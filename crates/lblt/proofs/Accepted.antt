@@ -3,12 +3,10 @@
 use mathlib.Core.Path.{_≡_, refl, sym, _∙_, ap, subst}
 use mathlib.Core.Bool.{Bool, true, false, cond}
 use mathlib.Core.List.{List}
-use mathlib.Core.Logic.{_⊎_, inl, inr}
-use Prim.Native.Nat.{ℕ, zero, suc, _+_, _-_, _≤_, _<_}
+use mathlib.Core.Logic.{_⊎_, inl, inr, ⊎-elim}
+use Prim.Native.Nat.{ℕ, zero, suc, _+_, _≤_, _<_}
 use native.Mathlib.Omega.{arith}
 use lib.Dec.{ltb, eqb}
-use lib.ListN.{set}
-use lib.Seq.{getD-set-same, getD-set-other}
 use lib.Ieee.{Float}
 use borrow.Author.Tests.{ltb-true, ltb-false, eqb-true}
 use Rattle.answer.specs.declared.Answer.{Answer}
@@ -17,10 +15,11 @@ use Rattle.matrix.specs.Matrix.{Matrix}
 use Rattle.matrix.specs.Grid.{load}
 use Rattle.matrix.specs.Layouts.{lower}
 use Rattle.matrix.specs.declared.Layout.{Layout}
-use Rattle.answer.proofs.Tests.{either}
-use Rattle.pivots.specs.Words.{indexWord, sizeWord, markWord, markAt, Sized, paired, marked}
+use Rattle.answer.proofs.Tests.{either, eq-or-ne}
+use Rattle.pivots.specs.Words.{markAt, Sized, paired}
 use Rattle.pivots.specs.Rule.{Accepted}
-use Rattle.pivots.proofs.Written.{Written, Marks, written-none, written-one, written-two, written-zero, written-all}
+use Rattle.pivots.proofs.Boundaries.{Marks, mark-row}
+use Rattle.pivots.proofs.Written.{Written, written-none, written-one, written-two, written-zero, written-all}
 use Rattle.lblt_choice.specs.Choice.{choose}
 use Rattle.lblt.specs.Step.{State, firstMark, take, step, stepped}
 use Rattle.lblt.specs.Factor.{firstState, finalState, recorded, Factored}
@@ -29,23 +28,6 @@ use Rattle.lblt_choice.specs.declared.Choice.the-variants.{ZeroColumn, One, Two
 use Rattle.lblt_choice.proofs.Range.{Within, choose-range}
 use Rattle.lblt.proofs.Stands.{step-rises}
 use Rattle.lblt.proofs.Done.{done-sized}
-
--- the mark is put at the end: it is read back, and what it names stays
-marks-kept : (n : ℕ) (words : List ℕ) (m : ℕ) → Written n words n m → (markAt n (marked n words m) ≡ 0) ⊎ Marks (marked n words m) n (markAt n (marked n words m))
-unfolding marked
-marks-kept n words m w = subst (λ (x : ℕ). (x ≡ 0) ⊎ Marks (marked n words m) n x) (sym reads) (by (w .mark))
-  where
-    reads : markAt n (marked n words m) ≡ m
-    reads = getD-set-same words (markWord n) m 0 (omega (arith, w .sized .total))
-
-    by : (m ≡ 0) ⊎ Marks words n m → (m ≡ 0) ⊎ Marks (marked n words m) n m
-    by (inl none) = inl none
-    by (inr mk) = inr (record {
-      set = mk .set;
-      passed = mk .passed;
-      size = getD-set-other words (markWord n) (sizeWord (m - 1)) m 0 (λ e. omega (arith, e, mk .set, mk .passed)) ∙ mk .size;
-      index = getD-set-other words (markWord n) (indexWord (m - 1)) m 0 (λ e. omega (arith, e, mk .set, mk .passed)) ∙ mk .index;
-    })
 
 module _ (n : ℕ) where
   written-zero-column : {words : List ℕ} {k m : ℕ} (b : Bool) → eqb m 0 ≡ b → Written n words k m → k < n → Written n (paired words k k 1) (k + 1) (cond (eqb m 0) (k + 1) m)
@@ -82,10 +64,6 @@ module _ (n : ℕ) where
     unfolding recorded
     accepted = written-all written
 
-    pub own-mark : (markAt n (recorded n M words) ≡ 0) ⊎ Marks (recorded n M words) n (markAt n (recorded n M words))
-    unfolding recorded
-    own-mark = marks-kept n (finalState n M words .words) (finalState n M words .mark) written
-
 -- of `factor`'s promise
 module _ {y : Layout} {a : List Float} {words : List ℕ} {r : Answer} {a' : List Float} {words' : List ℕ} (f : Factored y a words r a' words') (done : isDone r ≡ true) where
   sized : Sized (y .order) words
@@ -95,6 +73,4 @@ module _ {y : Layout} {a : List Float} {words : List ℕ} {r : Answer} {a' : Lis
   factor-accepted = subst (Accepted (y .order)) (sym (f .left .done done .pivots)) (accepted (y .order) (load (lower y) a) words sized)
 
   pub factor-marks : (markAt (y .order) words' ≡ 0) ⊎ Marks words' (y .order) (markAt (y .order) words')
-  factor-marks =
-      subst (λ (w : List ℕ). (markAt (y .order) w ≡ 0) ⊎ Marks w (y .order) (markAt (y .order) w)) (sym (f .left .done done .pivots))
-      (own-mark (y .order) (load (lower y) a) words sized)
+  factor-marks = ⊎-elim inl (λ set. inr (mark-row factor-accepted set)) (eq-or-ne (markAt (y .order) words') 0)

@@ -17,8 +17,8 @@ use lib.Dec.{leb, eqb}
 use Rattle.answer.specs.declared.Answer.the-variants.{Done}
 use Rattle.answer.specs.Number.{isDone}
 use Rattle.answer.proofs.Tested.{AllHold, all-hold}
-use Rattle.pivots.specs.Words.{sizeAt, markAt}
-use Rattle.pivots.specs.Rule.{blockOf, faultFrom, faultOf, recordTests, checked, Accepted}
+use Rattle.pivots.specs.Words.{indexAt, sizeAt, markAt}
+use Rattle.pivots.specs.Rule.{blockOf, faultFrom, faultOf, ownPivot, recordTests, checked, Accepted}
 use Rattle.pivots.proofs.Blocks.{One, Two, one-rows, two-rows, block-found, first, second}
 use Rattle.pivots.proofs.Faults.{from-next, from-stop}
 
@@ -160,17 +160,30 @@ last-two {n} {words} {k} b positive other = at (b .before)
 
 -- ---- the mark
 
-pub record MarkedRow (n : ℕ) (words : List ℕ) : Type 0 where
-  pub row : markAt n words ≤ n
-  pub size : sizeAt words (markAt n words - 1) ≡ 1
+-- m names a row before k, a pivot of size 1 on its own row
+pub record Marks (words : List ℕ) (k m : ℕ) : Type 0 where
+  pub set : 0 < m
+  pub passed : m ≤ k
+  pub size : sizeAt words (m - 1) ≡ 1
+  pub index : indexAt words (m - 1) ≡ m - 1
 
-pub mark-row : {n : ℕ} {words : List ℕ} → Accepted n words → (markAt n words ≡ 0 → ⊥) → MarkedRow n words
-mark-row {n} {words} a set =
-    record { row = leb-true _ _ (first (leb (markAt n words) n) _ both); size = eqb-true _ _ (second (leb (markAt n words) n) _ both) }
+pub mark-row : {n : ℕ} {words : List ℕ} → Accepted n words → (markAt n words ≡ 0 → ⊥) → Marks words n (markAt n words)
+mark-row {n} {words} a marked = record {
+  set = omega (arith, marked);
+  passed = leb-true _ _ (first (leb (markAt n words) n) _ within-own);
+  size = eqb-true _ _ (first (eqb (sizeAt words row) 1) _ own);
+  index = eqb-true _ _ (second (eqb (sizeAt words row) 1) _ own);
+}
   where
     or : (a b : Bool) → (a ≡ true → ⊥) → (a || b) ≡ true → b ≡ true
     or true b h e = absurd (h refl)
     or false b h e = e
 
-    both : (leb (markAt n words) n && eqb (sizeAt words (markAt n words - 1)) 1) ≡ true
-    both = or (eqb (markAt n words) 0) _ (λ e. set (eqb-true _ _ e)) (record-holds n words (a .done) .1 .0)
+    row : ℕ
+    row = markAt n words - 1
+
+    within-own : (leb (markAt n words) n && ownPivot words row) ≡ true
+    within-own = or (eqb (markAt n words) 0) _ (λ e. marked (eqb-true _ _ e)) (record-holds n words (a .done) .1 .0)
+
+    own : ownPivot words row ≡ true
+    own = second (leb (markAt n words) n) _ within-own

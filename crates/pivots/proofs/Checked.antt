@@ -1,11 +1,13 @@
 -- What the check answers, by what is found: a law for each way out.
+use mathlib.Core.Bool.{and-false}
 use mathlib.Core.List.{List}
 use mathlib.Core.Path.{_≡_}
 use Prim.Native.Nat.{ℕ, _-_, _<_, _≤_}
 use native.Mathlib.Omega.{arith}
-use borrow.Author.Tests.{ne-eqb, le-leb, lt-leb}
+use lib.Dec.{eqb}
+use borrow.Author.Tests.{eq-eqb, ne-eqb, le-leb, lt-leb}
 use Rattle.answer.specs.declared.Answer.the-variants.{Done, BadRecord}
-use Rattle.pivots.specs.Words.{sizeAt, markAt}
+use Rattle.pivots.specs.Words.{indexAt, sizeAt, markAt}
 use Rattle.answer.specs.Refusals.{tested}
 use Rattle.pivots.specs.Rule.{faultOf, checked}
 
@@ -23,21 +25,38 @@ module _ (n : ℕ) (words : List ℕ) where
     unfolding checked tested
     mark-above above = simp (le-leb n (faultOf n words) rows, ← reads, ne-eqb mark 0 (λ e. omega arith), lt-leb mark n above)
 
-    module _ (set : 0 < mark) (below : mark ≤ n) {size : ℕ} (size-reads : size ≡ sizeAt words (mark - 1)) where
-      pub mark-broken : (size ≡ 1 → ⊥) → BadRecord n ≡ checked n words
+    module _ (set : 0 < mark) (below : mark ≤ n) where
+      pub mark-in-block : (sizeAt words (mark - 1) ≡ 1 → ⊥) → BadRecord n ≡ checked n words
       unfolding checked tested
-      mark-broken other =
+      mark-in-block other =
           simp (
             le-leb n (faultOf n words) rows,
             ← reads,
             ne-eqb mark 0 (λ e. omega arith),
             le-leb mark n below,
-            ← size-reads,
-            ne-eqb size 1 other,
+            ne-eqb (sizeAt words (mark - 1)) 1 other,
           )
 
-      pub mark-sound : size ≡ 1 → Done ≡ checked n words
+      pub mark-exchanged : (indexAt words (mark - 1) ≡ mark - 1 → ⊥) → BadRecord n ≡ checked n words
       unfolding checked tested
-      mark-sound one =
-          simp
-          (le-leb n (faultOf n words) rows, ← reads, ne-eqb mark 0 (λ e. omega arith), le-leb mark n below, ← size-reads, one)
+      mark-exchanged other =
+          simp (
+            le-leb n (faultOf n words) rows,
+            ← reads,
+            ne-eqb mark 0 (λ e. omega arith),
+            le-leb mark n below,
+            ne-eqb (indexAt words (mark - 1)) (mark - 1) other,
+            and-false (eqb (sizeAt words (mark - 1)) 1),
+          )
+
+      pub mark-sound : sizeAt words (mark - 1) ≡ 1 → indexAt words (mark - 1) ≡ mark - 1 → Done ≡ checked n words
+      unfolding checked tested
+      mark-sound one own =
+          simp (
+            le-leb n (faultOf n words) rows,
+            ← reads,
+            ne-eqb mark 0 (λ e. omega arith),
+            le-leb mark n below,
+            one,
+            eq-eqb (indexAt words (mark - 1)) (mark - 1) own,
+          )

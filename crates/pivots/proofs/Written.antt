@@ -1,5 +1,5 @@
 -- A record that is written block by block, as the factor does, is accepted.
---     Written n words k m     the blocks up to row k are written and sound; m is the first mark: 0, or a row before k of size 1, plus 1
+--     Written n words k m     the blocks up to row k are written and sound; m is the first mark: 0, or a row before k, of size 1 and with its own index, plus 1
 --     written-none            nothing written
 --     written-one, written-two, written-zero     one more block: of size 1, of size 2, and a zero column that sets the mark
 --     written-all             the mark is put at the end, and the record is accepted
@@ -17,14 +17,7 @@ use Rattle.pivots.specs.Rule.{faultOf, checked, Accepted}
 use Rattle.pivots.proofs.Blocks.{one-rows, two-rows}
 use Rattle.pivots.proofs.Faults.{Going, going-none, going-more, going-all}
 use Rattle.pivots.proofs.Checked.{unmarked, mark-sound}
-use Rattle.pivots.proofs.Boundaries.{Upto, start, one, two}
-
--- a mark names a row before k, a pivot of size 1 on its own row
-pub record Marks (words : List ℕ) (k m : ℕ) : Type 0 where
-  pub set : 0 < m
-  pub passed : m ≤ k
-  pub size : sizeAt words (m - 1) ≡ 1
-  pub index : indexAt words (m - 1) ≡ m - 1
+use Rattle.pivots.proofs.Boundaries.{Upto, start, one, two, Marks}
 
 pub record Written (n : ℕ) (words : List ℕ) (k m : ℕ) : Type 0 where
   pub sized : Sized n words
@@ -212,5 +205,5 @@ written-all {n} {words} {m} w =
     at : (m ≡ 0) ⊎ Marks words n m → Done ≡ checked n final
     at (inl none) = unmarked n final rows reads none
     at (inr mk) =
-        mark-sound n final rows reads (mk .set) (mk .passed)
-        (sym (kept-marks (marked-kept n words m) mk .size)) refl
+        let kept = kept-marks (marked-kept n words m) mk in
+        mark-sound n final rows reads (mk .set) (mk .passed) (kept .size) (kept .index)

@@ -35,9 +35,13 @@ faultFrom (suc fuel) n words k =
 abbrev pub faultOf : ℕ → List ℕ → ℕ
 faultOf n words = faultFrom n n words 0
 
--- the mark is 0, or names a row of size 1
+-- a row of size 1 whose index is that row
+abbrev pub ownPivot : List ℕ → ℕ → Bool
+ownPivot words row = eqb (sizeAt words row) 1 && eqb (indexAt words row) row
+
+-- the mark is 0, or names such a row
 abbrev pub soundMark : ℕ → List ℕ → Bool
-soundMark n words = eqb (markAt n words) 0 || (leb (markAt n words) n && eqb (sizeAt words (markAt n words - 1)) 1)
+soundMark n words = eqb (markAt n words) 0 || (leb (markAt n words) n && ownPivot words (markAt n words - 1))
 
 -- the rows are judged before the mark
 abbrev pub recordTests : ℕ → List ℕ → List Test

@@ -128,5 +128,8 @@ pub fn check(words: &[u32], n: usize) -> Answer
     if size(words, marked - 1) != 1 {
         return Answer::BadRecord(n as u32);
     }
+    if index(words, marked - 1) != marked - 1 {
+        return Answer::BadRecord(n as u32);
+    }
     Answer::Done
 }

@@ -123,7 +123,7 @@ mark-small n words small a = go (eq-or-ne (markAt n words) 0)
   where
     go : (markAt n words ≡ 0) ⊎ (markAt n words ≡ 0 → ⊥) → markAt n words ≤ 64
     go (inl e) = omega arith
-    go (inr f) = omega (arith, mark-row a f .row)
+    go (inr f) = omega (arith, mark-row a f .passed)
 
 page-fits : (n : ℕ) (M : Matrix) (words : List ℕ) → n ≤ 64 → Sized n words → length (pageFrom n M words) ≤ 65536
 unfolding pageFrom

@@ -66,7 +66,7 @@ module _ (y : Layout) (columns : ℕ) (a : List Float) (words : List ℕ) (b : L
       within-test 1024 (eqb (markAt (y .order) words) 0) Done (ZeroMark (markAt (y .order) words - 1)) (λ e. within-none 1024)
       (λ e.
       let known = columns-done y columns a words b done in
-      let row : markAt (y .order) words ≤ y .order = mark-row (known .readable .accepted) (eqb-false _ _ e) .row in
+      let row : markAt (y .order) words ≤ y .order = mark-row (known .readable .accepted) (eqb-false _ _ e) .passed in
       let small : y .order ≤ 1024 = known .readable .accepted .sized .order in
       omega (arith, row, small))
 

@@ -42,7 +42,7 @@ cast-t11 c =
     let check-columns = c .before .before .before .before .check-columns in
     let known = columns-done (given .args .y) (given .args .columns) (given .args .a .now) (given .args .words .now) (given .args .b .now) (ap isDone (sym (check-columns .ensures)) ∙ (code-done (check-columns .result) (c .before .before .before .code .ensures) (c .before .before .if1 .left))) in
     let marked = mark-row (known .readable .accepted) (λ e. c .if2 .left (c .before .mark .ensures ∙ e)) in
-    omega (arith, known .readable .accepted .sized .order, marked .row, c .before .mark .ensures)
+    omega (arith, known .readable .accepted .sized .order, marked .passed, c .before .mark .ensures)
 
 returns-3 : tie.Need-returns-3
 returns-3 c =

@@ -1,6 +1,6 @@
 -- `check` answers by its rows, then by its mark: each way out cites its law.
 use native.Mathlib.Omega.{arith}
-use Rattle.pivots.proofs.Checked.{row-broken, unmarked, mark-above, mark-broken, mark-sound}
+use Rattle.pivots.proofs.Checked.{row-broken, unmarked, mark-above, mark-in-block, mark-exchanged, mark-sound}
 use borrow.Author.Needs.{needs}
 use Rattle.pivots.proofs.check.Statement.{statement}
 use Rattle.pivots.proofs.check.Tie as tie
@@ -37,13 +37,27 @@ cast-t10 c = search needs
 
 returns-4 : tie.Need-returns-4
 returns-4 c =
-    let mark = c .before .before .before .before .mark in
-    mark-broken _ _ (omega arith) (mark .ensures) (omega arith) (c .before .before .if3 .left) (c .before .size .ensures) (c .if4 .taken)
+    mark-in-block _ _ (omega arith) (c .before .before .before .before .mark .ensures) (omega arith) (omega arith) (λ e. omega (arith, e))
+
+sub-index : tie.Need-sub-index
+sub-index c = search needs
+
+index-requires : tie.Need-index-requires
+index-requires c κs = search needs
+
+sub-if5 : tie.Need-sub-if5
+sub-if5 c = search needs
+
+cast-t12 : tie.Need-cast-t12
+cast-t12 c = search needs
 
 returns-5 : tie.Need-returns-5
 returns-5 c =
-    let mark = c .before .before .before .before .mark in
-    mark-sound _ _ (omega arith) (mark .ensures) (omega arith) (c .before .before .if3 .left) (c .before .size .ensures) (c .if4 .left)
+    mark-exchanged _ _ (omega arith) (c .before .before .before .before .before .before .mark .ensures) (omega arith) (omega arith) (λ e. omega (arith, e))
+
+returns-6 : tie.Need-returns-6
+returns-6 c =
+    mark-sound _ _ (omega arith) (c .before .before .before .before .before .before .mark .ensures) (omega arith) (omega arith) (omega arith) (omega arith)
 
 pub check-spec : {M : Type 1} → statement M
 check-spec =
@@ -60,4 +74,9 @@ check-spec =
     size-requires
     cast-t10
     returns-4
-    returns-5)
+    sub-index
+    index-requires
+    sub-if5
+    cast-t12
+    returns-5
+    returns-6)
