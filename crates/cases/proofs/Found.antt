@@ -4,7 +4,7 @@ use mathlib.Core.Bool.{Bool, true, false, cond}
 use mathlib.Core.List.{List, [], _∷_}
 use Prim.Native.Nat.{ℕ, _*_, _%_, _/_}
 use native.Mathlib.Nat.{le-refl}
-use lib.ListN.{length}
+use lib.ListN.{length, length-replicate}
 use lib.Ieee.{Float, binary64, ofBits, toBits}
 use Rattle.answer.specs.declared.Answer.{Answer}
 use Rattle.answer.specs.declared.Answer.the-variants.{Done}
@@ -23,12 +23,12 @@ use Rattle.lblt.proofs.Done.{Same}
 use Rattle.matrix.specs.Columns.{eachColumn}
 use Rattle.lblt_solve_one.specs.Column.{solveColumn}
 use Rattle.lblt_read.specs.Diagonal.{determinantOf}
-use Rattle.lblt_read.specs.Calls.{readerTests, LbltDetermined}
+use Rattle.lblt_read.specs.Calls.{readerTests, columnTests, LbltDetermined}
 use Rattle.lblt_solve.specs.Solve.{solveTests, LbltSolved}
 use Rattle.cholesky.specs.Promise.{batch, Extended}
 use Rattle.cholesky.specs.Solve.{sidesTests, solveSides, CholeskySolved}
 use Rattle.udu.specs.Promise.{uduTests, uduOf, uduAnswer, factorsOf, UduFactored}
-use Rattle.cases.specs.Calls.{floats, bitsOf, answered, lentWords, lentFloats, Call, lbltFactor, lbltDeterminant, lbltSolve, lbltLargest, choleskyFactor, choleskySolve, choleskySolveSizes, uduFactor, root, Gives}
+use Rattle.cases.specs.Calls.{stray, floats, bitsOf, answered, lentWords, lentFloats, Call, lbltFactor, lbltDeterminant, lbltSolve, lbltReaders, lbltLargest, choleskyFactor, choleskySolve, choleskySolveSizes, uduFactor, root, Gives}
 use Rattle.matrix.proofs.Slices.{listed, is-listed, overlaid, holds-overlaid, fills-listed}
 use Rattle.matrix.specs.Rounded.{plusZero}
 
@@ -144,6 +144,10 @@ abbrev pub found : Call → List (List ℕ)
 found (lbltFactor n a) = answered (lbltAnswer n (floats a) (lentWords n)) ∷ leftWords n a ∷ bitsOf (leftSlice n a) ∷ []
 found (lbltDeterminant n a) = determinantNumbers n (leftSlice n a) (leftWords n a)
 found (lbltSolve n a b) = solveNumbers n (leftSlice n a) (leftWords n a) (floats b)
+found (lbltReaders n words) =
+    let matrix = lentFloats (n * n) in
+    let filled = answered (tested (columnTests (full n) n matrix words matrix) Done) in
+    answered (tested (solveTests (full n) 1 matrix words (lentFloats n)) Done) ∷ answered (tested (readerTests (full n) matrix words) Done) ∷ filled ∷ filled ∷ []
 found (lbltLargest n a k) = (columnMax n (load (lower (full n)) (floats a)) k .imax ∷ []) ∷ []
 found (choleskyFactor room n a) = answered (choleskyAnswer room n (floats a)) ∷ bitsOf (choleskySlice room n (floats a)) ∷ []
 found (choleskySolve room n a b) = choleskySolveNumbers room n (choleskySlice room n (floats a)) (floats b)
@@ -161,6 +165,8 @@ gives (lbltSolve n a b) = λ r s a' b' words f d.
     let g = factors n (floats a) (lentWords n) f in
     let by : LbltSolved (full n) 1 (leftSlice n a) (leftWords n a) (floats b) s b' = rw (g .matrix, g .pivots) at d in
     solves n (leftSlice n a) (leftWords n a) by
+gives (lbltReaders n words) = λ r s t v a b b' d d' l l' long-a long-b long-d long-l solved determined d-filled l-filled.
+    rw (solved .answer, determined .answer, d-filled .answer, l-filled .answer, long-a, long-b, long-d, long-l, length-replicate (n * n) (ofBits binary64 stray), length-replicate n (ofBits binary64 stray))
 gives (lbltLargest n a k) = λ r e. rw e
 gives (choleskyFactor room n a) = λ r l f. let g = extends room n (floats a) f in rw (g .0, g .1)
 gives (choleskySolve room n a b) = λ r s l c f d.

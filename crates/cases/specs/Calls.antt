@@ -15,7 +15,9 @@ use Rattle.pivots.specs.Words.{wordsOf}
 use Rattle.lblt_choice.specs.declared.Largest.{Largest}
 use Rattle.lblt_choice.specs.Choice.{columnMax}
 use Rattle.lblt.specs.Factor.{Factored}
-use Rattle.lblt_read.specs.Calls.{LbltDetermined}
+use Rattle.lblt_read.specs.Calls.{LbltDetermined, LbltFilled}
+use Rattle.lblt_read.specs.Diagonal.{dOf}
+use Rattle.lblt_read.specs.Permuted.{lPermutedOf}
 use Rattle.lblt_solve.specs.Solve.{LbltSolved}
 use Rattle.cholesky.specs.Promise.{Extended}
 use Rattle.cholesky.specs.Solve.{CholeskySolved}
@@ -48,6 +50,7 @@ pub data Call : Type 0 where
   lbltFactor : (n : ℕ) (a : List ℕ) → Call
   lbltDeterminant : (n : ℕ) (a : List ℕ) → Call
   lbltSolve : (n : ℕ) (a b : List ℕ) → Call
+  lbltReaders : (n : ℕ) (words : List ℕ) → Call
   lbltLargest : (n : ℕ) (a : List ℕ) (k : ℕ) → Call
   choleskyFactor : (room n : ℕ) (a : List ℕ) → Call
   choleskySolve : (room n : ℕ) (a b : List ℕ) → Call
@@ -68,6 +71,13 @@ Gives (lbltDeterminant n a) numbers =
 Gives (lbltSolve n a b) numbers =
     (r s : Answer) (a' b' : List Float) (words : List ℕ) → Factored (full n) (floats a) (lentWords n) r a' words → LbltSolved (full n) 1 a' words (floats b) s b'
     → (answered s ∷ bitsOf b' ∷ []) ≡ numbers
+-- by these words as the record, whatever numbers are lent: what solve, determinant, d and l_permuted answer
+Gives (lbltReaders n words) numbers =
+    (r s t : Answer) (v : Valued) (a b b' d d' l l' : List Float) → length a ≡ n * n → length b ≡ n → length d ≡ n * n → length l ≡ n * n
+    → LbltSolved (full n) 1 a words b r b' → LbltDetermined (full n) a words v
+    → LbltFilled (full n) a words (dOf n (load (lower (full n)) a) words) d s d'
+    → LbltFilled (full n) a words (lPermutedOf n (load (lower (full n)) a) words) l t l'
+    → (answered r ∷ answered (v .answer) ∷ answered s ∷ answered t ∷ []) ≡ numbers
 -- the row imax of column k
 Gives (lbltLargest n a k) numbers = (r : Largest) → r ≡ columnMax n (load (lower (full n)) (floats a)) k → ((r .imax ∷ []) ∷ []) ≡ numbers
 -- the answer, the slice

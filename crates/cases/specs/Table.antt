@@ -1,8 +1,8 @@
--- Document 01's starred cases, those of Cholesky's solve and of the codes of a diagonal, and one of a mark after an interchange.
+-- Document 01's starred cases, those of Cholesky's solve, of the codes of a diagonal and of the row that a mark names, and one of a mark after an interchange.
 use mathlib.Core.List.{List, [], _∷_}
 use Prim.Native.Nat.{ℕ}
 use Rattle.cases.specs.Bits as bits
-use Rattle.cases.specs.Calls.{stray, lbltFactor, lbltDeterminant, lbltSolve, lbltLargest, choleskyFactor, choleskySolve, choleskySolveSizes, uduFactor, root, Case, _⇒_}
+use Rattle.cases.specs.Calls.{stray, lbltFactor, lbltDeterminant, lbltSolve, lbltReaders, lbltLargest, choleskyFactor, choleskySolve, choleskySolveSizes, uduFactor, root, Case, _⇒_}
 
 -- ---- answers: a code and its place
 
@@ -30,6 +30,11 @@ table =
     ∷ (lbltSolve 2 (bits.zero ∷ bits.nan ∷ stray ∷ bits.five ∷ []) (bits.one ∷ bits.two ∷ []) ⇒ refused 6 0 ∷ (bits.one ∷ bits.two ∷ []) ∷ [])
     -- [NaN]: mark row 0
     ∷ (lbltFactor 1 (bits.nan ∷ []) ⇒ done ∷ (0 ∷ 1 ∷ 1 ∷ []) ∷ (bits.nan ∷ []) ∷ [])
+    -- a mark on a row of size 1 whose index is another, or in a block of two: code 5 at n from every reader; on a row of size 1 whose index it is: solve alone refuses
+    ∷ (lbltReaders 2 (1 ∷ 1 ∷ 1 ∷ 1 ∷ 1 ∷ []) ⇒ refused 5 2 ∷ refused 5 2 ∷ refused 5 2 ∷ refused 5 2 ∷ [])
+    ∷ (lbltReaders 3 (0 ∷ 1 ∷ 2 ∷ 1 ∷ 2 ∷ 1 ∷ 2 ∷ []) ⇒ refused 5 3 ∷ refused 5 3 ∷ refused 5 3 ∷ refused 5 3 ∷ [])
+    ∷ (lbltReaders 2 (1 ∷ 2 ∷ 1 ∷ 2 ∷ 2 ∷ []) ⇒ refused 5 2 ∷ refused 5 2 ∷ refused 5 2 ∷ refused 5 2 ∷ [])
+    ∷ (lbltReaders 2 (1 ∷ 1 ∷ 1 ∷ 1 ∷ 2 ∷ []) ⇒ refused 6 1 ∷ done ∷ done ∷ done ∷ [])
     -- column 0, 3, −3: imax is 1, and so is the first pivot's index
     ∷ (lbltLargest 3 (bits.zero ∷ bits.three ∷ bits.minusThree ∷ stray ∷ bits.zero ∷ bits.zero ∷ stray ∷ stray ∷ bits.zero ∷ []) 0 ⇒ (1 ∷ []) ∷ [])
     ∷ (lbltFactor 3 (bits.zero ∷ bits.three ∷ bits.minusThree ∷ stray ∷ bits.zero ∷ bits.zero ∷ stray ∷ stray ∷ bits.zero ∷ [])
