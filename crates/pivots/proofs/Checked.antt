@@ -1,7 +1,7 @@
 -- What the check answers, by what is found: a law for each way out.
-use mathlib.Core.Bool.{and-false}
+use mathlib.Core.Bool.{cond, and-false}
 use mathlib.Core.List.{List}
-use mathlib.Core.Path.{_≡_}
+use mathlib.Core.Path.{_≡_, sym, _∙_}
 use Prim.Native.Nat.{ℕ, _-_, _<_, _≤_}
 use native.Mathlib.Omega.{arith}
 use lib.Dec.{eqb}
@@ -9,7 +9,7 @@ use borrow.Author.Tests.{eq-eqb, ne-eqb, le-leb, lt-leb}
 use Rattle.answer.specs.declared.Answer.the-variants.{Done, BadRecord}
 use Rattle.pivots.specs.Words.{indexAt, sizeAt, markAt}
 use Rattle.answer.specs.Refusals.{tested}
-use Rattle.pivots.specs.Rule.{faultOf, checked}
+use Rattle.pivots.specs.Rule.{faultOf, ownPivot, checked}
 
 module _ (n : ℕ) (words : List ℕ) where
   pub row-broken : {row : ℕ} → row ≡ faultOf n words → row < n → BadRecord row ≡ checked n words
@@ -26,37 +26,16 @@ module _ (n : ℕ) (words : List ℕ) where
     mark-above above = simp (le-leb n (faultOf n words) rows, ← reads, ne-eqb mark 0 (λ e. omega arith), lt-leb mark n above)
 
     module _ (set : 0 < mark) (below : mark ≤ n) where
-      pub mark-in-block : (sizeAt words (mark - 1) ≡ 1 → ⊥) → BadRecord n ≡ checked n words
+      by-its-row : checked n words ≡ cond (ownPivot words (mark - 1)) Done (BadRecord n)
       unfolding checked tested
-      mark-in-block other =
-          simp (
-            le-leb n (faultOf n words) rows,
-            ← reads,
-            ne-eqb mark 0 (λ e. omega arith),
-            le-leb mark n below,
-            ne-eqb (sizeAt words (mark - 1)) 1 other,
-          )
+      by-its-row = simp (le-leb n (faultOf n words) rows, ← reads, ne-eqb mark 0 (λ e. omega arith), le-leb mark n below)
 
-      pub mark-exchanged : (indexAt words (mark - 1) ≡ mark - 1 → ⊥) → BadRecord n ≡ checked n words
-      unfolding checked tested
-      mark-exchanged other =
-          simp (
-            le-leb n (faultOf n words) rows,
-            ← reads,
-            ne-eqb mark 0 (λ e. omega arith),
-            le-leb mark n below,
-            ne-eqb (indexAt words (mark - 1)) (mark - 1) other,
-            and-false (eqb (sizeAt words (mark - 1)) 1),
-          )
+      pub mark-size-broken : (sizeAt words (mark - 1) ≡ 1 → ⊥) → BadRecord n ≡ checked n words
+      mark-size-broken other = sym (by-its-row ∙ rw (ne-eqb (sizeAt words (mark - 1)) 1 other))
+
+      pub mark-index-broken : (indexAt words (mark - 1) ≡ mark - 1 → ⊥) → BadRecord n ≡ checked n words
+      mark-index-broken other =
+          sym (by-its-row ∙ rw (ne-eqb (indexAt words (mark - 1)) (mark - 1) other, and-false (eqb (sizeAt words (mark - 1)) 1)))
 
       pub mark-sound : sizeAt words (mark - 1) ≡ 1 → indexAt words (mark - 1) ≡ mark - 1 → Done ≡ checked n words
-      unfolding checked tested
-      mark-sound one own =
-          simp (
-            le-leb n (faultOf n words) rows,
-            ← reads,
-            ne-eqb mark 0 (λ e. omega arith),
-            le-leb mark n below,
-            one,
-            eq-eqb (indexAt words (mark - 1)) (mark - 1) own,
-          )
+      mark-sound one own = sym (by-its-row ∙ rw (one, eq-eqb (indexAt words (mark - 1)) (mark - 1) own))

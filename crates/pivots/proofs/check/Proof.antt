@@ -1,6 +1,6 @@
 -- `check` answers by its rows, then by its mark: each way out cites its law.
 use native.Mathlib.Omega.{arith}
-use Rattle.pivots.proofs.Checked.{row-broken, unmarked, mark-above, mark-in-block, mark-exchanged, mark-sound}
+use Rattle.pivots.proofs.Checked.{row-broken, unmarked, mark-above, mark-size-broken, mark-index-broken, mark-sound}
 use borrow.Author.Needs.{needs}
 use Rattle.pivots.proofs.check.Statement.{statement}
 use Rattle.pivots.proofs.check.Tie as tie
@@ -37,7 +37,8 @@ cast-t10 c = search needs
 
 returns-4 : tie.Need-returns-4
 returns-4 c =
-    mark-in-block _ _ (omega arith) (c .before .before .before .before .mark .ensures) (omega arith) (omega arith) (λ e. omega (arith, e))
+    let mark = c .before .before .before .before .mark in
+    mark-size-broken _ _ (omega arith) (mark .ensures) (omega arith) (omega arith) (λ e. omega (arith, e))
 
 sub-index : tie.Need-sub-index
 sub-index c = search needs
@@ -53,11 +54,13 @@ cast-t12 c = search needs
 
 returns-5 : tie.Need-returns-5
 returns-5 c =
-    mark-exchanged _ _ (omega arith) (c .before .before .before .before .before .before .mark .ensures) (omega arith) (omega arith) (λ e. omega (arith, e))
+    let mark = c .before .before .before .before .before .before .mark in
+    mark-index-broken _ _ (omega arith) (mark .ensures) (omega arith) (omega arith) (λ e. omega (arith, e))
 
 returns-6 : tie.Need-returns-6
 returns-6 c =
-    mark-sound _ _ (omega arith) (c .before .before .before .before .before .before .mark .ensures) (omega arith) (omega arith) (omega arith) (omega arith)
+    let mark = c .before .before .before .before .before .before .mark in
+    mark-sound _ _ (omega arith) (mark .ensures) (omega arith) (omega arith) (omega arith) (omega arith)
 
 pub check-spec : {M : Type 1} → statement M
 check-spec =
