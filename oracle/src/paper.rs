@@ -1,5 +1,5 @@
 //! The calls, written from document 01's steps and without the text: a matrix is read and written by `a[(i, j)]`, the loops run entry by entry.
-//! Cholesky's solve and the codes of a diagonal that is turned down are written from document 02.
+//! Cholesky's solve, the codes of a diagonal that is turned down and the row that a mark may name are written from document 02.
 //! The calls for rows that came twice are written from what twin rows are: all pairs are compared, one after the other.
 
 // sums and quotients stand as the documents write them
@@ -192,7 +192,7 @@ impl Record<'_> {
     /// The place at which the rule is broken.
     fn broken_at(&self, n: usize) -> Option<usize> {
         let mut k = 0;
-        let mut ones = vec![];
+        let mut own = vec![];
         while k < n {
             let (index, size) = (self.0[2 * k], self.0[2 * k + 1]);
             if size != 1 && size != 2 {
@@ -205,14 +205,14 @@ impl Record<'_> {
             if size == 2 && (self.0[2 * k + 2] != index || self.0[2 * k + 3] != size) {
                 return Some(k);
             }
-            if size == 1 {
-                ones.push(k as u32);
+            if size == 1 && index as usize == k {
+                own.push(index);
             }
             k = least + 1;
         }
         match self.0[2 * n] {
             0 => None,
-            mark if ones.contains(&(mark - 1)) => None,
+            mark if own.contains(&(mark - 1)) => None,
             _ => Some(n),
         }
     }

@@ -2,9 +2,9 @@
 //!
 //! The text itself answers `LBLT::new`, `solve_mut`, `determinant`, `d`, `l_permuted`, `Cholesky::new`, `l`, `unpack`, `determinant` and
 //! `UDU::new`. What follows document 01 because the text says nothing of it is marked "document 01": the checks before a call, the room, the
-//! further batch, and what stays in the buffers after a refusal. Marked "document 02" are the codes of a diagonal that is turned down. The text
-//! has no call for rows that came twice, and its Cholesky solve rests on triangular solves that it does not contain: the steps answer these calls
-//! here too.
+//! further batch, and what stays in the buffers after a refusal. Marked "document 02" are the codes of a diagonal that is turned down, and the row
+//! that a mark may name. The text has no call for rows that came twice, and its Cholesky solve rests on triangular solves that it does not
+//! contain: the steps answer these calls here too.
 
 use crate::call::Calls;
 use crate::linalg::cholesky::Cholesky;
@@ -50,7 +50,7 @@ mod checks {
 
     pub fn record(record: &[u32], n: usize) -> Option<u64> {
         let pair = |k: usize| (record[2 * k] as usize, record[2 * k + 1]);
-        let mut size_one = vec![false; n];
+        let mut may_be_marked = vec![false; n];
         let mut k = 0;
         while k < n {
             let (index, size) = pair(k);
@@ -62,11 +62,12 @@ mod checks {
             if !sound {
                 return Some(refusal(5, k));
             }
-            size_one[k] = size == 1;
+            // document 02: a mark names a row of size 1 whose index is that row
+            may_be_marked[k] = pair(k) == (k, 1);
             k += size as usize;
         }
         let mark = record[2 * n] as usize;
-        let sound = mark == 0 || size_one.get(mark - 1) == Some(&true);
+        let sound = mark == 0 || may_be_marked.get(mark - 1) == Some(&true);
         (!sound).then(|| refusal(5, n))
     }
 

@@ -94,6 +94,24 @@ fn lblt() {
     }
 }
 
+/// Document 02: a mark names a row of size 1 whose index is that row.
+#[test]
+fn marks() {
+    let a = [1.0, 2.0, 3.0, 4.0];
+    for calls in BOTH {
+        let answers = |record: &[u32]| {
+            let solved = calls.lblt_solve(&a, record, &mut [9.0; 2], 2, 1);
+            let determined = calls.lblt_determinant(&a, record, 2).0;
+            let filled = [calls.lblt_d(&a, record, &mut [9.0; 4], 2), calls.lblt_l_permuted(&a, record, &mut [9.0; 4], 2)];
+            [solved, determined, filled[0], filled[1]]
+        };
+        assert_eq!(answers(&[1, 1, 1, 1, 1]), [5 * 4096 + 2; 4]);
+        assert_eq!(answers(&[1, 2, 1, 2, 2]), [5 * 4096 + 2; 4]);
+        assert_eq!(answers(&[0, 1, 1, 1, 1]), [6 * 4096, 0, 0, 0]);
+        assert_eq!(answers(&[1, 1, 1, 1, 2]), [6 * 4096 + 1, 0, 0, 0]);
+    }
+}
+
 #[test]
 fn cholesky() {
     for calls in BOTH {

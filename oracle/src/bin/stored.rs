@@ -117,7 +117,7 @@ fn refusals(w: &mut Writer, calls: &[Call]) {
 
 /// Sound records with each word changed to each of a few.
 fn records(w: &mut Writer) {
-    let sound: [&[u32]; 5] = [&[0, 1, 0], &[1, 1, 1, 1, 2], &[1, 2, 1, 2, 0], &[2, 1, 2, 2, 2, 2, 1], &[2, 2, 2, 2, 2, 1, 0]];
+    let sound: [&[u32]; 5] = [&[0, 1, 0], &[1, 1, 1, 1, 2], &[1, 2, 1, 2, 0], &[0, 1, 2, 2, 2, 2, 1], &[2, 2, 2, 2, 2, 1, 0]];
     for record in sound {
         let n = record.len() / 2;
         for at in 0..record.len() {
@@ -184,6 +184,10 @@ fn lblt(w: &mut Writer) {
     }
     refusals(w, &[Call::LbltFactor, Call::LbltSolve, Call::LbltDeterminant, Call::LbltD, Call::LbltLPermuted]);
     records(w);
+    let marks: Vec<Case> = cases::marks().collect();
+    for one_record in marks.chunk_by(|one, other| one.record == other.record) {
+        emit_all(w, one_record);
+    }
     families(w, Call::LbltFactor, 1..=4, 4000, 1_000_000);
     families(w, Call::LbltFactor, 5..=8, 3500, 1_100_000);
     families(w, Call::LbltFactor, 9..=12, 1500, 1_200_000);

@@ -56,8 +56,12 @@ fn lblt(r: &mut Rng, n: usize) -> Vec<Case> {
         readers(r, &other, &mut out);
     }
     if n <= 20 && r.one_in(4) {
-        let broken = Case { record: changed_record(r, &own.record), ..own };
+        let broken = Case { record: changed_record(r, &own.record), ..own.clone() };
         readers(r, &broken, &mut out);
+    }
+    if n <= 20 && r.one_in(4) {
+        let mismarked = Case { record: mismarked_record(r, n), a: numbers(r, n * n), ..own };
+        readers(r, &mismarked, &mut out);
     }
     out
 }
@@ -101,24 +105,41 @@ pub fn many_columns() -> Vec<Case> {
     out
 }
 
-/// A record that keeps the rule, whatever the factor would have written.
-fn sound_record(r: &mut Rng, n: usize) -> Vec<u32> {
+/// The pairs of a record that keep the rule, whatever the factor would have written.
+fn sound_pairs(r: &mut Rng, n: usize) -> Vec<u32> {
     let mut out = vec![];
-    let mut ones = vec![];
     let mut k = 0;
     while k < n {
         let size = if k + 1 < n && r.one_in(2) { 2 } else { 1 };
         let last = k + size - 1;
-        let index = last + r.below(n - last);
-        if size == 1 {
-            ones.push(k as u32 + 1);
-        }
+        let index = if r.one_in(2) { last } else { last + r.below(n - last) };
         for _ in 0..size {
             out.extend([index as u32, size as u32]);
         }
         k += size;
     }
-    out.push(if !ones.is_empty() && r.one_in(4) { r.pick(&ones) } else { 0 });
+    out
+}
+
+/// Which marks name a row of size 1: those whose index is that row, and the others.
+fn marks(pairs: &[u32]) -> (Vec<u32>, Vec<u32>) {
+    let ones = (0..pairs.len() as u32 / 2).filter(|&k| pairs[2 * k as usize + 1] == 1);
+    ones.map(|k| k + 1).partition(|&mark| pairs[2 * mark as usize - 2] == mark - 1)
+}
+
+/// A record that keeps the rule.
+fn sound_record(r: &mut Rng, n: usize) -> Vec<u32> {
+    let mut out = sound_pairs(r, n);
+    let (own, _) = marks(&out);
+    out.push(if !own.is_empty() && r.one_in(4) { r.pick(&own) } else { 0 });
+    out
+}
+
+/// A record whose pairs keep the rule and whose mark names a row of size 1 with another index, or no row where there is none.
+fn mismarked_record(r: &mut Rng, n: usize) -> Vec<u32> {
+    let mut out = sound_pairs(r, n);
+    let (_, others) = marks(&out);
+    out.push(if others.is_empty() { n as u32 + 1 } else { r.pick(&others) });
     out
 }
 

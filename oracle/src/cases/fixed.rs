@@ -131,6 +131,7 @@ pub fn refusals() -> Vec<Case> {
     }
     out.retain(fits);
     records(&mut out);
+    out.extend(marks());
     out
 }
 
@@ -237,18 +238,37 @@ fn fits(case: &Case) -> bool {
     (only.x, only.y, only.size()) == (case.x, case.y, case.size())
 }
 
-/// All records of orders 1 and 2 over a few words, in a call that checks them.
+/// All records of orders 1 and 2 over a few words, in each call that checks them.
 fn records(out: &mut Vec<Case>) {
     let words = [0, 1, 2, 3, u32::MAX];
     for n in 1..=2usize {
         let len = 2 * n + 1;
         for t in 0..words.len().pow(len as u32) {
-            let record: Vec<u32> = (0..len).map(|at| words[t / words.len().pow(at as u32) % words.len()]).collect();
-            let base = Case { record, ..Case::new(Call::LbltSolve, n, (1..=n * n).map(|x| x as f64).collect()) };
-            out.push(Case { x: 1, b: filled(n), ..base.clone() });
-            out.push(Case { call: Call::LbltDeterminant, ..base.clone() });
-            out.push(Case { call: Call::LbltD, b: filled(n * n), ..base.clone() });
-            out.push(Case { call: Call::LbltLPermuted, b: filled(n * n), ..base });
+            out.extend(readers(n, (0..len).map(|at| words[t / words.len().pow(at as u32) % words.len()]).collect()));
         }
     }
+}
+
+/// All records of order 3 whose pairs keep the rule, with every mark up to one above the order, in each call that checks them.
+pub fn marks() -> impl Iterator<Item = Case> {
+    pairs_from(0, 3).into_iter().flat_map(|pairs| (0..5).flat_map(move |mark| readers(3, [&pairs[..], &[mark]].concat())))
+}
+
+/// The pairs of the rows from k on, as far as they keep the rule.
+fn pairs_from(k: usize, n: usize) -> Vec<Vec<u32>> {
+    let mut out = if k == n { vec![vec![]] } else { vec![] };
+    for size in 1..=2usize {
+        for index in k + size - 1..n {
+            let block = [index as u32, size as u32].repeat(size);
+            out.extend(pairs_from(k + size, n).into_iter().map(|rest| [&block[..], &rest].concat()));
+        }
+    }
+    out
+}
+
+/// The calls that read a record.
+fn readers(n: usize, record: Vec<u32>) -> [Case; 4] {
+    let base = Case { record, ..Case::new(Call::LbltDeterminant, n, (1..=n * n).map(|x| x as f64).collect()) };
+    let filler = |call| Case { call, b: filled(n * n), ..base.clone() };
+    [Case { call: Call::LbltSolve, x: 1, b: filled(n), ..base.clone() }, filler(Call::LbltD), filler(Call::LbltLPermuted), base]
 }
