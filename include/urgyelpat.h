@@ -96,8 +96,9 @@ typedef struct urgyelpat_determined {
  * The pivot record has 2n + 1 words: for each row the index and the size (1 or 2) of its pivot, then the mark, 0 or marked
  * row + 1. A factor call writes it, and the calls that read the factor check its rule. Block by block from row 0 on: a block
  * of size 1 at row k has an index in k..n-1; one of size 2 needs k + 1 < n, an index in k+1..n-1 and the same pair at k + 1.
- * The mark is 0, or names a row of size 1. A record that breaks the rule is refused by 5. One that keeps it, though damaged or
- * of another matrix, is not noticed: keep a factor and its record together.
+ * The mark is 0, or names a row of size 1 whose index is that row: where there is no pivot, nothing is exchanged. A record that
+ * breaks the rule is refused by 5, at its first row that does, or at n if its mark alone does. One that keeps it, though damaged
+ * or of another matrix, is not noticed: keep a factor and its record together.
  *
  * The rows of the factor are not in the order in which they came: for a block of size s from row k on, the row that the index
  * names was exchanged with row k + s - 1. */

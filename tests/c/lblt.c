@@ -243,8 +243,14 @@ static void broken_records(void)
     readers_refused("a mark above the order", 3, a, WORDS(0, 1, 1, 1, 2, 1, 4), ANSWER(5, 3));
     readers_refused("the largest mark", 3, a, WORDS(0, 1, 1, 1, 2, 1, largest), ANSWER(5, 3));
     readers_refused("a mark on a block of two", 3, a, WORDS(1, 2, 1, 2, 2, 1, 1), ANSWER(5, 3));
-    readers_refused("a mark on the second row of a block", 3, a, WORDS(1, 2, 1, 2, 2, 1, 2), ANSWER(5, 3));
+    readers_refused("a mark on row 1 of index 1, in a block", 3, a, WORDS(1, 2, 1, 2, 2, 1, 2), ANSWER(5, 3));
+    readers_refused("a mark on row 1 of index 2, in a block", 3, a, WORDS(2, 2, 2, 2, 2, 1, 2), ANSWER(5, 3));
+    readers_refused("a mark on row 0 of index 1", 3, a, WORDS(1, 1, 1, 1, 2, 1, 1), ANSWER(5, 3));
+    readers_refused("a mark on row 0 of index 2", 3, a, WORDS(2, 1, 1, 1, 2, 1, 1), ANSWER(5, 3));
+    readers_refused("a mark on row 0 of index 1, before a block", 3, a, WORDS(1, 1, 2, 2, 2, 2, 1), ANSWER(5, 3));
+    readers_refused("a mark on row 1 of index 2", 3, a, WORDS(0, 1, 2, 1, 2, 1, 2), ANSWER(5, 3));
     readers_refused("a row before a mark", 3, a, WORDS(0, 1, 1, 1, 2, 0, 9), ANSWER(5, 2));
+    readers_refused("a row before a mark on row 0 of index 1", 3, a, WORDS(1, 1, 1, 1, 1, 1, 1), ANSWER(5, 2));
     solve_refused("order 0: a mark", 0, 0, NO_NUMBERS, WORDS(1), NO_NUMBERS, ANSWER(5, 0));
     determinant("order 0: a mark", 0, NO_NUMBERS, WORDS(1), ANSWER(5, 0), 0.0);
 }
@@ -273,7 +279,7 @@ static void readers_refused_by_size(void)
     l_permuted("a filled matrix one short", 3, a, broken, column, ANSWER(4, 0), column);
     l_permuted("no filled matrix", 3, a, sound, NO_NUMBERS, ANSWER(4, 0), NO_NUMBERS);
     solve_refused("a mark at row 0", 3, 1, a, WORDS(0, 1, 1, 1, 2, 1, 1), column, ANSWER(6, 0));
-    solve_refused("a mark at row 1", 3, 1, a, WORDS(0, 1, 2, 1, 2, 1, 2), column, ANSWER(6, 1));
+    solve_refused("a mark at row 1", 3, 1, a, WORDS(2, 1, 1, 1, 2, 1, 2), column, ANSWER(6, 1));
     solve_refused("a mark at row 2", 3, 3, a, WORDS(1, 2, 1, 2, 2, 1, 3), nine, ANSWER(6, 2));
     solve_refused("a mark and no columns", 3, 0, a, WORDS(1, 2, 1, 2, 2, 1, 3), NO_NUMBERS, ANSWER(6, 2));
 }
@@ -296,6 +302,11 @@ static void largest_order(void)
     solve_refused("order 1024: a mark at row 0", 1024, 1, a, left, column, ANSWER(6, 0));
     all_marked[2048] = 1024;
     solve_refused("order 1024: a mark at row 1023", 1024, 1, a, left, column, ANSWER(6, 1023));
+    all_marked[2048] = 1023;
+    solve_refused("order 1024: a mark at row 1022", 1024, 1, a, left, column, ANSWER(6, 1022));
+    all_marked[2 * 1022] = 1023;
+    solve_refused("order 1024: a mark at row 1022 of index 1023", 1024, 1, a, left, column, ANSWER(5, 1024));
+    all_marked[2 * 1022] = 1022;
     all_marked[2048] = 1025;
     solve_refused("order 1024: a mark above the order", 1024, 1, a, left, column, ANSWER(5, 1024));
     all_marked[2047] = 2;

@@ -3,9 +3,9 @@
 //! The pivot record of a factor of order n has 2n + 1 words: the index and the size (1 or 2) of each row's pivot, then the
 //! mark, 0 or marked row + 1. [`factor`] writes it, and the calls that read the factor check its rule. Block by block from row
 //! 0 on: a block of size 1 at row k has an index in k..n; one of size 2 needs k + 1 < n, an index in k + 1..n and the same pair
-//! at k + 1. The mark is 0, or names a row of size 1. A record that breaks the rule is refused by
-//! [`BadRecord`](Refusal::BadRecord). One that keeps it, though damaged or of another matrix, is not noticed: keep a factor and
-//! its record together, as [`LBLT`] does.
+//! at k + 1. The mark is 0, or names a row of size 1 whose index is that row: where there is no pivot, nothing is exchanged.
+//! A record that breaks the rule is refused by [`BadRecord`](Refusal::BadRecord). One that keeps it, though damaged or of
+//! another matrix, is not noticed: keep a factor and its record together, as [`LBLT`] does.
 //!
 //! The rows of the factor are not in the order in which they came: [`callers_row`] gives the way back.
 

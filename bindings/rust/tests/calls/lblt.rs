@@ -1,5 +1,5 @@
 use crate::numbers::{apart, bits, product, transposed, Numbers};
-use urgyelpat::{Refusal, LARGEST, LBLT};
+use urgyelpat::{lblt, Refusal, LARGEST, LBLT};
 
 #[test]
 fn a_block_of_two_stands_in_the_record() {
@@ -28,6 +28,25 @@ fn a_mark_leads_back_to_the_callers_row() {
     assert_eq!(factor.record(), [1, 1, 1, 1, 2]);
     assert_eq!(factor.zero_pivot(), Some(1));
     assert_eq!([0, 1].map(|row| factor.callers_row(row)), [1, 0]);
+}
+
+/// A record changed by hand: the factor never marks a row with another index.
+#[test]
+fn a_mark_on_a_row_with_another_index_is_refused_by_every_reader() {
+    let a = [4.0, 0.25, 7.0, -0.25];
+    let changed = [1, 1, 1, 1, 1];
+    let refused = Refusal::BadRecord { row: 2 };
+    let mut lent = [3.0, 5.0, 7.0, 9.0];
+    assert_eq!(lblt::solve_mut(&a, &changed, &mut lent, 2, 2), Err(refused));
+    assert_eq!(lblt::determinant(&a, &changed, 2), Err(refused));
+    assert_eq!(lblt::d(&a, &changed, &mut lent, 2), Err(refused));
+    assert_eq!(lblt::l_permuted(&a, &changed, &mut lent, 2), Err(refused));
+    assert_eq!(lent, [3.0, 5.0, 7.0, 9.0]);
+
+    let on_its_own_row = [1, 1, 1, 1, 2];
+    let marked = lblt::solve_mut(&a, &on_its_own_row, &mut lent, 2, 2);
+    assert_eq!(marked, Err(Refusal::ZeroMark { row: 1 }));
+    assert_eq!(lblt::determinant(&a, &on_its_own_row, 2), Ok(-1.0));
 }
 
 #[test]
