@@ -30,7 +30,8 @@ table =
     ∷ (lbltSolve 2 (bits.zero ∷ bits.nan ∷ stray ∷ bits.five ∷ []) (bits.one ∷ bits.two ∷ []) ⇒ refused 6 0 ∷ (bits.one ∷ bits.two ∷ []) ∷ [])
     -- [NaN]: mark row 0
     ∷ (lbltFactor 1 (bits.nan ∷ []) ⇒ done ∷ (0 ∷ 1 ∷ 1 ∷ []) ∷ (bits.nan ∷ []) ∷ [])
-    -- a mark on a row of size 1 whose index is another, or in a block of two: code 5 at n from every reader; on a row of size 1 whose index it is: solve alone refuses
+    -- a mark on a row of size 1 whose index is another, or on a row of a block of two: code 5 at n from every reader.
+    -- On a row of size 1 whose index is that row: solve alone refuses, by code 6
     ∷ (lbltReaders 2 (1 ∷ 1 ∷ 1 ∷ 1 ∷ 1 ∷ []) ⇒ refused 5 2 ∷ refused 5 2 ∷ refused 5 2 ∷ refused 5 2 ∷ [])
     ∷ (lbltReaders 3 (0 ∷ 1 ∷ 2 ∷ 1 ∷ 2 ∷ 1 ∷ 2 ∷ []) ⇒ refused 5 3 ∷ refused 5 3 ∷ refused 5 3 ∷ refused 5 3 ∷ [])
     ∷ (lbltReaders 2 (1 ∷ 2 ∷ 1 ∷ 2 ∷ 2 ∷ []) ⇒ refused 5 2 ∷ refused 5 2 ∷ refused 5 2 ∷ refused 5 2 ∷ [])

@@ -4,7 +4,7 @@
 --     is-one, is-two               the block that starts at k, by its size
 --     boundary-one, boundary-two   the boundary after it
 --     last-one, last-two           the block that ends before k, by the size at k − 1, and the boundary where it starts
---     mark-row                     what a mark names
+--     Marks, mark-row              what a mark names
 use mathlib.Core.Bool.{Bool, true, false, _&&_, _||_}
 use mathlib.Core.List.{List}
 use mathlib.Core.Logic.{⊎-elim}

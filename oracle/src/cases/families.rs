@@ -121,8 +121,8 @@ fn sound_pairs(r: &mut Rng, n: usize) -> Vec<u32> {
     out
 }
 
-/// Which marks name a row of size 1: those whose index is that row, and the others.
-fn marks(pairs: &[u32]) -> (Vec<u32>, Vec<u32>) {
+/// The marks that name a row of size 1: where its index is that row, and where it is another.
+fn marks_on_ones(pairs: &[u32]) -> (Vec<u32>, Vec<u32>) {
     let ones = (0..pairs.len() as u32 / 2).filter(|&k| pairs[2 * k as usize + 1] == 1);
     ones.map(|k| k + 1).partition(|&mark| pairs[2 * mark as usize - 2] == mark - 1)
 }
@@ -130,7 +130,7 @@ fn marks(pairs: &[u32]) -> (Vec<u32>, Vec<u32>) {
 /// A record that keeps the rule.
 fn sound_record(r: &mut Rng, n: usize) -> Vec<u32> {
     let mut out = sound_pairs(r, n);
-    let (own, _) = marks(&out);
+    let (own, _) = marks_on_ones(&out);
     out.push(if !own.is_empty() && r.one_in(4) { r.pick(&own) } else { 0 });
     out
 }
@@ -138,7 +138,7 @@ fn sound_record(r: &mut Rng, n: usize) -> Vec<u32> {
 /// A record whose pairs keep the rule and whose mark names a row of size 1 with another index, or no row where there is none.
 fn mismarked_record(r: &mut Rng, n: usize) -> Vec<u32> {
     let mut out = sound_pairs(r, n);
-    let (_, others) = marks(&out);
+    let (_, others) = marks_on_ones(&out);
     out.push(if others.is_empty() { n as u32 + 1 } else { r.pick(&others) });
     out
 }

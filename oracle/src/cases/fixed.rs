@@ -254,7 +254,7 @@ pub fn marks() -> impl Iterator<Item = Case> {
     pairs_from(0, 3).into_iter().flat_map(|pairs| (0..5).flat_map(move |mark| readers(3, [&pairs[..], &[mark]].concat())))
 }
 
-/// The pairs of the rows from k on, as far as they keep the rule.
+/// All pairs of the rows from k on that keep the rule.
 fn pairs_from(k: usize, n: usize) -> Vec<Vec<u32>> {
     let mut out = if k == n { vec![vec![]] } else { vec![] };
     for size in 1..=2usize {
