@@ -1,5 +1,6 @@
 -- What the tests of a reader answer, and what they tell where it goes on.
 --     record-short … columns-many      a law for each way out
+--     sides-refused, sides-passed      the record after the tests of a slice of columns
 --     read-done, columns-done          what is known where all tests hold
 use mathlib.Core.Bool.{true, false}
 use mathlib.Core.List.{List, [], _∷_, _++_}
@@ -14,14 +15,14 @@ use Rattle.answer.specs.declared.Answer.{Answer}
 use Rattle.answer.specs.declared.Answer.the-variants.{Done, OutOfRange, SliceLength}
 use Rattle.answer.specs.Number.{isDone}
 use Rattle.answer.specs.Refusals.{Test, _otherwise_, tested}
-use Rattle.answer.proofs.Tested.{Refusals, tested-join, tested-fixed, all-hold}
+use Rattle.answer.proofs.Tested.{Refusals, tested-all, tested-join, tested-first, tested-fixed, all-hold}
 use Rattle.matrix.specs.declared.Layout.{Layout}
 use Rattle.matrix.specs.Sizes.{sizeTests, Fits}
 use Rattle.matrix.proofs.Sizes.{sizes-refuse, fits-pass, done-fits, laid-fits}
 use Rattle.pivots.specs.Words.{wordsOf}
 use Rattle.pivots.specs.Rule.{checked, Accepted}
 use Rattle.lblt_solve_one.specs.inner.Engine.{Readable}
-use Rattle.lblt_read.specs.Calls.{wordTests, readerTests, columnTests}
+use Rattle.lblt_read.specs.Calls.{wordTests, readerTests, sideTests, columnTests}
 
 -- a test that holds, and one that fails
 test-holds : (t : Test) (tests : List Test) (r : Answer) → t .holds ≡ true → tested (t ∷ tests) r ≡ tested tests r
@@ -65,29 +66,27 @@ module _ (y : Layout) (a : List Float) {fault : Answer} (sized : fault ≡ teste
     pub factor-right : isDone fault ≡ true → {r : Answer} → r ≡ tested (wordTests (y .order) words) Done → r ≡ tested (readerTests y a words) Done
     factor-right done e = sizes-pass (wordTests (y .order) words) done e
 
-    module _ (columns : ℕ) (few : columns ≤ 1024) (b : List Float) where
-      sides : Test
-      sides = eqb (length b) (y .order * columns) otherwise SliceLength
+  module _ (columns : ℕ) (few : columns ≤ 1024) (b : List Float) where
+    sides : Test
+    sides = eqb (length b) (y .order * columns) otherwise SliceLength
 
-      few-first : {r : Answer} → r ≡ tested (sizeTests y 0 (length a) ++ (sides ∷ wordTests (y .order) words)) Done → r ≡ tested (columnTests y columns a words b) Done
-      unfolding sides
-      few-first e = e ∙ sym (test-holds _ _ _ (le-leb columns 1024 few))
+    few-first : {r : Answer} → r ≡ tested (sizeTests y 0 (length a) ++ (sides ∷ [])) Done → r ≡ tested (sideTests y columns a b) Done
+    unfolding sides
+    few-first e = e ∙ sym (test-holds _ _ _ (le-leb columns 1024 few))
 
-      pub matrix-wrong : isDone fault ≡ false → fault ≡ tested (columnTests y columns a words b) Done
-      matrix-wrong refused = few-first (sizes-fail _ refused)
+    pub matrix-wrong : isDone fault ≡ false → fault ≡ tested (sideTests y columns a b) Done
+    matrix-wrong refused = few-first (sizes-fail _ refused)
 
-      pub sides-wrong : isDone fault ≡ true → (length b ≡ y .order * columns → ⊥) → SliceLength ≡ tested (columnTests y columns a words b) Done
-      unfolding sides
-      sides-wrong done h = few-first (sizes-pass _ done (sym (test-fails _ _ _ (ne-eqb (length b) (y .order * columns) h))))
+    pub sides-wrong : isDone fault ≡ true → (length b ≡ y .order * columns → ⊥) → SliceLength ≡ tested (sideTests y columns a b) Done
+    unfolding sides
+    sides-wrong done h = few-first (sizes-pass _ done (sym (test-fails _ _ _ (ne-eqb (length b) (y .order * columns) h))))
 
-      pub sides-right
-          : isDone fault ≡ true → length b ≡ y .order * columns → {r : Answer} → r ≡ tested (wordTests (y .order) words) Done
-          → r ≡ tested (columnTests y columns a words b) Done
-      unfolding sides
-      sides-right done h e = few-first (sizes-pass _ done (e ∙ sym (test-holds _ _ _ (eq-eqb (length b) (y .order * columns) h))))
+    pub sides-right : isDone fault ≡ true → length b ≡ y .order * columns → Done ≡ tested (sideTests y columns a b) Done
+    unfolding sides
+    sides-right done h = few-first (sizes-pass (sides ∷ []) done (sym (tested-all (sides ∷ []) Done (eq-eqb (length b) (y .order * columns) h, tt))))
 
-pub columns-many : (y : Layout) (columns : ℕ) (a : List Float) (words : List ℕ) (b : List Float) → 1024 < columns → OutOfRange ≡ tested (columnTests y columns a words b) Done
-columns-many y columns a words b h = sym (test-fails _ _ _ (lt-leb columns 1024 h))
+pub columns-many : (y : Layout) (columns : ℕ) (a b : List Float) → 1024 < columns → OutOfRange ≡ tested (sideTests y columns a b) Done
+columns-many y columns a b h = sym (test-fails _ _ _ (lt-leb columns 1024 h))
 
 -- ---- what is known where all tests hold
 
@@ -97,18 +96,32 @@ words-accepted n words small done =
     let h = all-hold ((eqb (length words) (wordsOf n) otherwise SliceLength) ∷ []) (checked n words) (refl, tt) done in
     record { sized = record { order = small; total = eqb-true (length words) (wordsOf n) (h .0 .0) }; done = h .1 }
 
-sizes-then : (y : Layout) (a : List Float) (more : List Test) → isDone (tested (sizeTests y 0 (length a) ++ more) Done) ≡ true → Fits y 0 (length a) × (isDone (tested more Done) ≡ true)
-sizes-then y a more done =
-    let joined = ap isDone (sym (tested-join (sizeTests y 0 (length a)) more Done)) ∙ done in
-    (done-fits y 0 (length a) (tested more Done) joined, all-hold (sizeTests y 0 (length a)) (tested more Done) (sizes-refuse y 0 (length a)) joined .1)
+sizes-then : (y : Layout) (a : List Float) (more : List Test) (r : Answer) → isDone (tested (sizeTests y 0 (length a) ++ more) r) ≡ true → Fits y 0 (length a) × (isDone (tested more r) ≡ true)
+sizes-then y a more r done =
+    let joined = ap isDone (sym (tested-join (sizeTests y 0 (length a)) more r)) ∙ done in
+    (done-fits y 0 (length a) (tested more r) joined, all-hold (sizeTests y 0 (length a)) (tested more r) (sizes-refuse y 0 (length a)) joined .1)
 
 small-order : {y : Layout} {len : ℕ} → Fits y 0 len → y .order ≤ 1024
 small-order f = omega (arith, f .roomy .ordered, f .roomy .small)
 
 pub read-done : (y : Layout) (a : List Float) (words : List ℕ) → isDone (tested (readerTests y a words) Done) ≡ true → Readable y a words
 read-done y a words done =
-    let h = sizes-then y a (wordTests (y .order) words) done in
+    let h = sizes-then y a (wordTests (y .order) words) Done done in
     record { factor = laid-fits (h .0); accepted = words-accepted (y .order) words (small-order (h .0)) (h .1) }
+
+record Sided (y : Layout) (columns : ℕ) (a b : List Float) : Type 0 where
+  pub few : columns ≤ 1024
+  pub fits : Fits y 0 (length a)
+  pub long : length b ≡ y .order * columns
+
+sides-then : (y : Layout) (columns : ℕ) (a b : List Float) (r : Answer) → isDone (tested (sideTests y columns a b) r) ≡ true → Sided y columns a b × (isDone r ≡ true)
+unfolding tested
+sides-then y columns a b r done =
+    let side : List Test = (eqb (length b) (y .order * columns) otherwise SliceLength) ∷ [] in
+    let first = all-hold ((leb columns 1024 otherwise OutOfRange) ∷ []) (tested (sizeTests y 0 (length a) ++ side) r) (refl, tt) done in
+    let sizes = sizes-then y a side r (first .1) in
+    let last = all-hold side r (refl, tt) (sizes .1) in
+    (record { few = leb-true columns 1024 (first .0 .0); fits = sizes .0; long = eqb-true (length b) (y .order * columns) (last .0 .0) }, last .1)
 
 pub record Columned (y : Layout) (columns : ℕ) (a : List Float) (words : List ℕ) (b : List Float) : Type 0 where
   pub few : columns ≤ 1024
@@ -119,21 +132,36 @@ pub columns-done
     : (y : Layout) (columns : ℕ) (a : List Float) (words : List ℕ) (b : List Float)
     → isDone (tested (columnTests y columns a words b) Done) ≡ true
     → Columned y columns a words b
-unfolding tested
 columns-done y columns a words b done =
-    let rest : List Test = (eqb (length b) (y .order * columns) otherwise SliceLength) ∷ wordTests (y .order) words in
-    let first = all-hold ((leb columns 1024 otherwise OutOfRange) ∷ []) (tested (sizeTests y 0 (length a) ++ rest) Done) (refl, tt) done in
-    let sizes = sizes-then y a rest (first .1) in
-    let side = all-hold ((eqb (length b) (y .order * columns) otherwise SliceLength) ∷ []) (tested (wordTests (y .order) words) Done) (refl, tt) (sizes .1) in
+    let after = tested (wordTests (y .order) words) Done in
+    let h = sides-then y columns a b after (ap isDone (sym (tested-join (sideTests y columns a b) (wordTests (y .order) words) Done)) ∙ done) in
     record {
-      few = leb-true columns 1024 (first .0 .0);
-      readable = record { factor = laid-fits (sizes .0); accepted = words-accepted (y .order) words (small-order (sizes .0)) (side .1) };
-      long = eqb-true (length b) (y .order * columns) (side .0 .0);
+      few = h .0 .few;
+      readable = record { factor = laid-fits (h .0 .fits); accepted = words-accepted (y .order) words (small-order (h .0 .fits)) (h .1) };
+      long = h .0 .long;
     }
 
 -- no test of a reader answers that all is done
+sides-refuse : (y : Layout) (columns : ℕ) (a b : List Float) → Refusals (sideTests y columns a b)
+sides-refuse y columns a b = (refl, (refl, (refl, (refl, (refl, (refl, (refl, (refl, tt))))))))
+
 pub columns-refuse : (y : Layout) (columns : ℕ) (a : List Float) (words : List ℕ) (b : List Float) → Refusals (columnTests y columns a words b)
 columns-refuse y columns a words b = (refl, (refl, (refl, (refl, (refl, (refl, (refl, (refl, (refl, (refl, (refl, tt)))))))))))
+
+-- ---- the tests of a slice of columns, then the record's
+
+module _ (y : Layout) (columns : ℕ) (a b : List Float) {r : Answer} (sized : r ≡ tested (sideTests y columns a b) Done) where
+  pub sides-small : isDone r ≡ true → y .order ≤ 1024
+  sides-small done = small-order (sides-then y columns a b Done (ap isDone (sym sized) ∙ done) .0 .fits)
+
+  module _ (words : List ℕ) where
+    pub sides-refused : isDone r ≡ false → r ≡ tested (columnTests y columns a words b) Done
+    sides-refused refused = sized ∙ sym (tested-first (sideTests y columns a b) (wordTests (y .order) words) Done (ap isDone (sym sized) ∙ refused))
+
+    pub sides-passed : isDone r ≡ true → {s : Answer} → s ≡ tested (wordTests (y .order) words) Done → s ≡ tested (columnTests y columns a words b) Done
+    sides-passed done e =
+        let all = all-hold (sideTests y columns a b) Done (sides-refuse y columns a b) (ap isDone (sym sized) ∙ done) in
+        e ∙ sym (tested-join (sideTests y columns a b) (wordTests (y .order) words) Done ∙ tested-all (sideTests y columns a b) _ (all .0))
 
 -- and the other way
 pub reads-done : (y : Layout) (a : List Float) (words : List ℕ) → Fits y 0 (length a) → Accepted (y .order) words → isDone (tested (readerTests y a words) Done) ≡ true

@@ -1,7 +1,7 @@
 -- What the readers of an LBLT factor answer and leave behind, refused ones too. a is to be a slice of the layout y, `words` the record of its order;
 -- the calls' layout is `full n`.
 use mathlib.Core.Bool.{cond}
-use mathlib.Core.List.{List, _∷_, _++_}
+use mathlib.Core.List.{List, [], _∷_, _++_}
 use mathlib.Core.Path.{_≡_}
 use Prim.Native.Nat.{ℕ, _*_}
 use lib.Dec.{eqb, leb}
@@ -30,11 +30,15 @@ wordTests n words = (eqb (length words) (wordsOf n) otherwise SliceLength) ∷ r
 abbrev pub readerTests : Layout → List Float → List ℕ → List Test
 readerTests y a words = sizeTests y 0 (length a) ++ wordTests (y .order) words
 
--- the same of a call that has a slice of columns besides
-abbrev pub columnTests : Layout → ℕ → List Float → List ℕ → List Float → List Test
-columnTests y columns a words b =
+-- the factor, and a slice of columns besides
+abbrev pub sideTests : Layout → ℕ → List Float → List Float → List Test
+sideTests y columns a b =
     (leb columns 1024 otherwise OutOfRange)
-    ∷ (sizeTests y 0 (length a) ++ ((eqb (length b) (y .order * columns) otherwise SliceLength) ∷ wordTests (y .order) words))
+    ∷ (sizeTests y 0 (length a) ++ ((eqb (length b) (y .order * columns) otherwise SliceLength) ∷ []))
+
+-- these, then the record
+abbrev pub columnTests : Layout → ℕ → List Float → List ℕ → List Float → List Test
+columnTests y columns a words b = sideTests y columns a b ++ wordTests (y .order) words
 
 pub record LbltDetermined (y : Layout) (a : List Float) (words : List ℕ) (r : Valued) : Type 0 where
   pub answer : r .answer ≡ tested (readerTests y a words) Done

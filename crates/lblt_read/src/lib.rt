@@ -9,7 +9,7 @@ ghost use Rattle.answer.specs.declared.Answer.the-variants.{Done};
 ghost use Rattle.answer.specs.Refusals.{tested};
 ghost use Rattle.matrix.specs.Grid.{load};
 ghost use Rattle.matrix.specs.Layouts.{full, lower};
-ghost use Rattle.lblt_read.specs.Calls.{wordTests, readerTests, columnTests, LbltDetermined, LbltFilled};
+ghost use Rattle.lblt_read.specs.Calls.{wordTests, readerTests, sideTests, LbltDetermined, LbltFilled};
 ghost use Rattle.lblt_read.specs.Diagonal.{dOf};
 ghost use Rattle.lblt_read.specs.Permuted.{lPermutedOf};
 use answer::Answer;
@@ -18,7 +18,8 @@ use matrix::Layout;
 
 // ---- what every reader refuses, in the order of the table
 
-fn check_record(words: &[u32], n: usize) -> Answer
+// The record.
+pub fn check_record(words: &[u32], n: usize) -> Answer
     requires { ⌜ n ≤ 1024 ⌝ }
     ensures { λ r. ⌜ r ≡ tested (wordTests n (now (words .entry))) Done ⌝ }
 {
@@ -28,6 +29,7 @@ fn check_record(words: &[u32], n: usize) -> Answer
     pivots::check(words, n)
 }
 
+// The factor, then the record.
 fn check_factor(y: Layout, a: &[f64], words: &[u32]) -> Answer
     ensures { λ r. ⌜ r ≡ tested (readerTests y (now (a .entry)) (now (words .entry))) Done ⌝ }
 {
@@ -38,9 +40,9 @@ fn check_factor(y: Layout, a: &[f64], words: &[u32]) -> Answer
     check_record(words, y.order)
 }
 
-// The same with a slice b of columns besides.
-pub fn check_columns(y: Layout, columns: usize, a: &[f64], words: &[u32], b: &[f64]) -> Answer
-    ensures { λ r. ⌜ r ≡ tested (columnTests y columns (now (a .entry)) (now (words .entry)) (now (b .entry))) Done ⌝ }
+// The factor, and a slice b of columns besides; the record comes after these.
+pub fn check_sides(y: Layout, columns: usize, a: &[f64], b: &[f64]) -> Answer
+    ensures { λ r. ⌜ r ≡ tested (sideTests y columns (now (a .entry)) (now (b .entry))) Done ⌝ }
 {
     if 1024 < columns {
         return Answer::OutOfRange;
@@ -52,7 +54,7 @@ pub fn check_columns(y: Layout, columns: usize, a: &[f64], words: &[u32], b: &[f
     if b.len() != y.order * columns {
         return Answer::SliceLength;
     }
-    check_record(words, y.order)
+    Answer::Done
 }
 
 // ---- the readers
@@ -74,7 +76,11 @@ pub fn d(a: &[f64], words: &[u32], d: &mut [f64], n: usize) -> Answer
     ensures { λ r. ⌜ LbltFilled (full n) (now (a .entry)) (now (words .entry)) (dOf n (load (lower (full n)) (now (a .entry))) (now (words .entry))) (now (d .entry)) r (now (d .exit)) ⌝ }
 {
     let y = Layout::full(n);
-    let answer = check_columns(y, n, a, words, d);
+    let sizes = check_sides(y, n, a, d);
+    if sizes.code() != 0 {
+        return sizes;
+    }
+    let answer = check_record(words, n);
     if answer.code() != 0 {
         return answer;
     }
@@ -87,7 +93,11 @@ pub fn l_permuted(a: &[f64], words: &[u32], l: &mut [f64], n: usize) -> Answer
     ensures { λ r. ⌜ LbltFilled (full n) (now (a .entry)) (now (words .entry)) (lPermutedOf n (load (lower (full n)) (now (a .entry))) (now (words .entry))) (now (l .entry)) r (now (l .exit)) ⌝ }
 {
     let y = Layout::full(n);
-    let answer = check_columns(y, n, a, words, l);
+    let sizes = check_sides(y, n, a, l);
+    if sizes.code() != 0 {
+        return sizes;
+    }
+    let answer = check_record(words, n);
     if answer.code() != 0 {
         return answer;
     }

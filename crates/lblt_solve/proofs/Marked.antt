@@ -1,4 +1,4 @@
--- What `solve_mut` answers: as `lblt_read::check_columns` where that refuses, then by the mark.
+-- What `solve_mut` answers: as a reader with a slice of columns where that is refused, then by the mark.
 use mathlib.Core.Bool.{true, false}
 use mathlib.Core.List.{List, [], _∷_}
 use mathlib.Core.Path.{_≡_, sym, ap, _∙_}

@@ -13,7 +13,11 @@ use matrix::Layout;
 fn check(y: Layout, columns: usize, a: &[f64], words: &[u32], b: &[f64]) -> Answer
     ensures { λ r. ⌜ r ≡ tested (solveTests y columns (now (a .entry)) (now (words .entry)) (now (b .entry))) Done ⌝ }
 {
-    let answer = lblt_read::check_columns(y, columns, a, words, b);
+    let sizes = lblt_read::check_sides(y, columns, a, b);
+    if sizes.code() != 0 {
+        return sizes;
+    }
+    let answer = lblt_read::check_record(words, y.order);
     if answer.code() != 0 {
         return answer;
     }

@@ -4,61 +4,101 @@ use native.Mathlib.Omega.{arith}
 use Rattle.answer.specs.Number.{isDone}
 use Rattle.answer.proofs.Done.{code-done, code-refused}
 use Rattle.pivots.proofs.Boundaries.{mark-row}
-use Rattle.lblt_read.proofs.Admitted.{columns-done}
+use Rattle.lblt_read.proofs.Admitted.{columns-done, sides-small, sides-refused, sides-passed}
 use Rattle.lblt_solve.proofs.Marked.{solve-refused, solve-done, solve-marked}
 use borrow.Author.Needs.{needs}
 use Rattle.lblt_solve.proofs.check.Statement.{statement}
 use Rattle.lblt_solve.proofs.check.Tie as tie
 
-check-columns-requires : tie.Need-check-columns-requires
-check-columns-requires c κs = search needs
+check-sides-requires : tie.Need-check-sides-requires
+check-sides-requires c κs = search needs
 
 code-requires : tie.Need-code-requires
 code-requires c κs = search needs
 
 returns : tie.Need-returns
 returns c =
-    let given = c .before .before .before .before .before .before in
-    solve-refused (given .args .y) (given .args .columns) (given .args .a .now) (given .args .words .now) (given .args .b .now) (c .before .before .check-columns .ensures) (code-refused (c .before .before .check-columns .result) (c .before .code .ensures) (c .if1 .taken))
+    let args = c .before .before .before .before .before .before .args in
+    let refused = code-refused (c .before .before .check-sides .result) (c .before .code .ensures) (c .if1 .taken) in
+    solve-refused (args .y) (args .columns) (args .a .now) (args .words .now) (args .b .now) (sides-refused (args .y) (args .columns) (args .a .now) (args .b .now) (c .before .before .check-sides .ensures) (args .words .now) refused) refused
 
-mark-requires : tie.Need-mark-requires
-mark-requires c κs =
-    let given = c .before .before .before .before .before .before in
-    let known = columns-done (given .args .y) (given .args .columns) (given .args .a .now) (given .args .words .now) (given .args .b .now) (ap isDone (sym (c .before .before .check-columns .ensures)) ∙ (code-done (c .before .before .check-columns .result) (c .before .code .ensures) (c .if1 .left))) in
-    omega (arith, known .readable .accepted .sized .total)
+check-record-requires : tie.Need-check-record-requires
+check-record-requires c κs =
+    let args = c .before .before .before .before .before .before .args in
+    sides-small (args .y) (args .columns) (args .a .now) (args .b .now) (c .before .before .check-sides .ensures) (code-done (c .before .before .check-sides .result) (c .before .code .ensures) (c .if1 .left))
+
+code-requires-2 : tie.Need-code-requires-2
+code-requires-2 c κs = search needs
 
 returns-2 : tie.Need-returns-2
 returns-2 c =
-    let given = c .before .before .before .before .before .before .before .before in
-    let check-columns = c .before .before .before .before .check-columns in
-    solve-done (given .args .y) (given .args .columns) (given .args .a .now) (given .args .words .now) (given .args .b .now) (check-columns .ensures) (code-done (check-columns .result) (c .before .before .before .code .ensures) (c .before .before .if1 .left)) (c .before .mark .ensures) (c .if2 .taken)
+    let args = c .before .before .before .before .before .before .before .before .before .args in
+    let check-sides = c .before .before .before .before .before .check-sides in
+    let code = c .before .before .before .before .code in
+    let if1 = c .before .before .before .if1 in
+    let read = sides-passed (args .y) (args .columns) (args .a .now) (args .b .now) (check-sides .ensures) (args .words .now) (code-done (check-sides .result) (code .ensures) (if1 .left)) (c .before .before .check-record .ensures) in
+    solve-refused (args .y) (args .columns) (args .a .now) (args .words .now) (args .b .now) read (code-refused (c .before .before .check-record .result) (c .before .code2 .ensures) (c .if2 .taken))
 
-sub-t10 : tie.Need-sub-t10
-sub-t10 c = search needs
-
-cast-t11 : tie.Need-cast-t11
-cast-t11 c =
-    let given = c .before .before .before .before .before .before .before .before in
-    let check-columns = c .before .before .before .before .check-columns in
-    let known = columns-done (given .args .y) (given .args .columns) (given .args .a .now) (given .args .words .now) (given .args .b .now) (ap isDone (sym (check-columns .ensures)) ∙ (code-done (check-columns .result) (c .before .before .before .code .ensures) (c .before .before .if1 .left))) in
-    let marked = mark-row (known .readable .accepted) (λ e. c .if2 .left (c .before .mark .ensures ∙ e)) in
-    omega (arith, known .readable .accepted .sized .order, marked .passed, c .before .mark .ensures)
+mark-requires : tie.Need-mark-requires
+mark-requires c κs =
+    let args = c .before .before .before .before .before .before .before .before .before .args in
+    let check-sides = c .before .before .before .before .before .check-sides in
+    let code = c .before .before .before .before .code in
+    let if1 = c .before .before .before .if1 in
+    let read = sides-passed (args .y) (args .columns) (args .a .now) (args .b .now) (check-sides .ensures) (args .words .now) (code-done (check-sides .result) (code .ensures) (if1 .left)) (c .before .before .check-record .ensures) in
+    let known = columns-done (args .y) (args .columns) (args .a .now) (args .words .now) (args .b .now) (ap isDone (sym read) ∙ code-done (c .before .before .check-record .result) (c .before .code2 .ensures) (c .if2 .left)) in
+    omega (arith, known .readable .accepted .sized .total)
 
 returns-3 : tie.Need-returns-3
 returns-3 c =
-    let given = c .before .before .before .before .before .before .before .before in
-    let check-columns = c .before .before .before .before .check-columns in
-    solve-marked (given .args .y) (given .args .columns) (given .args .a .now) (given .args .words .now) (given .args .b .now) (check-columns .ensures) (code-done (check-columns .result) (c .before .before .before .code .ensures) (c .before .before .if1 .left)) (c .before .mark .ensures) (c .if2 .left)
+    let args = c .before .before .before .before .before .before .before .before .before .before .before .args in
+    let check-sides = c .before .before .before .before .before .before .before .check-sides in
+    let code = c .before .before .before .before .before .before .code in
+    let if1 = c .before .before .before .before .before .if1 in
+    let check-record = c .before .before .before .before .check-record in
+    let code2 = c .before .before .before .code2 in
+    let read = sides-passed (args .y) (args .columns) (args .a .now) (args .b .now) (check-sides .ensures) (args .words .now) (code-done (check-sides .result) (code .ensures) (if1 .left)) (check-record .ensures) in
+    solve-done (args .y) (args .columns) (args .a .now) (args .words .now) (args .b .now) read (code-done (check-record .result) (code2 .ensures) (c .before .before .if2 .left)) (c .before .mark .ensures) (c .if3 .taken)
+
+sub-t11 : tie.Need-sub-t11
+sub-t11 c = search needs
+
+cast-t12 : tie.Need-cast-t12
+cast-t12 c =
+    let args = c .before .before .before .before .before .before .before .before .before .before .before .args in
+    let check-sides = c .before .before .before .before .before .before .before .check-sides in
+    let code = c .before .before .before .before .before .before .code in
+    let if1 = c .before .before .before .before .before .if1 in
+    let check-record = c .before .before .before .before .check-record in
+    let code2 = c .before .before .before .code2 in
+    let read = sides-passed (args .y) (args .columns) (args .a .now) (args .b .now) (check-sides .ensures) (args .words .now) (code-done (check-sides .result) (code .ensures) (if1 .left)) (check-record .ensures) in
+    let known = columns-done (args .y) (args .columns) (args .a .now) (args .words .now) (args .b .now) (ap isDone (sym read) ∙ code-done (check-record .result) (code2 .ensures) (c .before .before .if2 .left)) in
+    let marked = mark-row (known .readable .accepted) (λ e. c .if3 .left (c .before .mark .ensures ∙ e)) in
+    omega (arith, known .readable .accepted .sized .order, marked .passed, c .before .mark .ensures)
+
+returns-4 : tie.Need-returns-4
+returns-4 c =
+    let args = c .before .before .before .before .before .before .before .before .before .before .before .args in
+    let check-sides = c .before .before .before .before .before .before .before .check-sides in
+    let code = c .before .before .before .before .before .before .code in
+    let if1 = c .before .before .before .before .before .if1 in
+    let check-record = c .before .before .before .before .check-record in
+    let code2 = c .before .before .before .code2 in
+    let read = sides-passed (args .y) (args .columns) (args .a .now) (args .b .now) (check-sides .ensures) (args .words .now) (code-done (check-sides .result) (code .ensures) (if1 .left)) (check-record .ensures) in
+    solve-marked (args .y) (args .columns) (args .a .now) (args .words .now) (args .b .now) read (code-done (check-record .result) (code2 .ensures) (c .before .before .if2 .left)) (c .before .mark .ensures) (c .if3 .left)
 
 pub check-spec : {M : Type 1} → statement M
 check-spec =
     tie.close
     (tie.spec
-    check-columns-requires
+    check-sides-requires
     code-requires
     returns
-    mark-requires
+    check-record-requires
+    code-requires-2
     returns-2
-    sub-t10
-    cast-t11
-    returns-3)
+    mark-requires
+    returns-3
+    sub-t11
+    cast-t12
+    returns-4)
