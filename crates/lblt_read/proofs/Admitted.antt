@@ -1,7 +1,7 @@
 -- What the tests of a reader answer, and what they tell where it goes on.
 --     record-short … columns-many      a law for each way out
---     sides-refused, sides-passed      the record after the tests of a slice of columns
 --     read-done, columns-done          what is known where all tests hold
+--     sides-refused, sides-passed      the record after the tests of a slice of columns
 use mathlib.Core.Bool.{true, false}
 use mathlib.Core.List.{List, [], _∷_, _++_}
 use mathlib.Core.Path.{_≡_, refl, sym, ap, _∙_}
