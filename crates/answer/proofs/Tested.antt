@@ -6,6 +6,7 @@
 --   all-hold     done: all tests hold
 --   tested-fixed refused: the answer does not hang on what comes after
 --   tested-first nor on further tests
+--   tested-then  the answer of further tests where the first are passed, else theirs: that of both lists
 -- Assumes nothing.
 use mathlib.Core.Path.{_≡_, refl, sym, _∙_, ap}
 use mathlib.Core.Bool.{Bool, true, false, cond, true≢false}
@@ -15,7 +16,7 @@ use Rattle.answer.specs.declared.Answer.{Answer}
 use Rattle.answer.specs.declared.Answer.the-variants.{Done}
 use Rattle.answer.specs.Number.{isDone}
 use Rattle.answer.specs.Refusals.{Test, tested, Leaving}
-use Rattle.answer.proofs.Done.{done-alike}
+use Rattle.answer.proofs.Done.{done-or-refused, done-alike}
 
 -- all tests hold
 abbrev pub AllHold : List Test → Type 0
@@ -94,6 +95,13 @@ tested-fixed (t ∷ tests) r refused = pick (t .holds) (tested-fixed tests r) re
 
 pub tested-first : (tests more : List Test) (r : Answer) → isDone (tested tests Done) ≡ false → tested (tests ++ more) r ≡ tested tests Done
 tested-first tests more r refused = tested-join tests more r ∙ tested-fixed tests (tested more r) refused
+
+pub tested-then : (tests more : List Test) → Refusals tests → {s r : Answer} → s ≡ tested tests Done → r ≡ cond (isDone s) (tested more Done) s → r ≡ tested (tests ++ more) Done
+tested-then tests more real {s} {r} first then =
+    done-or-refused s
+    (λ (done : isDone s ≡ true).
+    then ∙ rw done (sym (tested-join tests more Done ∙ tested-all tests (tested more Done) (all-hold tests Done real (ap isDone (sym first) ∙ done) .0))))
+    (λ (refused : isDone s ≡ false). then ∙ rw refused (first ∙ sym (tested-first tests more Done (ap isDone (sym first) ∙ refused))))
 
 -- ---- what is left behind
 

@@ -1,8 +1,8 @@
 -- What the tests of a reader answer, and what they tell where it goes on.
 --     record-short … columns-many      a law for each way out
 --     read-done, columns-done          what is known where all tests hold
---     sides-refused, sides-passed      the record after the tests of a slice of columns
-use mathlib.Core.Bool.{true, false}
+--     factor-then, columns-then        the record's answer where the sizes are passed, else theirs: that of all tests
+use mathlib.Core.Bool.{true, false, cond}
 use mathlib.Core.List.{List, [], _∷_, _++_}
 use mathlib.Core.Path.{_≡_, refl, sym, ap, _∙_}
 use Prim.Native.Nat.{ℕ, _*_, _≤_, _<_}
@@ -15,7 +15,7 @@ use Rattle.answer.specs.declared.Answer.{Answer}
 use Rattle.answer.specs.declared.Answer.the-variants.{Done, OutOfRange, SliceLength}
 use Rattle.answer.specs.Number.{isDone}
 use Rattle.answer.specs.Refusals.{Test, _otherwise_, tested}
-use Rattle.answer.proofs.Tested.{Refusals, tested-all, tested-join, tested-first, tested-fixed, all-hold}
+use Rattle.answer.proofs.Tested.{Refusals, tested-all, tested-join, tested-fixed, tested-then, all-hold}
 use Rattle.matrix.specs.declared.Layout.{Layout}
 use Rattle.matrix.specs.Sizes.{sizeTests, Fits}
 use Rattle.matrix.proofs.Sizes.{sizes-refuse, fits-pass, done-fits, laid-fits}
@@ -59,12 +59,8 @@ module _ (y : Layout) (a : List Float) {fault : Answer} (sized : fault ≡ teste
   sizes-pass : (more : List Test) → isDone fault ≡ true → {r : Answer} → r ≡ tested more Done → r ≡ tested (sizeTests y 0 (length a) ++ more) Done
   sizes-pass more done e = e ∙ sym (tested-join (sizeTests y 0 (length a)) more Done ∙ fits-pass y 0 (length a) (sizes-fit done) (tested more Done))
 
-  module _ (words : List ℕ) where
-    pub factor-wrong : isDone fault ≡ false → fault ≡ tested (readerTests y a words) Done
-    factor-wrong refused = sizes-fail (wordTests (y .order) words) refused
-
-    pub factor-right : isDone fault ≡ true → {r : Answer} → r ≡ tested (wordTests (y .order) words) Done → r ≡ tested (readerTests y a words) Done
-    factor-right done e = sizes-pass (wordTests (y .order) words) done e
+  pub factor-then : (words : List ℕ) {r : Answer} → r ≡ cond (isDone fault) (tested (wordTests (y .order) words) Done) fault → r ≡ tested (readerTests y a words) Done
+  factor-then words then = tested-then (sizeTests y 0 (length a)) (wordTests (y .order) words) (sizes-refuse y 0 (length a)) sized then
 
   module _ (columns : ℕ) (few : columns ≤ 1024) (b : List Float) where
     sides : Test
@@ -150,18 +146,12 @@ columns-refuse y columns a words b = (refl, (refl, (refl, (refl, (refl, (refl, (
 
 -- ---- the tests of a slice of columns, then the record's
 
-module _ (y : Layout) (columns : ℕ) (a b : List Float) {r : Answer} (sized : r ≡ tested (sideTests y columns a b) Done) where
-  pub sides-small : isDone r ≡ true → y .order ≤ 1024
+module _ (y : Layout) (columns : ℕ) (a b : List Float) {sizes : Answer} (sized : sizes ≡ tested (sideTests y columns a b) Done) where
+  pub sides-small : isDone sizes ≡ true → y .order ≤ 1024
   sides-small done = small-order (sides-then y columns a b Done (ap isDone (sym sized) ∙ done) .0 .fits)
 
-  module _ (words : List ℕ) where
-    pub sides-refused : isDone r ≡ false → r ≡ tested (columnTests y columns a words b) Done
-    sides-refused refused = sized ∙ sym (tested-first (sideTests y columns a b) (wordTests (y .order) words) Done (ap isDone (sym sized) ∙ refused))
-
-    pub sides-passed : isDone r ≡ true → {s : Answer} → s ≡ tested (wordTests (y .order) words) Done → s ≡ tested (columnTests y columns a words b) Done
-    sides-passed done e =
-        let all = all-hold (sideTests y columns a b) Done (sides-refuse y columns a b) (ap isDone (sym sized) ∙ done) in
-        e ∙ sym (tested-join (sideTests y columns a b) (wordTests (y .order) words) Done ∙ tested-all (sideTests y columns a b) _ (all .0))
+  pub columns-then : (words : List ℕ) {r : Answer} → r ≡ cond (isDone sizes) (tested (wordTests (y .order) words) Done) sizes → r ≡ tested (columnTests y columns a words b) Done
+  columns-then words then = tested-then (sideTests y columns a b) (wordTests (y .order) words) (sides-refuse y columns a b) sized then
 
 -- and the other way
 pub reads-done : (y : Layout) (a : List Float) (words : List ℕ) → Fits y 0 (length a) → Accepted (y .order) words → isDone (tested (readerTests y a words) Done) ≡ true

@@ -3,9 +3,11 @@ mod diagonal;
 mod permuted;
 mod square;
 
+ghost use mathlib.Core.Bool.{true, cond};
 ghost use mathlib.Core.Path.{_≡_};
 ghost use Prim.Native.Nat.{_≤_};
 ghost use Rattle.answer.specs.declared.Answer.the-variants.{Done};
+ghost use Rattle.answer.specs.Number.{isDone};
 ghost use Rattle.answer.specs.Refusals.{tested};
 ghost use Rattle.matrix.specs.Grid.{load};
 ghost use Rattle.matrix.specs.Layouts.{full, lower};
@@ -18,11 +20,14 @@ use matrix::Layout;
 
 // ---- what every reader refuses, in the order of the table
 
-// The record.
-pub fn check_record(words: &[u32], n: usize) -> Answer
-    requires { ⌜ n ≤ 1024 ⌝ }
-    ensures { λ r. ⌜ r ≡ tested (wordTests n (now (words .entry))) Done ⌝ }
+// The record, where the sizes are passed: `sizes` is their answer.
+pub fn check_record(sizes: Answer, words: &[u32], n: usize) -> Answer
+    requires { ⌜ (isDone sizes ≡ true → n ≤ 1024) ⌝ }
+    ensures { λ r. ⌜ r ≡ cond (isDone sizes) (tested (wordTests n (now (words .entry))) Done) sizes ⌝ }
 {
+    if sizes.code() != 0 {
+        return sizes;
+    }
     if words.len() != pivots::words(n) {
         return Answer::SliceLength;
     }
@@ -33,14 +38,11 @@ pub fn check_record(words: &[u32], n: usize) -> Answer
 fn check_factor(y: Layout, a: &[f64], words: &[u32]) -> Answer
     ensures { λ r. ⌜ r ≡ tested (readerTests y (now (a .entry)) (now (words .entry))) Done ⌝ }
 {
-    let fault = y.check(0, a.len());
-    if fault.code() != 0 {
-        return fault;
-    }
-    check_record(words, y.order)
+    let sizes = y.check(0, a.len());
+    check_record(sizes, words, y.order)
 }
 
-// The factor, and a slice b of columns besides; the record comes after these.
+// The sizes of a factor and of a slice b of columns.
 pub fn check_sides(y: Layout, columns: usize, a: &[f64], b: &[f64]) -> Answer
     ensures { λ r. ⌜ r ≡ tested (sideTests y columns (now (a .entry)) (now (b .entry))) Done ⌝ }
 {
@@ -77,10 +79,7 @@ pub fn d(a: &[f64], words: &[u32], d: &mut [f64], n: usize) -> Answer
 {
     let y = Layout::full(n);
     let sizes = check_sides(y, n, a, d);
-    if sizes.code() != 0 {
-        return sizes;
-    }
-    let answer = check_record(words, n);
+    let answer = check_record(sizes, words, n);
     if answer.code() != 0 {
         return answer;
     }
@@ -94,10 +93,7 @@ pub fn l_permuted(a: &[f64], words: &[u32], l: &mut [f64], n: usize) -> Answer
 {
     let y = Layout::full(n);
     let sizes = check_sides(y, n, a, l);
-    if sizes.code() != 0 {
-        return sizes;
-    }
-    let answer = check_record(words, n);
+    let answer = check_record(sizes, words, n);
     if answer.code() != 0 {
         return answer;
     }

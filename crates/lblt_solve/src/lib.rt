@@ -14,10 +14,7 @@ fn check(y: Layout, columns: usize, a: &[f64], words: &[u32], b: &[f64]) -> Answ
     ensures { λ r. ⌜ r ≡ tested (solveTests y columns (now (a .entry)) (now (words .entry)) (now (b .entry))) Done ⌝ }
 {
     let sizes = lblt_read::check_sides(y, columns, a, b);
-    if sizes.code() != 0 {
-        return sizes;
-    }
-    let answer = lblt_read::check_record(words, y.order);
+    let answer = lblt_read::check_record(sizes, words, y.order);
     if answer.code() != 0 {
         return answer;
     }

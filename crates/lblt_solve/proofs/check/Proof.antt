@@ -4,7 +4,7 @@ use native.Mathlib.Omega.{arith}
 use Rattle.answer.specs.Number.{isDone}
 use Rattle.answer.proofs.Done.{code-done, code-refused}
 use Rattle.pivots.proofs.Boundaries.{mark-row}
-use Rattle.lblt_read.proofs.Admitted.{columns-done, sides-small, sides-refused, sides-passed}
+use Rattle.lblt_read.proofs.Admitted.{columns-done, sides-small, columns-then}
 use Rattle.lblt_solve.proofs.Marked.{solve-refused, solve-done, solve-marked}
 use borrow.Author.Needs.{needs}
 use Rattle.lblt_solve.proofs.check.Statement.{statement}
@@ -13,92 +13,68 @@ use Rattle.lblt_solve.proofs.check.Tie as tie
 check-sides-requires : tie.Need-check-sides-requires
 check-sides-requires c κs = search needs
 
+check-record-requires : tie.Need-check-record-requires
+check-record-requires c κs =
+    let args = c .before .before .before .before .args in
+    sides-small (args .y) (args .columns) (args .a .now) (args .b .now) (c .check-sides .ensures)
+
 code-requires : tie.Need-code-requires
 code-requires c κs = search needs
 
 returns : tie.Need-returns
 returns c =
-    let args = c .before .before .before .before .before .before .args in
-    let refused = code-refused (c .before .before .check-sides .result) (c .before .code .ensures) (c .if1 .taken) in
-    solve-refused (args .y) (args .columns) (args .a .now) (args .words .now) (args .b .now) (sides-refused (args .y) (args .columns) (args .a .now) (args .b .now) (c .before .before .check-sides .ensures) (args .words .now) refused) refused
+    let args = c .before .before .before .before .before .before .before .args in
+    let check-sides = c .before .before .before .check-sides in
+    solve-refused (args .y) (args .columns) (args .a .now) (args .words .now) (args .b .now) (columns-then (args .y) (args .columns) (args .a .now) (args .b .now) (check-sides .ensures) (args .words .now) (c .before .before .check-record .ensures)) (code-refused (c .before .before .check-record .result) (c .before .code .ensures) (c .if1 .taken))
 
-check-record-requires : tie.Need-check-record-requires
-check-record-requires c κs =
-    let args = c .before .before .before .before .before .before .args in
-    sides-small (args .y) (args .columns) (args .a .now) (args .b .now) (c .before .before .check-sides .ensures) (code-done (c .before .before .check-sides .result) (c .before .code .ensures) (c .if1 .left))
-
-code-requires-2 : tie.Need-code-requires-2
-code-requires-2 c κs = search needs
+mark-requires : tie.Need-mark-requires
+mark-requires c κs =
+    let args = c .before .before .before .before .before .before .before .args in
+    let check-sides = c .before .before .before .check-sides in
+    let read = columns-then (args .y) (args .columns) (args .a .now) (args .b .now) (check-sides .ensures) (args .words .now) (c .before .before .check-record .ensures) in
+    let known = columns-done (args .y) (args .columns) (args .a .now) (args .words .now) (args .b .now) (ap isDone (sym read) ∙ code-done (c .before .before .check-record .result) (c .before .code .ensures) (c .if1 .left)) in
+    omega (arith, known .readable .accepted .sized .total)
 
 returns-2 : tie.Need-returns-2
 returns-2 c =
     let args = c .before .before .before .before .before .before .before .before .before .args in
     let check-sides = c .before .before .before .before .before .check-sides in
-    let code = c .before .before .before .before .code in
-    let if1 = c .before .before .before .if1 in
-    let read = sides-passed (args .y) (args .columns) (args .a .now) (args .b .now) (check-sides .ensures) (args .words .now) (code-done (check-sides .result) (code .ensures) (if1 .left)) (c .before .before .check-record .ensures) in
-    solve-refused (args .y) (args .columns) (args .a .now) (args .words .now) (args .b .now) read (code-refused (c .before .before .check-record .result) (c .before .code2 .ensures) (c .if2 .taken))
-
-mark-requires : tie.Need-mark-requires
-mark-requires c κs =
-    let args = c .before .before .before .before .before .before .before .before .before .args in
-    let check-sides = c .before .before .before .before .before .check-sides in
-    let code = c .before .before .before .before .code in
-    let if1 = c .before .before .before .if1 in
-    let read = sides-passed (args .y) (args .columns) (args .a .now) (args .b .now) (check-sides .ensures) (args .words .now) (code-done (check-sides .result) (code .ensures) (if1 .left)) (c .before .before .check-record .ensures) in
-    let known = columns-done (args .y) (args .columns) (args .a .now) (args .words .now) (args .b .now) (ap isDone (sym read) ∙ code-done (c .before .before .check-record .result) (c .before .code2 .ensures) (c .if2 .left)) in
-    omega (arith, known .readable .accepted .sized .total)
-
-returns-3 : tie.Need-returns-3
-returns-3 c =
-    let args = c .before .before .before .before .before .before .before .before .before .before .before .args in
-    let check-sides = c .before .before .before .before .before .before .before .check-sides in
-    let code = c .before .before .before .before .before .before .code in
-    let if1 = c .before .before .before .before .before .if1 in
     let check-record = c .before .before .before .before .check-record in
-    let code2 = c .before .before .before .code2 in
-    let read = sides-passed (args .y) (args .columns) (args .a .now) (args .b .now) (check-sides .ensures) (args .words .now) (code-done (check-sides .result) (code .ensures) (if1 .left)) (check-record .ensures) in
-    solve-done (args .y) (args .columns) (args .a .now) (args .words .now) (args .b .now) read (code-done (check-record .result) (code2 .ensures) (c .before .before .if2 .left)) (c .before .mark .ensures) (c .if3 .taken)
+    let code = c .before .before .before .code in
+    solve-done (args .y) (args .columns) (args .a .now) (args .words .now) (args .b .now) (columns-then (args .y) (args .columns) (args .a .now) (args .b .now) (check-sides .ensures) (args .words .now) (check-record .ensures)) (code-done (check-record .result) (code .ensures) (c .before .before .if1 .left)) (c .before .mark .ensures) (c .if2 .taken)
 
 sub-t11 : tie.Need-sub-t11
 sub-t11 c = search needs
 
 cast-t12 : tie.Need-cast-t12
 cast-t12 c =
-    let args = c .before .before .before .before .before .before .before .before .before .before .before .args in
-    let check-sides = c .before .before .before .before .before .before .before .check-sides in
-    let code = c .before .before .before .before .before .before .code in
-    let if1 = c .before .before .before .before .before .if1 in
+    let args = c .before .before .before .before .before .before .before .before .before .args in
+    let check-sides = c .before .before .before .before .before .check-sides in
     let check-record = c .before .before .before .before .check-record in
-    let code2 = c .before .before .before .code2 in
-    let read = sides-passed (args .y) (args .columns) (args .a .now) (args .b .now) (check-sides .ensures) (args .words .now) (code-done (check-sides .result) (code .ensures) (if1 .left)) (check-record .ensures) in
-    let known = columns-done (args .y) (args .columns) (args .a .now) (args .words .now) (args .b .now) (ap isDone (sym read) ∙ code-done (check-record .result) (code2 .ensures) (c .before .before .if2 .left)) in
-    let marked = mark-row (known .readable .accepted) (λ e. c .if3 .left (c .before .mark .ensures ∙ e)) in
+    let code = c .before .before .before .code in
+    let read = columns-then (args .y) (args .columns) (args .a .now) (args .b .now) (check-sides .ensures) (args .words .now) (check-record .ensures) in
+    let known = columns-done (args .y) (args .columns) (args .a .now) (args .words .now) (args .b .now) (ap isDone (sym read) ∙ code-done (check-record .result) (code .ensures) (c .before .before .if1 .left)) in
+    let marked = mark-row (known .readable .accepted) (λ e. c .if2 .left (c .before .mark .ensures ∙ e)) in
     omega (arith, known .readable .accepted .sized .order, marked .passed, c .before .mark .ensures)
 
-returns-4 : tie.Need-returns-4
-returns-4 c =
-    let args = c .before .before .before .before .before .before .before .before .before .before .before .args in
-    let check-sides = c .before .before .before .before .before .before .before .check-sides in
-    let code = c .before .before .before .before .before .before .code in
-    let if1 = c .before .before .before .before .before .if1 in
+returns-3 : tie.Need-returns-3
+returns-3 c =
+    let args = c .before .before .before .before .before .before .before .before .before .args in
+    let check-sides = c .before .before .before .before .before .check-sides in
     let check-record = c .before .before .before .before .check-record in
-    let code2 = c .before .before .before .code2 in
-    let read = sides-passed (args .y) (args .columns) (args .a .now) (args .b .now) (check-sides .ensures) (args .words .now) (code-done (check-sides .result) (code .ensures) (if1 .left)) (check-record .ensures) in
-    solve-marked (args .y) (args .columns) (args .a .now) (args .words .now) (args .b .now) read (code-done (check-record .result) (code2 .ensures) (c .before .before .if2 .left)) (c .before .mark .ensures) (c .if3 .left)
+    let code = c .before .before .before .code in
+    solve-marked (args .y) (args .columns) (args .a .now) (args .words .now) (args .b .now) (columns-then (args .y) (args .columns) (args .a .now) (args .b .now) (check-sides .ensures) (args .words .now) (check-record .ensures)) (code-done (check-record .result) (code .ensures) (c .before .before .if1 .left)) (c .before .mark .ensures) (c .if2 .left)
 
 pub check-spec : {M : Type 1} → statement M
 check-spec =
     tie.close
     (tie.spec
     check-sides-requires
+    check-record-requires
     code-requires
     returns
-    check-record-requires
-    code-requires-2
-    returns-2
     mark-requires
-    returns-3
+    returns-2
     sub-t11
     cast-t12
-    returns-4)
+    returns-3)
