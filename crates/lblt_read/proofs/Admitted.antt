@@ -1,7 +1,7 @@
 -- What the tests of a reader answer, and what they tell where it goes on.
 --     record-short … columns-many      a law for each way out
 --     read-done, columns-done          what is known where all tests hold
---     factor-then, columns-then        the record's answer where the sizes are passed, else theirs: that of all tests
+--     factor-answers, columns-answers  the record's answer where the sizes are passed, else theirs: that of all tests
 use mathlib.Core.Bool.{true, false, cond}
 use mathlib.Core.List.{List, [], _∷_, _++_}
 use mathlib.Core.Path.{_≡_, refl, sym, ap, _∙_}
@@ -59,8 +59,8 @@ module _ (y : Layout) (a : List Float) {fault : Answer} (sized : fault ≡ teste
   sizes-pass : (more : List Test) → isDone fault ≡ true → {r : Answer} → r ≡ tested more Done → r ≡ tested (sizeTests y 0 (length a) ++ more) Done
   sizes-pass more done e = e ∙ sym (tested-join (sizeTests y 0 (length a)) more Done ∙ fits-pass y 0 (length a) (sizes-fit done) (tested more Done))
 
-  pub factor-then : (words : List ℕ) {r : Answer} → r ≡ cond (isDone fault) (tested (wordTests (y .order) words) Done) fault → r ≡ tested (readerTests y a words) Done
-  factor-then words then = tested-then (sizeTests y 0 (length a)) (wordTests (y .order) words) (sizes-refuse y 0 (length a)) sized then
+  pub factor-answers : (words : List ℕ) {r : Answer} → r ≡ cond (isDone fault) (tested (wordTests (y .order) words) Done) fault → r ≡ tested (readerTests y a words) Done
+  factor-answers words then = tested-then (sizeTests y 0 (length a)) (wordTests (y .order) words) (sizes-refuse y 0 (length a)) sized then
 
   module _ (columns : ℕ) (few : columns ≤ 1024) (b : List Float) where
     sides : Test
@@ -144,16 +144,7 @@ sides-refuse y columns a b = (refl, (refl, (refl, (refl, (refl, (refl, (refl, (r
 pub columns-refuse : (y : Layout) (columns : ℕ) (a : List Float) (words : List ℕ) (b : List Float) → Refusals (columnTests y columns a words b)
 columns-refuse y columns a words b = (refl, (refl, (refl, (refl, (refl, (refl, (refl, (refl, (refl, (refl, (refl, tt)))))))))))
 
--- ---- the tests of a slice of columns, then the record's
-
-module _ (y : Layout) (columns : ℕ) (a b : List Float) {sizes : Answer} (sized : sizes ≡ tested (sideTests y columns a b) Done) where
-  pub sides-small : isDone sizes ≡ true → y .order ≤ 1024
-  sides-small done = small-order (sides-then y columns a b Done (ap isDone (sym sized) ∙ done) .0 .fits)
-
-  pub columns-then : (words : List ℕ) {r : Answer} → r ≡ cond (isDone sizes) (tested (wordTests (y .order) words) Done) sizes → r ≡ tested (columnTests y columns a words b) Done
-  columns-then words then = tested-then (sideTests y columns a b) (wordTests (y .order) words) (sides-refuse y columns a b) sized then
-
--- and the other way
+-- where the sizes fit and the record is accepted, all tests hold
 pub reads-done : (y : Layout) (a : List Float) (words : List ℕ) → Fits y 0 (length a) → Accepted (y .order) words → isDone (tested (readerTests y a words) Done) ≡ true
 reads-done y a words fits accepted =
     ap isDone
@@ -161,3 +152,12 @@ reads-done y a words fits accepted =
     ∙ fits-pass y 0 (length a) fits (tested (wordTests (y .order) words) Done)
     ∙ sym (record-long (y .order) words (accepted .sized .total)))
     ∙ accepted .done
+
+-- ---- the tests of a slice of columns, then the record's
+
+module _ (y : Layout) (columns : ℕ) (a b : List Float) {sizes : Answer} (sized : sizes ≡ tested (sideTests y columns a b) Done) where
+  pub sides-small : isDone sizes ≡ true → y .order ≤ 1024
+  sides-small done = small-order (sides-then y columns a b Done (ap isDone (sym sized) ∙ done) .0 .fits)
+
+  pub columns-answers : (words : List ℕ) {r : Answer} → r ≡ cond (isDone sizes) (tested (wordTests (y .order) words) Done) sizes → r ≡ tested (columnTests y columns a words b) Done
+  columns-answers words then = tested-then (sideTests y columns a b) (wordTests (y .order) words) (sides-refuse y columns a b) sized then
