@@ -71,7 +71,7 @@ Gives (lbltDeterminant n a) numbers =
 Gives (lbltSolve n a b) numbers =
     (r s : Answer) (a' b' : List Float) (words : List ℕ) → Factored (full n) (floats a) (lentWords n) r a' words → LbltSolved (full n) 1 a' words (floats b) s b'
     → (answered s ∷ bitsOf b' ∷ []) ≡ numbers
--- by these words as the record, whatever numbers are lent: what solve, determinant, d and l_permuted answer
+-- by these words as the record, whatever numbers are lent in slices that fit: what solve, determinant, d and l_permuted answer
 Gives (lbltReaders n words) numbers =
     (r s t : Answer) (v : Valued) (a b b' d d' l l' : List Float) → length a ≡ n * n → length b ≡ n → length d ≡ n * n → length l ≡ n * n
     → LbltSolved (full n) 1 a words b r b' → LbltDetermined (full n) a words v
