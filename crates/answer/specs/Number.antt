@@ -3,7 +3,7 @@ use mathlib.Core.Bool.{Bool}
 use Prim.Native.Nat.{ℕ, _+_, _*_}
 use lib.Dec.{eqb}
 use Rattle.answer.specs.declared.Answer.{Answer}
-use Rattle.answer.specs.declared.Answer.the-variants.{Done, OutOfRange, OrderAboveRoom, MatrixLength, SliceLength, BadRecord, ZeroMark, CholeskyZero, ZeroDiagonal, CholeskyBelowZero, CholeskyNan, BadLine}
+use Rattle.answer.specs.declared.Answer.the-variants.{Done, OutOfRange, OrderAboveRoom, MatrixLength, SliceLength, BadRecord, ZeroMark, CholeskyZero, ZeroDiagonal, CholeskyBelowZero, CholeskyNan, OtherRun, BadLine}
 
 abbrev pub codeOf : Answer → ℕ
 codeOf Done = 0
@@ -17,6 +17,7 @@ codeOf (CholeskyZero column) = 7
 codeOf (ZeroDiagonal column) = 8
 codeOf (CholeskyBelowZero column) = 10
 codeOf (CholeskyNan column) = 11
+codeOf OtherRun = 13
 codeOf (BadLine line) = 20
 
 -- done in every promise: code 0
@@ -36,6 +37,7 @@ placeOf (CholeskyZero column) = column
 placeOf (ZeroDiagonal column) = column
 placeOf (CholeskyBelowZero column) = column
 placeOf (CholeskyNan column) = column
+placeOf OtherRun = 0
 placeOf (BadLine line) = line
 
 abbrev pub numberOf : Answer → ℕ

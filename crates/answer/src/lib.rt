@@ -25,6 +25,8 @@ pub enum Answer {
     CholeskyBelowZero(u32),
     // Cholesky: the diagonal at this column is NaN.
     CholeskyNan(u32),
+    // The pivot record is of another run.
+    OtherRun,
     // The sheet's first wrong line, from 1.
     BadLine(u32),
 }
@@ -51,6 +53,7 @@ impl Answer {
             Answer::ZeroDiagonal(_) => 8,
             Answer::CholeskyBelowZero(_) => 10,
             Answer::CholeskyNan(_) => 11,
+            Answer::OtherRun => 13,
             Answer::BadLine(_) => 20,
         }
     }
@@ -70,6 +73,7 @@ impl Answer {
             Answer::ZeroDiagonal(column) => column,
             Answer::CholeskyBelowZero(column) => column,
             Answer::CholeskyNan(column) => column,
+            Answer::OtherRun => 0,
             Answer::BadLine(line) => line,
         }
     }

@@ -60,17 +60,17 @@ module _ (n : ℕ) where
     unfolding finalState firstState
     written = written-stepped n (firstState M words) (written-none sized) (omega arith)
 
-    pub accepted : Accepted n (recorded n M words)
+    pub accepted : (run : ℕ) → Accepted n (recorded n run M words)
     unfolding recorded
-    accepted = written-all written
+    accepted run = written-all run written
 
 -- of `factor`'s promise
-module _ {y : Layout} {a : List Float} {words : List ℕ} {r : Answer} {a' : List Float} {words' : List ℕ} (f : Factored y a words r a' words') (done : isDone r ≡ true) where
+module _ {y : Layout} {run : ℕ} {a : List Float} {words : List ℕ} {r : Answer} {a' : List Float} {words' : List ℕ} (f : Factored y run a words r a' words') (done : isDone r ≡ true) where
   sized : Sized (y .order) words
   sized = done-sized y a words (ap isDone (sym (f .answer)) ∙ done)
 
   pub factor-accepted : Accepted (y .order) words'
-  factor-accepted = subst (Accepted (y .order)) (sym (f .left .done done .pivots)) (accepted (y .order) (load (lower y) a) words sized)
+  factor-accepted = subst (Accepted (y .order)) (sym (f .left .done done .pivots)) (accepted (y .order) (load (lower y) a) words sized run)
 
   pub factor-marks : (markAt (y .order) words' ≡ 0) ⊎ Marks words' (y .order) (markAt (y .order) words')
   factor-marks = ⊎-elim inl (λ set. inr (mark-row factor-accepted set)) (eq-or-ne (markAt (y .order) words') 0)

@@ -19,7 +19,7 @@ use Rattle.matrix.specs.Sizes.{sizeTests, Fits}
 use Rattle.matrix.specs.declared.Layout.{Layout}
 use Rattle.matrix.proofs.Grids.{holds-unique}
 use Rattle.matrix.proofs.Sizes.{sizes-refuse, hold-fits, fits-pass, done-fits}
-use Rattle.pivots.specs.Words.{wordsOf, marked, Sized}
+use Rattle.pivots.specs.Words.{wordsOf, marked, stamped, Sized}
 use Rattle.lblt.specs.Factor.{factorTests, recorded, Factored}
 use Rattle.lblt.specs.inner.Engine.{Steps}
 
@@ -38,10 +38,10 @@ module _ (y : Layout) (a : List Float) (words : List ℕ) where
   in-turn : tested (factorTests y a words) Done ≡ tested (sizeTests y 0 (length a)) (tested lengthTest Done)
   in-turn = tested-join (sizeTests y 0 (length a)) lengthTest Done
 
-  refusal : {r : Answer} → r ≡ tested (factorTests y a words) Done → isDone r ≡ false → Factored y a words r a words
+  refusal : {run : ℕ} {r : Answer} → r ≡ tested (factorTests y a words) Done → isDone r ≡ false → Factored y run a words r a words
   refusal is refused = record { answer = is; left = leaving-refused refused (record { matrix = refl; pivots = refl }) }
 
-  pub wrong-size : {r : Answer} → r ≡ tested (sizeTests y 0 (length a)) Done → isDone r ≡ false → Factored y a words r a words
+  pub wrong-size : {run : ℕ} {r : Answer} → r ≡ tested (sizeTests y 0 (length a)) Done → isDone r ≡ false → Factored y run a words r a words
   wrong-size is refused =
       refusal (is ∙ sym (in-turn ∙ tested-fixed (sizeTests y 0 (length a)) (tested lengthTest Done) (ap isDone (sym is) ∙ refused))) refused
 
@@ -49,17 +49,17 @@ module _ (y : Layout) (a : List Float) (words : List ℕ) where
     passed : tested (factorTests y a words) Done ≡ tested lengthTest Done
     passed = in-turn ∙ fits-pass y 0 (length a) fits (tested lengthTest Done)
 
-    pub wrong-record : (length words ≡ wordsOf (y .order) → ⊥) → Factored y a words SliceLength a words
+    pub wrong-record : {run : ℕ} → (length words ≡ wordsOf (y .order) → ⊥) → Factored y run a words SliceLength a words
     wrong-record wrong = refusal (sym (passed ∙ tested-at lengthTest Done (here (ne-eqb (length words) (wordsOf (y .order)) wrong) refl))) refl
 
     pub all-right : length words ≡ wordsOf (y .order) → tested (factorTests y a words) Done ≡ Done
     all-right total = passed ∙ tested-all lengthTest Done (eq-eqb (length words) (wordsOf (y .order)) total, tt)
 
-    pub finished : {a' : List Float} {words' words'' : List ℕ} {mark : ℕ}
-        → length words ≡ wordsOf (y .order) → Steps y a words a' words' mark → words'' ≡ marked (y .order) words' mark → Factored y a words Done a' words''
+    pub finished : {run : ℕ} {a' : List Float} {words₁ words₂ words' : List ℕ} {mark : ℕ}
+        → length words ≡ wordsOf (y .order) → Steps y a words a' words₁ mark → words₂ ≡ marked (y .order) words₁ mark → words' ≡ stamped (y .order) words₂ run → Factored y run a words Done a' words'
     unfolding recorded
-    finished total steps marks =
-        record { answer = sym (all-right total); left = leaving-done refl (record { matrix = steps .matrix; pivots = rw (steps .pairs, steps .mark) at marks }) }
+    finished total steps marks stamps =
+        record { answer = sym (all-right total); left = leaving-done refl (record { matrix = steps .matrix; pivots = rw (rw (steps .pairs, steps .mark) at marks) at stamps }) }
 
   -- a call that is done was given an allowed order and as many words as it has
   pub done-sized : isDone (tested (factorTests y a words) Done) ≡ true → Sized (y .order) words
@@ -75,8 +75,8 @@ pub record Same (r r' : Answer) (a a' : List Float) (words words' : List ℕ) : 
   pub matrix : a ≡ a'
   pub pivots : words ≡ words'
 
-pub factored-unique : {y : Layout} {a : List Float} {words : List ℕ} {r₁ r₂ : Answer} {a₁ a₂ : List Float} {words₁ words₂ : List ℕ}
-    → Factored y a words r₁ a₁ words₁ → Factored y a words r₂ a₂ words₂ → Same r₁ r₂ a₁ a₂ words₁ words₂
+pub factored-unique : {y : Layout} {run : ℕ} {a : List Float} {words : List ℕ} {r₁ r₂ : Answer} {a₁ a₂ : List Float} {words₁ words₂ : List ℕ}
+    → Factored y run a words r₁ a₁ words₁ → Factored y run a words r₂ a₂ words₂ → Same r₁ r₂ a₁ a₂ words₁ words₂
 factored-unique {r₁ = r₁} {r₂} f g =
     let same : r₁ ≡ r₂ = f .answer ∙ sym (g .answer) in
     leaving-alike same (f .left) (g .left)

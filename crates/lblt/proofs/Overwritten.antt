@@ -9,7 +9,7 @@ use lib.ListN.{length, getD, set, length-set}
 use lib.Seq.{getD-set-same, getD-set-other, ext-getD}
 use borrow.Author.Tests.{ltb-true, ltb-false, eqb-true, eqb-false}
 use Rattle.matrix.specs.Matrix.{Matrix}
-use Rattle.pivots.specs.Words.{wordsOf, Sized, paired, marked}
+use Rattle.pivots.specs.Words.{wordsOf, Sized, paired, marked, stamped}
 use Rattle.pivots.proofs.Written.{paired-length}
 use Rattle.lblt_choice.specs.Choice.{choose}
 use Rattle.lblt.specs.Step.{State, take, step, stepped}
@@ -111,16 +111,18 @@ stepped-over (suc fuel) n S words words' long enough a =
 
 -- ---- the record
 
-alike-all : (n : ℕ) {words words' : List ℕ} (m : ℕ) → length words ≡ wordsOf n → Alike (2 * n) words words' → marked n words m ≡ marked n words' m
-unfolding marked
-alike-all n {words} {words'} m long a =
-    let b = alike-set m (omega arith) a in
-    ext-getD 0 (set words (2 * n) m) (set words' (2 * n) m) (b .long) (λ p h. b .first p (omega (arith, length-set words (2 * n) m)))
+alike-all : (n run : ℕ) {words words' : List ℕ} (m : ℕ) → length words ≡ wordsOf n → Alike (2 * n) words words' → stamped n (marked n words m) run ≡ stamped n (marked n words' m) run
+unfolding marked stamped
+alike-all n run {words} {words'} m long a =
+    let marks : length (set words (2 * n) m) ≡ wordsOf n = length-set words (2 * n) m ∙ long in
+    let b = alike-set run (omega (arith, marks)) (alike-set m (omega arith) a) in
+    ext-getD 0 (set (set words (2 * n) m) (2 * n + 1) run) (set (set words' (2 * n) m) (2 * n + 1) run) (b .long)
+    (λ p h. b .first p (omega (arith, length-set (set words (2 * n) m) (2 * n + 1) run, marks)))
 
-pub overwritten : (n : ℕ) (M : Matrix) (words words' : List ℕ) → Sized n words → Sized n words' → recorded n M words ≡ recorded n M words'
+pub overwritten : (n run : ℕ) (M : Matrix) (words words' : List ℕ) → Sized n words → Sized n words' → recorded n run M words ≡ recorded n run M words'
 unfolding recorded finalState firstState
-overwritten n M words words' sized sized' =
+overwritten n run M words words' sized sized' =
     let e = stepped-over n n (record { matrix = M; words = words; row = 0; mark = 0 }) words words' (sized .total) (omega arith)
     (record { long = sized .total ∙ sym (sized' .total); first = λ p h. absurd (omega arith) }) in
-    alike-all n (stepped n n (record { matrix = M; words = words; row = 0; mark = 0 }) .mark) (e .long) (e .words)
-    ∙ ap (marked n (stepped n n (record { matrix = M; words = words'; row = 0; mark = 0 }) .words)) (e .mark)
+    alike-all n run (stepped n n (record { matrix = M; words = words; row = 0; mark = 0 }) .mark) (e .long) (e .words)
+    ∙ ap (λ (m : ℕ). stamped n (marked n (stepped n n (record { matrix = M; words = words'; row = 0; mark = 0 }) .words) m) run) (e .mark)

@@ -13,7 +13,7 @@ use Rattle.matrix.specs.Grid.{load, Holds}
 use Rattle.matrix.specs.Layouts.{lower}
 use Rattle.matrix.specs.Sizes.{sizeTests}
 use Rattle.matrix.specs.declared.Layout.{Layout}
-use Rattle.pivots.specs.Words.{wordsOf, marked}
+use Rattle.pivots.specs.Words.{wordsOf, marked, stamped}
 use Rattle.lblt.specs.Step.{State, stepped}
 
 -- the order and the matrix, then the record
@@ -27,20 +27,20 @@ firstState M words = record { matrix = M; words = words; row = 0; mark = 0 }
 unfoldable pub finalState : ℕ → Matrix → List ℕ → State
 finalState n M words = stepped n n (firstState M words)
 
--- the record after all steps, with the mark at its end
-unfoldable pub recorded : ℕ → Matrix → List ℕ → List ℕ
-recorded n M words = marked n (finalState n M words .words) (finalState n M words .mark)
+-- the record after all steps: their pairs, the mark, the run number
+unfoldable pub recorded : ℕ → ℕ → Matrix → List ℕ → List ℕ
+recorded n run M words = stamped n (marked n (finalState n M words .words) (finalState n M words .mark)) run
 
 -- done: a holds the factor, words the record
-pub record Stored (y : Layout) (a : List Float) (words : List ℕ) (a' : List Float) (words' : List ℕ) : Type 0 where
+pub record Stored (y : Layout) (run : ℕ) (a : List Float) (words : List ℕ) (a' : List Float) (words' : List ℕ) : Type 0 where
   pub matrix : Holds (lower y) a a' (finalState (y .order) (load (lower y) a) words .matrix)
-  pub pivots : words' ≡ recorded (y .order) (load (lower y) a) words
+  pub pivots : words' ≡ recorded (y .order) run (load (lower y) a) words
 
 -- refused: nothing is written
 pub record Untouched (a : List Float) (words : List ℕ) (a' : List Float) (words' : List ℕ) : Type 0 where
   pub matrix : a' ≡ a
   pub pivots : words' ≡ words
 
-pub record Factored (y : Layout) (a : List Float) (words : List ℕ) (r : Answer) (a' : List Float) (words' : List ℕ) : Type 0 where
+pub record Factored (y : Layout) (run : ℕ) (a : List Float) (words : List ℕ) (r : Answer) (a' : List Float) (words' : List ℕ) : Type 0 where
   pub answer : r ≡ tested (factorTests y a words) Done
-  pub left : Leaving r (Stored y a words a' words') (Untouched a words a' words')
+  pub left : Leaving r (Stored y run a words a' words') (Untouched a words a' words')

@@ -12,15 +12,16 @@ use lib.Dec.{eqb, leb}
 use lib.Ieee.{Float}
 use lib.ListN.{length}
 use Rattle.answer.specs.declared.Answer.{Answer}
-use Rattle.answer.specs.declared.Answer.the-variants.{Done, OutOfRange, SliceLength}
+use Rattle.answer.specs.declared.Answer.the-variants.{Done, OutOfRange, SliceLength, OtherRun}
 use Rattle.answer.specs.Number.{isDone}
 use Rattle.answer.specs.Refusals.{Test, _otherwise_, tested}
+use Rattle.answer.proofs.Done.{done-is}
 use Rattle.answer.proofs.Tested.{Refusals, tested-all, tested-join, tested-fixed, tested-then, all-hold}
 use Rattle.matrix.specs.declared.Layout.{Layout}
 use Rattle.matrix.specs.Sizes.{sizeTests, Fits}
 use Rattle.matrix.proofs.Sizes.{sizes-refuse, fits-pass, done-fits, laid-fits}
-use Rattle.pivots.specs.Words.{wordsOf}
-use Rattle.pivots.specs.Rule.{checked, Accepted}
+use Rattle.pivots.specs.Words.{wordsOf, runAt}
+use Rattle.pivots.specs.Rule.{recordTests, checked, Accepted}
 use Rattle.lblt_solve_one.specs.inner.Engine.{Readable}
 use Rattle.lblt_read.specs.Calls.{wordTests, readerTests, sideTests, columnTests}
 
@@ -35,13 +36,39 @@ test-fails t tests r e = rw e
 
 -- ---- the record
 
-module _ (n : ℕ) (words : List ℕ) where
-  pub record-short : (length words ≡ wordsOf n → ⊥) → SliceLength ≡ tested (wordTests n words) Done
+-- no test of the rule answers that all is done
+rule-refuses : (n : ℕ) (words : List ℕ) → Refusals (recordTests n words)
+rule-refuses n words = (refl, (refl, tt))
+
+module _ (n run : ℕ) (words : List ℕ) where
+  ofRun : Test
+  ofRun = eqb (runAt n words) run otherwise OtherRun
+
+  pub record-short : (length words ≡ wordsOf n → ⊥) → SliceLength ≡ tested (wordTests n run words) Done
   record-short h = sym (test-fails _ _ _ (ne-eqb (length words) (wordsOf n) h))
 
-  pub record-long : length words ≡ wordsOf n → checked n words ≡ tested (wordTests n words) Done
-  unfolding checked
-  record-long h = sym (test-holds _ _ _ (eq-eqb (length words) (wordsOf n) h))
+  module _ (long : length words ≡ wordsOf n) {r : Answer} (rule : r ≡ checked n words) where
+    record-long : tested (wordTests n run words) Done ≡ tested (recordTests n words) (tested (ofRun ∷ []) Done)
+    unfolding ofRun
+    record-long = test-holds _ _ _ (eq-eqb (length words) (wordsOf n) long) ∙ tested-join (recordTests n words) (ofRun ∷ []) Done
+
+    pub record-broken : isDone r ≡ false → r ≡ tested (wordTests n run words) Done
+    unfolding checked
+    record-broken refused = rule ∙ sym (record-long ∙ tested-fixed (recordTests n words) (tested (ofRun ∷ []) Done) (ap isDone (sym rule) ∙ refused))
+
+    module _ (done : isDone r ≡ true) where
+      record-sound : tested (wordTests n run words) Done ≡ tested (ofRun ∷ []) Done
+      unfolding checked
+      record-sound =
+          record-long ∙ tested-all (recordTests n words) (tested (ofRun ∷ []) Done) (all-hold (recordTests n words) Done (rule-refuses n words) (ap isDone (sym rule) ∙ done) .0)
+
+      pub record-other : (runAt n words ≡ run → ⊥) → OtherRun ≡ tested (wordTests n run words) Done
+      unfolding ofRun
+      record-other other = sym (record-sound ∙ test-fails _ _ _ (ne-eqb (runAt n words) run other))
+
+      pub record-expected : runAt n words ≡ run → r ≡ tested (wordTests n run words) Done
+      unfolding ofRun
+      record-expected same = done-is r done ∙ sym (record-sound ∙ tested-all (ofRun ∷ []) Done (eq-eqb (runAt n words) run same, tt))
 
 -- ---- the tests of size, then others
 
@@ -59,8 +86,8 @@ module _ (y : Layout) (a : List Float) {fault : Answer} (sized : fault ≡ teste
   sizes-pass : (more : List Test) → isDone fault ≡ true → {r : Answer} → r ≡ tested more Done → r ≡ tested (sizeTests y 0 (length a) ++ more) Done
   sizes-pass more done e = e ∙ sym (tested-join (sizeTests y 0 (length a)) more Done ∙ fits-pass y 0 (length a) (sizes-fit done) (tested more Done))
 
-  pub factor-answers : (words : List ℕ) {r : Answer} → r ≡ cond (isDone fault) (tested (wordTests (y .order) words) Done) fault → r ≡ tested (readerTests y a words) Done
-  factor-answers words then = tested-then (sizeTests y 0 (length a)) (wordTests (y .order) words) (sizes-refuse y 0 (length a)) sized then
+  pub factor-answers : (run : ℕ) (words : List ℕ) {r : Answer} → r ≡ cond (isDone fault) (tested (wordTests (y .order) run words) Done) fault → r ≡ tested (readerTests y run a words) Done
+  factor-answers run words then = tested-then (sizeTests y 0 (length a)) (wordTests (y .order) run words) (sizes-refuse y 0 (length a)) sized then
 
   module _ (columns : ℕ) (few : columns ≤ 1024) (b : List Float) where
     sides : Test
@@ -86,11 +113,14 @@ columns-many y columns a b h = sym (test-fails _ _ _ (lt-leb columns 1024 h))
 
 -- ---- what is known where all tests hold
 
-words-accepted : (n : ℕ) (words : List ℕ) → n ≤ 1024 → isDone (tested (wordTests n words) Done) ≡ true → Accepted n words
-unfolding checked tested
-words-accepted n words small done =
-    let h = all-hold ((eqb (length words) (wordsOf n) otherwise SliceLength) ∷ []) (checked n words) (refl, tt) done in
-    record { sized = record { order = small; total = eqb-true (length words) (wordsOf n) (h .0 .0) }; done = h .1 }
+words-accepted : (n run : ℕ) (words : List ℕ) → n ≤ 1024 → isDone (tested (wordTests n run words) Done) ≡ true → Accepted n words
+unfolding checked
+words-accepted n run words small done =
+    let h = all-hold (wordTests n run words) Done (refl, (refl, (refl, (refl, tt)))) done .0 in
+    record {
+      sized = record { order = small; total = eqb-true (length words) (wordsOf n) (h .0) };
+      done = ap isDone (tested-all (recordTests n words) Done (h .1 .0, (h .1 .1 .0, tt)));
+    }
 
 sizes-then : (y : Layout) (a : List Float) (more : List Test) (r : Answer) → isDone (tested (sizeTests y 0 (length a) ++ more) r) ≡ true → Fits y 0 (length a) × (isDone (tested more r) ≡ true)
 sizes-then y a more r done =
@@ -100,10 +130,10 @@ sizes-then y a more r done =
 small-order : {y : Layout} {len : ℕ} → Fits y 0 len → y .order ≤ 1024
 small-order f = omega (arith, f .roomy .ordered, f .roomy .small)
 
-pub read-done : (y : Layout) (a : List Float) (words : List ℕ) → isDone (tested (readerTests y a words) Done) ≡ true → Readable y a words
-read-done y a words done =
-    let h = sizes-then y a (wordTests (y .order) words) Done done in
-    record { factor = laid-fits (h .0); accepted = words-accepted (y .order) words (small-order (h .0)) (h .1) }
+pub read-done : (y : Layout) (run : ℕ) (a : List Float) (words : List ℕ) → isDone (tested (readerTests y run a words) Done) ≡ true → Readable y a words
+read-done y run a words done =
+    let h = sizes-then y a (wordTests (y .order) run words) Done done in
+    record { factor = laid-fits (h .0); accepted = words-accepted (y .order) run words (small-order (h .0)) (h .1) }
 
 record Sided (y : Layout) (columns : ℕ) (a b : List Float) : Type 0 where
   pub few : columns ≤ 1024
@@ -125,15 +155,15 @@ pub record Columned (y : Layout) (columns : ℕ) (a : List Float) (words : List 
   pub long : length b ≡ y .order * columns
 
 pub columns-done
-    : (y : Layout) (columns : ℕ) (a : List Float) (words : List ℕ) (b : List Float)
-    → isDone (tested (columnTests y columns a words b) Done) ≡ true
+    : (y : Layout) (columns run : ℕ) (a : List Float) (words : List ℕ) (b : List Float)
+    → isDone (tested (columnTests y columns run a words b) Done) ≡ true
     → Columned y columns a words b
-columns-done y columns a words b done =
-    let after = tested (wordTests (y .order) words) Done in
-    let h = sides-then y columns a b after (ap isDone (sym (tested-join (sideTests y columns a b) (wordTests (y .order) words) Done)) ∙ done) in
+columns-done y columns run a words b done =
+    let after = tested (wordTests (y .order) run words) Done in
+    let h = sides-then y columns a b after (ap isDone (sym (tested-join (sideTests y columns a b) (wordTests (y .order) run words) Done)) ∙ done) in
     record {
       few = h .0 .few;
-      readable = record { factor = laid-fits (h .0 .fits); accepted = words-accepted (y .order) words (small-order (h .0 .fits)) (h .1) };
+      readable = record { factor = laid-fits (h .0 .fits); accepted = words-accepted (y .order) run words (small-order (h .0 .fits)) (h .1) };
       long = h .0 .long;
     }
 
@@ -141,16 +171,19 @@ columns-done y columns a words b done =
 sides-refuse : (y : Layout) (columns : ℕ) (a b : List Float) → Refusals (sideTests y columns a b)
 sides-refuse y columns a b = (refl, (refl, (refl, (refl, (refl, (refl, (refl, (refl, tt))))))))
 
-pub columns-refuse : (y : Layout) (columns : ℕ) (a : List Float) (words : List ℕ) (b : List Float) → Refusals (columnTests y columns a words b)
-columns-refuse y columns a words b = (refl, (refl, (refl, (refl, (refl, (refl, (refl, (refl, (refl, (refl, (refl, tt)))))))))))
+pub columns-refuse : (y : Layout) (columns run : ℕ) (a : List Float) (words : List ℕ) (b : List Float) → Refusals (columnTests y columns run a words b)
+columns-refuse y columns run a words b = (refl, (refl, (refl, (refl, (refl, (refl, (refl, (refl, (refl, (refl, (refl, (refl, tt))))))))))))
 
--- where the sizes fit and the record is accepted, all tests hold
-pub reads-done : (y : Layout) (a : List Float) (words : List ℕ) → Fits y 0 (length a) → Accepted (y .order) words → isDone (tested (readerTests y a words) Done) ≡ true
-reads-done y a words fits accepted =
+-- where the sizes fit, the record is accepted and it is of the run that is expected, all tests hold
+pub reads-done
+    : (y : Layout) (run : ℕ) (a : List Float) (words : List ℕ)
+    → Fits y 0 (length a) → Accepted (y .order) words → runAt (y .order) words ≡ run
+    → isDone (tested (readerTests y run a words) Done) ≡ true
+reads-done y run a words fits accepted same =
     ap isDone
-    (tested-join (sizeTests y 0 (length a)) (wordTests (y .order) words) Done
-    ∙ fits-pass y 0 (length a) fits (tested (wordTests (y .order) words) Done)
-    ∙ sym (record-long (y .order) words (accepted .sized .total)))
+    (tested-join (sizeTests y 0 (length a)) (wordTests (y .order) run words) Done
+    ∙ fits-pass y 0 (length a) fits (tested (wordTests (y .order) run words) Done)
+    ∙ sym (record-expected (y .order) run words (accepted .sized .total) refl (accepted .done) same))
     ∙ accepted .done
 
 -- ---- the tests of a slice of columns, then the record's
@@ -159,5 +192,5 @@ module _ (y : Layout) (columns : ℕ) (a b : List Float) {sizes : Answer} (sized
   pub sides-small : isDone sizes ≡ true → y .order ≤ 1024
   sides-small done = small-order (sides-then y columns a b Done (ap isDone (sym sized) ∙ done) .0 .fits)
 
-  pub columns-answers : (words : List ℕ) {r : Answer} → r ≡ cond (isDone sizes) (tested (wordTests (y .order) words) Done) sizes → r ≡ tested (columnTests y columns a words b) Done
-  columns-answers words then = tested-then (sideTests y columns a b) (wordTests (y .order) words) (sides-refuse y columns a b) sized then
+  pub columns-answers : (run : ℕ) (words : List ℕ) {r : Answer} → r ≡ cond (isDone sizes) (tested (wordTests (y .order) run words) Done) sizes → r ≡ tested (columnTests y columns run a words b) Done
+  columns-answers run words then = tested-then (sideTests y columns a b) (wordTests (y .order) run words) (sides-refuse y columns a b) sized then

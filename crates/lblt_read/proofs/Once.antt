@@ -13,16 +13,16 @@ use Rattle.matrix.proofs.Squares.{fills-unique}
 use Rattle.lblt_read.specs.Calls.{LbltDetermined, LbltFilled}
 
 pub determined-once
-    : {y : Layout} {a : List Float} {words : List ℕ} {r r' : Valued}
-    → LbltDetermined y a words r → LbltDetermined y a words r'
+    : {y : Layout} {run : ℕ} {a : List Float} {words : List ℕ} {r r' : Valued}
+    → LbltDetermined y run a words r → LbltDetermined y run a words r'
     → (r .answer ≡ r' .answer) × (r .value ≡ r' .value)
 determined-once s t =
     let same = s .answer ∙ sym (t .answer) in
     (same, s .value ∙ value-alike _ _ same ∙ sym (t .value))
 
 pub filled-once
-    : {y : Layout} {a : List Float} {words : List ℕ} {M : Matrix} {l : List Float} {r r' : Answer} {m m' : List Float}
-    → LbltFilled y a words M l r m → LbltFilled y a words M l r' m'
+    : {y : Layout} {run : ℕ} {a : List Float} {words : List ℕ} {M : Matrix} {l : List Float} {r r' : Answer} {m m' : List Float}
+    → LbltFilled y run a words M l r m → LbltFilled y run a words M l r' m'
     → (r ≡ r') × (m ≡ m')
 filled-once s t =
     let same = s .answer ∙ sym (t .answer) in

@@ -1,5 +1,5 @@
--- What the readers of an LBLT factor answer and leave behind, refused ones too. a is to be a slice of the layout y, `words` the record of its order;
--- the calls' layout is `full n`.
+-- What the readers of an LBLT factor answer and leave behind, refused ones too. a is to be a slice of the layout y, `words` the record of its order,
+-- with the number `run`; the calls' layout is `full n`.
 use mathlib.Core.Bool.{cond}
 use mathlib.Core.List.{List, [], _∷_, _++_}
 use mathlib.Core.Path.{_≡_}
@@ -8,7 +8,7 @@ use lib.Dec.{eqb, leb}
 use lib.Ieee.{Float}
 use lib.ListN.{length}
 use Rattle.answer.specs.declared.Answer.{Answer}
-use Rattle.answer.specs.declared.Answer.the-variants.{Done, OutOfRange, SliceLength}
+use Rattle.answer.specs.declared.Answer.the-variants.{Done, OutOfRange, SliceLength, OtherRun}
 use Rattle.answer.specs.declared.Valued.{Valued}
 use Rattle.answer.specs.Number.{isDone}
 use Rattle.answer.specs.Refusals.{Test, _otherwise_, tested, Leaving}
@@ -18,17 +18,17 @@ use Rattle.matrix.specs.Grid.{load}
 use Rattle.matrix.specs.Layouts.{lower, Fills}
 use Rattle.matrix.specs.Rounded.{plusZero}
 use Rattle.matrix.specs.Sizes.{sizeTests}
-use Rattle.pivots.specs.Words.{wordsOf}
+use Rattle.pivots.specs.Words.{wordsOf, runAt}
 use Rattle.pivots.specs.Rule.{recordTests}
 use Rattle.lblt_read.specs.Diagonal.{determinantOf}
 
--- the record: its length, then its rule
-abbrev pub wordTests : ℕ → List ℕ → List Test
-wordTests n words = (eqb (length words) (wordsOf n) otherwise SliceLength) ∷ recordTests n words
+-- the record: its length, its rule, its run number
+abbrev pub wordTests : ℕ → ℕ → List ℕ → List Test
+wordTests n run words = (eqb (length words) (wordsOf n) otherwise SliceLength) ∷ (recordTests n words ++ ((eqb (runAt n words) run otherwise OtherRun) ∷ []))
 
 -- the factor, then the record
-abbrev pub readerTests : Layout → List Float → List ℕ → List Test
-readerTests y a words = sizeTests y 0 (length a) ++ wordTests (y .order) words
+abbrev pub readerTests : Layout → ℕ → List Float → List ℕ → List Test
+readerTests y run a words = sizeTests y 0 (length a) ++ wordTests (y .order) run words
 
 -- the factor, and a slice of columns besides
 abbrev pub sideTests : Layout → ℕ → List Float → List Float → List Test
@@ -37,14 +37,14 @@ sideTests y columns a b =
     ∷ (sizeTests y 0 (length a) ++ ((eqb (length b) (y .order * columns) otherwise SliceLength) ∷ []))
 
 -- these, then the record
-abbrev pub columnTests : Layout → ℕ → List Float → List ℕ → List Float → List Test
-columnTests y columns a words b = sideTests y columns a b ++ wordTests (y .order) words
+abbrev pub columnTests : Layout → ℕ → ℕ → List Float → List ℕ → List Float → List Test
+columnTests y columns run a words b = sideTests y columns a b ++ wordTests (y .order) run words
 
-pub record LbltDetermined (y : Layout) (a : List Float) (words : List ℕ) (r : Valued) : Type 0 where
-  pub answer : r .answer ≡ tested (readerTests y a words) Done
+pub record LbltDetermined (y : Layout) (run : ℕ) (a : List Float) (words : List ℕ) (r : Valued) : Type 0 where
+  pub answer : r .answer ≡ tested (readerTests y run a words) Done
   pub value : r .value ≡ cond (isDone (r .answer)) (determinantOf (y .order) (load (lower y) a) words) plusZero
 
 -- a matrix M is filled in where done, and as it was where refused
-pub record LbltFilled (y : Layout) (a : List Float) (words : List ℕ) (M : Matrix) (l : List Float) (r : Answer) (l' : List Float) : Type 0 where
-  pub answer : r ≡ tested (columnTests y (y .order) a words l) Done
+pub record LbltFilled (y : Layout) (run : ℕ) (a : List Float) (words : List ℕ) (M : Matrix) (l : List Float) (r : Answer) (l' : List Float) : Type 0 where
+  pub answer : r ≡ tested (columnTests y (y .order) run a words l) Done
   pub left : Leaving r (Fills (y .order) l' M) (l' ≡ l)

@@ -20,10 +20,10 @@ use matrix::Layout;
 
 // ---- what every reader refuses, in the order of the table
 
-// The record, where the sizes are passed: `sizes` is their answer.
-pub fn check_record(sizes: Answer, words: &[u32], n: usize) -> Answer
+// The record and its run number, where the sizes are passed: `sizes` is their answer.
+pub fn check_record(sizes: Answer, words: &[u32], n: usize, run: u32) -> Answer
     requires { ⌜ (isDone sizes ≡ true → n ≤ 1024) ⌝ }
-    ensures { λ r. ⌜ r ≡ cond (isDone sizes) (tested (wordTests n (now (words .entry))) Done) sizes ⌝ }
+    ensures { λ r. ⌜ r ≡ cond (isDone sizes) (tested (wordTests n run (now (words .entry))) Done) sizes ⌝ }
 {
     if sizes.code() != 0 {
         return sizes;
@@ -31,15 +31,22 @@ pub fn check_record(sizes: Answer, words: &[u32], n: usize) -> Answer
     if words.len() != pivots::words(n) {
         return Answer::SliceLength;
     }
-    pivots::check(words, n)
+    let fault = pivots::check(words, n);
+    if fault.code() != 0 {
+        return fault;
+    }
+    if pivots::run(words, n) != run {
+        return Answer::OtherRun;
+    }
+    fault
 }
 
 // The factor, then the record.
-fn check_factor(y: Layout, a: &[f64], words: &[u32]) -> Answer
-    ensures { λ r. ⌜ r ≡ tested (readerTests y (now (a .entry)) (now (words .entry))) Done ⌝ }
+fn check_factor(y: Layout, a: &[f64], words: &[u32], run: u32) -> Answer
+    ensures { λ r. ⌜ r ≡ tested (readerTests y run (now (a .entry)) (now (words .entry))) Done ⌝ }
 {
     let sizes = y.check(0, a.len());
-    check_record(sizes, words, y.order)
+    check_record(sizes, words, y.order, run)
 }
 
 // The sizes of a factor and of a slice b of columns.
@@ -61,11 +68,11 @@ pub fn check_sides(y: Layout, columns: usize, a: &[f64], b: &[f64]) -> Answer
 
 // ---- the readers
 
-pub fn determinant(a: &[f64], words: &[u32], n: usize) -> Valued
-    ensures { λ r. ⌜ LbltDetermined (full n) (now (a .entry)) (now (words .entry)) r ⌝ }
+pub fn determinant(a: &[f64], words: &[u32], n: usize, run: u32) -> Valued
+    ensures { λ r. ⌜ LbltDetermined (full n) run (now (a .entry)) (now (words .entry)) r ⌝ }
 {
     let y = Layout::full(n);
-    let answer = check_factor(y, a, words);
+    let answer = check_factor(y, a, words, run);
     if answer.code() != 0 {
         return Valued { answer, value: 0.0 };
     }
@@ -74,12 +81,12 @@ pub fn determinant(a: &[f64], words: &[u32], n: usize) -> Valued
 }
 
 // Fills d with the block diagonal matrix.
-pub fn d(a: &[f64], words: &[u32], d: &mut [f64], n: usize) -> Answer
-    ensures { λ r. ⌜ LbltFilled (full n) (now (a .entry)) (now (words .entry)) (dOf n (load (lower (full n)) (now (a .entry))) (now (words .entry))) (now (d .entry)) r (now (d .exit)) ⌝ }
+pub fn d(a: &[f64], words: &[u32], d: &mut [f64], n: usize, run: u32) -> Answer
+    ensures { λ r. ⌜ LbltFilled (full n) run (now (a .entry)) (now (words .entry)) (dOf n (load (lower (full n)) (now (a .entry))) (now (words .entry))) (now (d .entry)) r (now (d .exit)) ⌝ }
 {
     let y = Layout::full(n);
     let sizes = check_sides(y, n, a, d);
-    let answer = check_record(sizes, words, n);
+    let answer = check_record(sizes, words, n, run);
     if answer.code() != 0 {
         return answer;
     }
@@ -88,12 +95,12 @@ pub fn d(a: &[f64], words: &[u32], d: &mut [f64], n: usize) -> Answer
 }
 
 // Fills l with Pᵀ L.
-pub fn l_permuted(a: &[f64], words: &[u32], l: &mut [f64], n: usize) -> Answer
-    ensures { λ r. ⌜ LbltFilled (full n) (now (a .entry)) (now (words .entry)) (lPermutedOf n (load (lower (full n)) (now (a .entry))) (now (words .entry))) (now (l .entry)) r (now (l .exit)) ⌝ }
+pub fn l_permuted(a: &[f64], words: &[u32], l: &mut [f64], n: usize, run: u32) -> Answer
+    ensures { λ r. ⌜ LbltFilled (full n) run (now (a .entry)) (now (words .entry)) (lPermutedOf n (load (lower (full n)) (now (a .entry))) (now (words .entry))) (now (l .entry)) r (now (l .exit)) ⌝ }
 {
     let y = Layout::full(n);
     let sizes = check_sides(y, n, a, l);
-    let answer = check_record(sizes, words, n);
+    let answer = check_record(sizes, words, n, run);
     if answer.code() != 0 {
         return answer;
     }

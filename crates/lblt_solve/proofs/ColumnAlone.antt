@@ -17,11 +17,11 @@ use Rattle.lblt_solve.specs.Solve.{LbltSolved}
 use Rattle.lblt_solve.proofs.Marked.{solver-admitted}
 
 pub lblt-column-solved
-    : {y : Layout} {columns : ℕ} {a : List Float} {words : List ℕ} {b : List Float} {r : Answer} {b' : List Float}
-    → LbltSolved y columns a words b r b' → isDone r ≡ true
+    : {y : Layout} {columns run : ℕ} {a : List Float} {words : List ℕ} {b : List Float} {r : Answer} {b' : List Float}
+    → LbltSolved y columns run a words b r b' → isDone r ≡ true
     → (j : ℕ) → j < columns
     → column (y .order) j b' ≡ solveColumn (y .order) (load (lower y) a) words (column (y .order) j b)
-lblt-column-solved {y} {columns} {a} {words} {b} s done j below =
-    let known = solver-admitted y columns a words b (s .answer) done in
+lblt-column-solved {y} {columns} {run} {a} {words} {b} s done j below =
+    let known = solver-admitted y columns run a words b (s .answer) done in
     ap (column (y .order) j) (s .sides ∙ rw done)
     ∙ each-column (y .order) (solveColumn (y .order) (load (lower y) a) words) (solve-keeps (y .order) (load (lower y) a) words) columns b (known .long) j below

@@ -9,8 +9,8 @@ use Rattle.matrix.specs.declared.Layout.{Layout}
 use Rattle.lblt_solve.specs.Solve.{LbltSolved}
 
 pub solved-once
-    : {y : Layout} {columns : ℕ} {a : List Float} {words : List ℕ} {b : List Float} {r r' : Answer} {c c' : List Float}
-    → LbltSolved y columns a words b r c → LbltSolved y columns a words b r' c'
+    : {y : Layout} {columns run : ℕ} {a : List Float} {words : List ℕ} {b : List Float} {r r' : Answer} {c c' : List Float}
+    → LbltSolved y columns run a words b r c → LbltSolved y columns run a words b r' c'
     → (r ≡ r') × (c ≡ c')
 solved-once s t =
     let same = s .answer ∙ sym (t .answer) in

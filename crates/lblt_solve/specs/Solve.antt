@@ -1,4 +1,5 @@
--- What `solve_mut` answers and leaves behind, refused or not. a is to be a slice of the layout y, `words` the record of its order; the call's layout is `full n`.
+-- What `solve_mut` answers and leaves behind, refused or not. a is to be a slice of the layout y, `words` the record of its order, with the number `run`;
+-- the call's layout is `full n`.
 use mathlib.Core.Bool.{cond}
 use mathlib.Core.List.{List, [], _∷_, _++_}
 use mathlib.Core.Path.{_≡_}
@@ -18,10 +19,10 @@ use Rattle.lblt_solve_one.specs.Column.{solveColumn}
 use Rattle.lblt_read.specs.Calls.{columnTests}
 
 -- a zero mark refuses `solve_mut` alone, after all else
-abbrev pub solveTests : Layout → ℕ → List Float → List ℕ → List Float → List Test
-solveTests y columns a words b =
-    columnTests y columns a words b ++ ((eqb (markAt (y .order) words) 0 otherwise ZeroMark (markAt (y .order) words - 1)) ∷ [])
+abbrev pub solveTests : Layout → ℕ → ℕ → List Float → List ℕ → List Float → List Test
+solveTests y columns run a words b =
+    columnTests y columns run a words b ++ ((eqb (markAt (y .order) words) 0 otherwise ZeroMark (markAt (y .order) words - 1)) ∷ [])
 
-pub record LbltSolved (y : Layout) (columns : ℕ) (a : List Float) (words : List ℕ) (b : List Float) (r : Answer) (b' : List Float) : Type 0 where
-  pub answer : r ≡ tested (solveTests y columns a words b) Done
+pub record LbltSolved (y : Layout) (columns run : ℕ) (a : List Float) (words : List ℕ) (b : List Float) (r : Answer) (b' : List Float) : Type 0 where
+  pub answer : r ≡ tested (solveTests y columns run a words b) Done
   pub sides : b' ≡ cond (isDone r) (eachColumn (y .order) columns (solveColumn (y .order) (load (lower y) a) words) b) b

@@ -10,11 +10,11 @@ use answer::Answer;
 use matrix::Layout;
 
 // What a reader of a factor refuses, then a zero mark.
-fn check(y: Layout, columns: usize, a: &[f64], words: &[u32], b: &[f64]) -> Answer
-    ensures { λ r. ⌜ r ≡ tested (solveTests y columns (now (a .entry)) (now (words .entry)) (now (b .entry))) Done ⌝ }
+fn check(y: Layout, columns: usize, a: &[f64], words: &[u32], b: &[f64], run: u32) -> Answer
+    ensures { λ r. ⌜ r ≡ tested (solveTests y columns run (now (a .entry)) (now (words .entry)) (now (b .entry))) Done ⌝ }
 {
     let sizes = lblt_read::check_sides(y, columns, a, b);
-    let answer = lblt_read::check_record(sizes, words, y.order);
+    let answer = lblt_read::check_record(sizes, words, y.order, run);
     if answer.code() != 0 {
         return answer;
     }
@@ -26,11 +26,18 @@ fn check(y: Layout, columns: usize, a: &[f64], words: &[u32], b: &[f64]) -> Answ
 }
 
 // Solves A x = b for each of the columns of b, n numbers a column.
-pub fn solve_mut(a: &[f64], words: &[u32], b: &mut [f64], n: usize, columns: usize) -> Answer
-    ensures { λ r. ⌜ LbltSolved (full n) columns (now (a .entry)) (now (words .entry)) (now (b .entry)) r (now (b .exit)) ⌝ }
+pub fn solve_mut(
+    a: &[f64],
+    words: &[u32],
+    b: &mut [f64],
+    n: usize,
+    columns: usize,
+    run: u32,
+) -> Answer
+    ensures { λ r. ⌜ LbltSolved (full n) columns run (now (a .entry)) (now (words .entry)) (now (b .entry)) r (now (b .exit)) ⌝ }
 {
     let y = Layout::full(n);
-    let answer = check(y, columns, a, words, b);
+    let answer = check(y, columns, a, words, b, run);
     if answer.code() != 0 {
         return answer;
     }

@@ -2,7 +2,7 @@
 --     Written n words k m     the blocks up to row k are written and sound; m is the first mark: 0, or a row before k, of size 1 and with its own index, plus 1
 --     written-none            nothing written
 --     written-one, written-two, written-zero     one more block: of size 1, of size 2, and a zero column that sets the mark
---     written-all             the mark is put at the end, and the record is accepted
+--     written-all             the mark and a run number are put at the end, and the record is accepted
 use mathlib.Core.List.{List}
 use mathlib.Core.Logic.{_⊎_, inl, inr}
 use mathlib.Core.Path.{_≡_, refl, sym, ap, subst, _∙_}
@@ -12,7 +12,7 @@ use lib.ListN.{length, getD, set, length-set}
 use lib.Seq.{getD-set-same, getD-set-other}
 use Rattle.answer.specs.declared.Answer.the-variants.{Done}
 use Rattle.answer.specs.Number.{isDone}
-use Rattle.pivots.specs.Words.{indexWord, sizeWord, markWord, indexAt, sizeAt, markAt, Sized, paired, marked}
+use Rattle.pivots.specs.Words.{indexWord, sizeWord, markWord, runWord, indexAt, sizeAt, markAt, Sized, paired, marked, stamped}
 use Rattle.pivots.specs.Rule.{faultOf, checked, Accepted}
 use Rattle.pivots.proofs.Blocks.{one-rows, two-rows}
 use Rattle.pivots.proofs.Faults.{Going, going-none, going-more, going-all}
@@ -90,11 +90,11 @@ module _ (words : List ℕ) (row index size : ℕ) (room : 2 * row + 1 < length 
       below (set words (indexWord row) index) (sizeWord row) (indexWord row) size (omega arith)
       ∙ getD-set-same words (indexWord row) index 0 (omega arith)
 
-marked-kept : (n : ℕ) (words : List ℕ) (mark : ℕ) → Kept words (marked n words mark) n
-unfolding marked
-marked-kept n words mark = record {
-  index = λ r h. below words (markWord n) (indexWord r) mark (omega arith);
-  size = λ r h. below words (markWord n) (sizeWord r) mark (omega arith);
+ended-kept : (n : ℕ) (words : List ℕ) (mark run : ℕ) → Kept words (stamped n (marked n words mark) run) n
+unfolding marked stamped
+ended-kept n words mark run = record {
+  index = λ r h. below (set words (markWord n) mark) (runWord n) (indexWord r) run (omega arith) ∙ below words (markWord n) (indexWord r) mark (omega arith);
+  size = λ r h. below (set words (markWord n) mark) (runWord n) (sizeWord r) run (omega arith) ∙ below words (markWord n) (sizeWord r) mark (omega arith);
 }
 
 paired-sized : {n : ℕ} {words : List ℕ} (row index size : ℕ) → Sized n words → Sized n (paired words row index size)
@@ -188,22 +188,25 @@ passed {n} {words} (two {j = j} u t e) h =
     subst (Going n words) (sym e)
     (going-more (passed u (omega arith)) (omega arith) (sym (two-rows n words j t)) (λ z. absurd (omega arith)))
 
-pub written-all : {n : ℕ} {words : List ℕ} {m : ℕ} → Written n words n m → Accepted n (marked n words m)
-unfolding marked
-written-all {n} {words} {m} w =
+pub written-all : {n : ℕ} {words : List ℕ} {m : ℕ} (run : ℕ) → Written n words n m → Accepted n (stamped n (marked n words m) run)
+unfolding marked stamped
+written-all {n} {words} {m} run w =
     record { sized = record { order = w .sized .order; total = simp length-set (w .sized .total) }; done = ap isDone (sym (at (w .mark))) }
   where
     final : List ℕ
-    final = marked n words m
+    final = stamped n (marked n words m) run
+
+    kept : Kept words final n
+    kept = ended-kept n words m run
 
     rows : n ≤ faultOf n final
-    rows = omega (arith, going-all (passed (kept-upto (marked-kept n words m) (w .blocks)) (omega arith)) (omega arith))
+    rows = omega (arith, going-all (passed (kept-upto kept (w .blocks)) (omega arith)) (omega arith))
 
     reads : m ≡ markAt n final
-    reads = sym (getD-set-same words (markWord n) m 0 (omega (arith, w .sized .total)))
+    reads = sym (below (marked n words m) (runWord n) (markWord n) run (omega arith) ∙ getD-set-same words (markWord n) m 0 (omega (arith, w .sized .total)))
 
     at : (m ≡ 0) ⊎ Marks words n m → Done ≡ checked n final
     at (inl none) = unmarked n final rows reads none
     at (inr mk) =
-        let kept = kept-marks (marked-kept n words m) mk in
-        mark-sound n final rows reads (mk .set) (mk .passed) (kept .size) (kept .index)
+        let marks = kept-marks kept mk in
+        mark-sound n final rows reads (mk .set) (mk .passed) (marks .size) (marks .index)

@@ -1,8 +1,8 @@
-// The pivot record: for each row the index and size of its pivot, then the mark; its check, readers and writers.
+// The pivot record: for each row the index and size of its pivot, then the mark, then the run number; its check, readers and writers.
 ghost use mathlib.Core.Path.{_≡_};
 ghost use Prim.Native.Nat.{_<_, _≤_, _+_, _*_};
 ghost use lib.ListN.{length};
-ghost use Rattle.pivots.specs.Words.{wordsOf, Sized, indexAt, sizeAt, markAt, paired, marked};
+ghost use Rattle.pivots.specs.Words.{wordsOf, Sized, indexAt, sizeAt, markAt, runAt, paired, marked, stamped};
 ghost use Rattle.pivots.specs.Rule.{blockOf, faultOf, checked};
 use answer::Answer;
 
@@ -13,14 +13,14 @@ fn wide(word: u32) -> usize
 }
 
 // The words of a record of order 64, for a lent array.
-pub const WORDS_OF_64: usize = 2 * 64 + 1;
+pub const WORDS_OF_64: usize = 2 * 64 + 2;
 
 // The words of a record of order n.
 pub fn words(n: usize) -> usize
     requires { ⌜ n ≤ 1024 ⌝ }
     ensures { λ r. ⌜ r ≡ wordsOf n ⌝ }
 {
-    2 * n + 1
+    2 * n + 2
 }
 
 pub fn index(words: &[u32], row: usize) -> usize
@@ -44,6 +44,13 @@ pub fn mark(words: &[u32], n: usize) -> usize
     wide(words[2 * n])
 }
 
+pub fn run(words: &[u32], n: usize) -> u32
+    requires { ⌜ 2 * n + 1 < length (now words) ⌝ }
+    ensures { λ r. ⌜ r ≡ runAt n (now (words .entry)) ⌝ }
+{
+    words[2 * n + 1]
+}
+
 pub fn put_pair(words: &mut [u32], row: usize, index: u32, size: u32)
     requires { ⌜ 2 * row + 1 < length (now words) ⌝ }
     ensures { λ _. ⌜ now (words .exit) ≡ paired (now (words .entry)) row index size ⌝ }
@@ -57,6 +64,13 @@ pub fn put_mark(words: &mut [u32], n: usize, mark: u32)
     ensures { λ _. ⌜ now (words .exit) ≡ marked n (now (words .entry)) mark ⌝ }
 {
     words[2 * n] = mark;
+}
+
+pub fn put_run(words: &mut [u32], n: usize, run: u32)
+    requires { ⌜ 2 * n + 1 < length (now words) ⌝ }
+    ensures { λ _. ⌜ now (words .exit) ≡ stamped n (now (words .entry)) run ⌝ }
+{
+    words[2 * n + 1] = run;
 }
 
 // The rows of the block that starts at row k, 0 where it breaks the rule.

@@ -33,20 +33,20 @@ number-back {answer} e within =
 
 -- ---- LBLT
 
-module _ {n : ℕ} {a : List Float} {words : List ℕ} where
-  pub lblt-factor-back : {r : ℕ} {a' : List Float} {words' : List ℕ} (c : LbltFactor n a words r a' words') → Back (c .below) r
+module _ {n run : ℕ} {a : List Float} {words : List ℕ} where
+  pub lblt-factor-back : {r : ℕ} {a' : List Float} {words' : List ℕ} (c : LbltFactor n run a words r a' words') → Back (c .below) r
   lblt-factor-back c = number-back (c .result) (lblt.factored-within (c .given))
 
-  pub lblt-solve-back : {columns : ℕ} {b b' : List Float} {r : ℕ} (c : LbltSolve n columns a words b r b') → Back (c .below) r
+  pub lblt-solve-back : {columns : ℕ} {b b' : List Float} {r : ℕ} (c : LbltSolve n columns run a words b r b') → Back (c .below) r
   lblt-solve-back c = number-back (c .result) (readers.solved-within (c .given))
 
-  pub lblt-determinant-back : {r : Determined} (c : LbltDeterminant n a words r) → Back (c .below .answer) (r .answer)
+  pub lblt-determinant-back : {r : Determined} (c : LbltDeterminant n run a words r) → Back (c .below .answer) (r .answer)
   lblt-determinant-back c = number-back (ap (λ (d : Determined). d .answer) (c .result)) (readers.determined-within (c .given))
 
-  pub lblt-d-back : {d d' : List Float} {r : ℕ} (c : LbltD n a words d r d') → Back (c .below) r
+  pub lblt-d-back : {d d' : List Float} {r : ℕ} (c : LbltD n run a words d r d') → Back (c .below) r
   lblt-d-back c = number-back (c .result) (readers.filled-within (c .given))
 
-  pub lblt-l-permuted-back : {l l' : List Float} {r : ℕ} (c : LbltLPermuted n a words l r l') → Back (c .below) r
+  pub lblt-l-permuted-back : {l l' : List Float} {r : ℕ} (c : LbltLPermuted n run a words l r l') → Back (c .below) r
   lblt-l-permuted-back c = number-back (c .result) (readers.filled-within (c .given))
 
 -- ---- Cholesky

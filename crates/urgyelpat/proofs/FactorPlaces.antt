@@ -15,5 +15,5 @@ answer-within y a words =
     let none = within-none 1024 in
     within-tested 1024 (factorTests y a words) Done (none, (none, (none, (none, (none, (none, (none, tt))))))) (λ h. none)
 
-pub factored-within : {y : Layout} {a a' : List Float} {words words' : List ℕ} {r : Answer} → Factored y a words r a' words' → Within 1024 r
+pub factored-within : {y : Layout} {run : ℕ} {a a' : List Float} {words words' : List ℕ} {r : Answer} → Factored y run a words r a' words' → Within 1024 r
 factored-within {y} {a} {words = words} x = subst (Within 1024) (sym (x .answer)) (answer-within y a words)

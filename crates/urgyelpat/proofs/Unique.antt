@@ -31,26 +31,26 @@ valued-same {v} {w} (answer, value) = ap (λ (x : Answer). valued-by x (v .value
 
 -- ---- LBLT
 
-module _ {n : ℕ} {a : List Float} {words : List ℕ} where
-  pub lblt-factor-unique : {r s : ℕ} {a₁ a₂ : List Float} {words₁ words₂ : List ℕ} → LbltFactor n a words r a₁ words₁ → LbltFactor n a words s a₂ words₂ → (r ≡ s) × (a₁ ≡ a₂) × (words₁ ≡ words₂)
+module _ {n run : ℕ} {a : List Float} {words : List ℕ} where
+  pub lblt-factor-unique : {r s : ℕ} {a₁ a₂ : List Float} {words₁ words₂ : List ℕ} → LbltFactor n run a words r a₁ words₁ → LbltFactor n run a words s a₂ words₂ → (r ≡ s) × (a₁ ≡ a₂) × (words₁ ≡ words₂)
   lblt-factor-unique p q =
       let same = lblt.factored-unique (p .given) (q .given) in
       (passed-same p q (same .answer), same .matrix, same .pivots)
 
-  pub lblt-solve-unique : {columns : ℕ} {b b₁ b₂ : List Float} {r s : ℕ} → LbltSolve n columns a words b r b₁ → LbltSolve n columns a words b s b₂ → (r ≡ s) × (b₁ ≡ b₂)
+  pub lblt-solve-unique : {columns : ℕ} {b b₁ b₂ : List Float} {r s : ℕ} → LbltSolve n columns run a words b r b₁ → LbltSolve n columns run a words b s b₂ → (r ≡ s) × (b₁ ≡ b₂)
   lblt-solve-unique p q =
       let same = solved-once (p .given) (q .given) in
       (passed-same p q (same .0), same .1)
 
-  pub lblt-determinant-unique : {r s : Determined} → LbltDeterminant n a words r → LbltDeterminant n a words s → r ≡ s
+  pub lblt-determinant-unique : {r s : Determined} → LbltDeterminant n run a words r → LbltDeterminant n run a words s → r ≡ s
   lblt-determinant-unique p q = passed-same p q (valued-same (determined-once (p .given) (q .given)))
 
-  pub lblt-d-unique : {d d₁ d₂ : List Float} {r s : ℕ} → LbltD n a words d r d₁ → LbltD n a words d s d₂ → (r ≡ s) × (d₁ ≡ d₂)
+  pub lblt-d-unique : {d d₁ d₂ : List Float} {r s : ℕ} → LbltD n run a words d r d₁ → LbltD n run a words d s d₂ → (r ≡ s) × (d₁ ≡ d₂)
   lblt-d-unique p q =
       let same = filled-once (p .given) (q .given) in
       (passed-same p q (same .0), same .1)
 
-  pub lblt-l-permuted-unique : {l l₁ l₂ : List Float} {r s : ℕ} → LbltLPermuted n a words l r l₁ → LbltLPermuted n a words l s l₂ → (r ≡ s) × (l₁ ≡ l₂)
+  pub lblt-l-permuted-unique : {l l₁ l₂ : List Float} {r s : ℕ} → LbltLPermuted n run a words l r l₁ → LbltLPermuted n run a words l s l₂ → (r ≡ s) × (l₁ ≡ l₂)
   lblt-l-permuted-unique p q =
       let same = filled-once (p .given) (q .given) in
       (passed-same p q (same .0), same .1)

@@ -22,20 +22,20 @@ use Rattle.urgyelpat.specs.declared.Determined.{Determined}
 
 -- ---- LBLT
 
-abbrev pub LbltFactor : ℕ → List Float → List ℕ → ℕ → List Float → List ℕ → Type 0
-LbltFactor n a words r a' words' = Passed numberOf (λ (answer : Answer). lblt.Factored (full n) a words answer a' words') r
+abbrev pub LbltFactor : ℕ → ℕ → List Float → List ℕ → ℕ → List Float → List ℕ → Type 0
+LbltFactor n run a words r a' words' = Passed numberOf (λ (answer : Answer). lblt.Factored (full n) run a words answer a' words') r
 
-abbrev pub LbltSolve : ℕ → ℕ → List Float → List ℕ → List Float → ℕ → List Float → Type 0
-LbltSolve n columns a words b r b' = Passed numberOf (λ (answer : Answer). LbltSolved (full n) columns a words b answer b') r
+abbrev pub LbltSolve : ℕ → ℕ → ℕ → List Float → List ℕ → List Float → ℕ → List Float → Type 0
+LbltSolve n columns run a words b r b' = Passed numberOf (λ (answer : Answer). LbltSolved (full n) columns run a words b answer b') r
 
-abbrev pub LbltDeterminant : ℕ → List Float → List ℕ → Determined → Type 0
-LbltDeterminant n a words r = Passed determinedOf (LbltDetermined (full n) a words) r
+abbrev pub LbltDeterminant : ℕ → ℕ → List Float → List ℕ → Determined → Type 0
+LbltDeterminant n run a words r = Passed determinedOf (LbltDetermined (full n) run a words) r
 
-abbrev pub LbltD : ℕ → List Float → List ℕ → List Float → ℕ → List Float → Type 0
-LbltD n a words d r d' = Passed numberOf (λ (answer : Answer). LbltFilled (full n) a words (dOf n (load (lower (full n)) a) words) d answer d') r
+abbrev pub LbltD : ℕ → ℕ → List Float → List ℕ → List Float → ℕ → List Float → Type 0
+LbltD n run a words d r d' = Passed numberOf (λ (answer : Answer). LbltFilled (full n) run a words (dOf n (load (lower (full n)) a) words) d answer d') r
 
-abbrev pub LbltLPermuted : ℕ → List Float → List ℕ → List Float → ℕ → List Float → Type 0
-LbltLPermuted n a words l r l' = Passed numberOf (λ (answer : Answer). LbltFilled (full n) a words (lPermutedOf n (load (lower (full n)) a) words) l answer l') r
+abbrev pub LbltLPermuted : ℕ → ℕ → List Float → List ℕ → List Float → ℕ → List Float → Type 0
+LbltLPermuted n run a words l r l' = Passed numberOf (λ (answer : Answer). LbltFilled (full n) run a words (lPermutedOf n (load (lower (full n)) a) words) l answer l') r
 
 -- ---- Cholesky
 

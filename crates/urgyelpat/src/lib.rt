@@ -24,10 +24,15 @@ fn numbered(valued: Valued) -> Determined
 }
 
 #[no_mangle]
-pub extern "C" fn urgyelpat_lblt_factor(a: &mut [f64], record: &mut [u32], n: usize) -> u64
-    ensures { λ r. ⌜ LbltFactor n (now (a .entry)) (now («record» .entry)) r (now (a .exit)) (now («record» .exit)) ⌝ }
+pub extern "C" fn urgyelpat_lblt_factor(
+    a: &mut [f64],
+    record: &mut [u32],
+    n: usize,
+    run: u32,
+) -> u64
+    ensures { λ r. ⌜ LbltFactor n run (now (a .entry)) (now («record» .entry)) r (now (a .exit)) (now («record» .exit)) ⌝ }
 {
-    lblt::factor(a, record, n).number()
+    lblt::factor(a, record, n, run).number()
 }
 
 #[no_mangle]
@@ -37,24 +42,36 @@ pub extern "C" fn urgyelpat_lblt_solve(
     b: &mut [f64],
     n: usize,
     columns: usize,
+    run: u32,
 ) -> u64
-    ensures { λ r. ⌜ LbltSolve n columns (now (a .entry)) (now («record» .entry)) (now (b .entry)) r (now (b .exit)) ⌝ }
+    ensures { λ r. ⌜ LbltSolve n columns run (now (a .entry)) (now («record» .entry)) (now (b .entry)) r (now (b .exit)) ⌝ }
 {
-    lblt_solve::solve_mut(a, record, b, n, columns).number()
+    lblt_solve::solve_mut(a, record, b, n, columns, run).number()
 }
 
 #[no_mangle]
-pub extern "C" fn urgyelpat_lblt_determinant(a: &[f64], record: &[u32], n: usize) -> Determined
-    ensures { λ r. ⌜ LbltDeterminant n (now (a .entry)) (now («record» .entry)) r ⌝ }
+pub extern "C" fn urgyelpat_lblt_determinant(
+    a: &[f64],
+    record: &[u32],
+    n: usize,
+    run: u32,
+) -> Determined
+    ensures { λ r. ⌜ LbltDeterminant n run (now (a .entry)) (now («record» .entry)) r ⌝ }
 {
-    numbered(lblt_read::determinant(a, record, n))
+    numbered(lblt_read::determinant(a, record, n, run))
 }
 
 #[no_mangle]
-pub extern "C" fn urgyelpat_lblt_d(a: &[f64], record: &[u32], d: &mut [f64], n: usize) -> u64
-    ensures { λ r. ⌜ LbltD n (now (a .entry)) (now («record» .entry)) (now (d .entry)) r (now (d .exit)) ⌝ }
+pub extern "C" fn urgyelpat_lblt_d(
+    a: &[f64],
+    record: &[u32],
+    d: &mut [f64],
+    n: usize,
+    run: u32,
+) -> u64
+    ensures { λ r. ⌜ LbltD n run (now (a .entry)) (now («record» .entry)) (now (d .entry)) r (now (d .exit)) ⌝ }
 {
-    lblt_read::d(a, record, d, n).number()
+    lblt_read::d(a, record, d, n, run).number()
 }
 
 #[no_mangle]
@@ -63,10 +80,11 @@ pub extern "C" fn urgyelpat_lblt_l_permuted(
     record: &[u32],
     l: &mut [f64],
     n: usize,
+    run: u32,
 ) -> u64
-    ensures { λ r. ⌜ LbltLPermuted n (now (a .entry)) (now («record» .entry)) (now (l .entry)) r (now (l .exit)) ⌝ }
+    ensures { λ r. ⌜ LbltLPermuted n run (now (a .entry)) (now («record» .entry)) (now (l .entry)) r (now (l .exit)) ⌝ }
 {
-    lblt_read::l_permuted(a, record, l, n).number()
+    lblt_read::l_permuted(a, record, l, n, run).number()
 }
 
 #[no_mangle]

@@ -13,7 +13,7 @@ check-record-requires c κs = order-small (c .before .before .before .args .y) (
 returns : tie.Need-returns
 returns c =
     let args = c .before .before .before .before .args in
-    factor-answers (args .y) (args .a .now) (c .before .check .ensures) (args .words .now) (c .check-record .ensures)
+    factor-answers (args .y) (args .a .now) (c .before .check .ensures) (args .run) (args .words .now) (c .check-record .ensures)
 
 pub check-factor-spec : {M : Type 1} → statement M
 check-factor-spec = tie.close (tie.spec check-requires check-record-requires returns)

@@ -20,7 +20,7 @@ returns : tie.Need-returns
 returns c = record { answer = rw (c .before .before .before .full .ensures) at (c .before .before .check-factor .ensures); value = rw (code-refused (c .before .before .check-factor .result) (c .before .code .ensures) (c .if1 .taken)) }
 
 product-requires : tie.Need-product-requires
-product-requires c κs = read-done _ _ _ (ap isDone (sym (c .before .before .check-factor .ensures)) ∙ code-done (c .before .before .check-factor .result) (c .before .code .ensures) (c .if1 .left))
+product-requires c κs = read-done _ _ _ _ (ap isDone (sym (c .before .before .check-factor .ensures)) ∙ code-done (c .before .before .check-factor .result) (c .before .code .ensures) (c .if1 .left))
 
 returns-2 : tie.Need-returns-2
 returns-2 c =

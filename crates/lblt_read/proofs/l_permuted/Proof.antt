@@ -32,7 +32,7 @@ returns c =
     let made = c .before .before .before .before .before .full in
     let check-sides = c .before .before .before .check-sides in
     record {
-      answer = columns-answers (full (args .n)) (args .n) (args .a .now) (args .l .now) (rw (made .ensures) at (check-sides .ensures)) (args .words .now) (c .before .before .check-record .ensures);
+      answer = columns-answers (full (args .n)) (args .n) (args .a .now) (args .l .now) (rw (made .ensures) at (check-sides .ensures)) (args .run) (args .words .now) (c .before .before .check-record .ensures);
       left = leaving-refused (code-refused (c .before .before .check-record .result) (c .before .code .ensures) (c .if1 .taken)) refl;
     }
 
@@ -41,8 +41,8 @@ fill-requires c κs =
     let args = c .before .before .before .before .before .before .before .before .before .before .args in
     let made = c .before .before .before .before .before .before .full in
     let check-sides = c .before .before .before .before .check-sides in
-    let answer = columns-answers (full (args .n)) (args .n) (args .a .now) (args .l .now) (rw (made .ensures) at (check-sides .ensures)) (args .words .now) (c .before .before .before .check-record .ensures) in
-    let known = columns-done (full (args .n)) (args .n) (args .a .now) (args .words .now) (args .l .now) (ap isDone (sym answer) ∙ code-done (c .before .before .before .check-record .result) (c .before .before .code .ensures) (c .before .if1 .left)) in
+    let answer = columns-answers (full (args .n)) (args .n) (args .a .now) (args .l .now) (rw (made .ensures) at (check-sides .ensures)) (args .run) (args .words .now) (c .before .before .before .check-record .ensures) in
+    let known = columns-done (full (args .n)) (args .n) (args .run) (args .a .now) (args .words .now) (args .l .now) (ap isDone (sym answer) ∙ code-done (c .before .before .before .check-record .result) (c .before .before .code .ensures) (c .before .if1 .left)) in
     rw (made .ensures) (known .readable, record { small = known .few; long = known .long })
 
 same-length-2 : tie.Need-same-length-2
@@ -57,7 +57,7 @@ returns-2 c =
     let code = c .before .before .before .before .before .code in
     let if1 = c .before .before .before .before .if1 in
     record {
-      answer = columns-answers (full (args .n)) (args .n) (args .a .now) (args .l .now) (rw (made .ensures) at (check-sides .ensures)) (args .words .now) (check-record .ensures);
+      answer = columns-answers (full (args .n)) (args .n) (args .a .now) (args .l .now) (rw (made .ensures) at (check-sides .ensures)) (args .run) (args .words .now) (check-record .ensures);
       left = leaving-done (code-done (check-record .result) (code .ensures) (if1 .left)) (rw (made .ensures) at (c .before .before .fill .ensures));
     }
 

@@ -25,14 +25,14 @@ returns : tie.Need-returns
 returns c =
     let args = c .before .before .before .before .before .before .before .args in
     let check-sides = c .before .before .before .check-sides in
-    solve-refused (args .y) (args .columns) (args .a .now) (args .words .now) (args .b .now) (columns-answers (args .y) (args .columns) (args .a .now) (args .b .now) (check-sides .ensures) (args .words .now) (c .before .before .check-record .ensures)) (code-refused (c .before .before .check-record .result) (c .before .code .ensures) (c .if1 .taken))
+    solve-refused (args .y) (args .columns) (args .run) (args .a .now) (args .words .now) (args .b .now) (columns-answers (args .y) (args .columns) (args .a .now) (args .b .now) (check-sides .ensures) (args .run) (args .words .now) (c .before .before .check-record .ensures)) (code-refused (c .before .before .check-record .result) (c .before .code .ensures) (c .if1 .taken))
 
 mark-requires : tie.Need-mark-requires
 mark-requires c κs =
     let args = c .before .before .before .before .before .before .before .args in
     let check-sides = c .before .before .before .check-sides in
-    let read = columns-answers (args .y) (args .columns) (args .a .now) (args .b .now) (check-sides .ensures) (args .words .now) (c .before .before .check-record .ensures) in
-    let known = columns-done (args .y) (args .columns) (args .a .now) (args .words .now) (args .b .now) (ap isDone (sym read) ∙ code-done (c .before .before .check-record .result) (c .before .code .ensures) (c .if1 .left)) in
+    let read = columns-answers (args .y) (args .columns) (args .a .now) (args .b .now) (check-sides .ensures) (args .run) (args .words .now) (c .before .before .check-record .ensures) in
+    let known = columns-done (args .y) (args .columns) (args .run) (args .a .now) (args .words .now) (args .b .now) (ap isDone (sym read) ∙ code-done (c .before .before .check-record .result) (c .before .code .ensures) (c .if1 .left)) in
     omega (arith, known .readable .accepted .sized .total)
 
 returns-2 : tie.Need-returns-2
@@ -41,19 +41,19 @@ returns-2 c =
     let check-sides = c .before .before .before .before .before .check-sides in
     let check-record = c .before .before .before .before .check-record in
     let code = c .before .before .before .code in
-    solve-done (args .y) (args .columns) (args .a .now) (args .words .now) (args .b .now) (columns-answers (args .y) (args .columns) (args .a .now) (args .b .now) (check-sides .ensures) (args .words .now) (check-record .ensures)) (code-done (check-record .result) (code .ensures) (c .before .before .if1 .left)) (c .before .mark .ensures) (c .if2 .taken)
+    solve-done (args .y) (args .columns) (args .run) (args .a .now) (args .words .now) (args .b .now) (columns-answers (args .y) (args .columns) (args .a .now) (args .b .now) (check-sides .ensures) (args .run) (args .words .now) (check-record .ensures)) (code-done (check-record .result) (code .ensures) (c .before .before .if1 .left)) (c .before .mark .ensures) (c .if2 .taken)
 
-sub-t11 : tie.Need-sub-t11
-sub-t11 c = search needs
+sub-t12 : tie.Need-sub-t12
+sub-t12 c = search needs
 
-cast-t12 : tie.Need-cast-t12
-cast-t12 c =
+cast-t13 : tie.Need-cast-t13
+cast-t13 c =
     let args = c .before .before .before .before .before .before .before .before .before .args in
     let check-sides = c .before .before .before .before .before .check-sides in
     let check-record = c .before .before .before .before .check-record in
     let code = c .before .before .before .code in
-    let read = columns-answers (args .y) (args .columns) (args .a .now) (args .b .now) (check-sides .ensures) (args .words .now) (check-record .ensures) in
-    let known = columns-done (args .y) (args .columns) (args .a .now) (args .words .now) (args .b .now) (ap isDone (sym read) ∙ code-done (check-record .result) (code .ensures) (c .before .before .if1 .left)) in
+    let read = columns-answers (args .y) (args .columns) (args .a .now) (args .b .now) (check-sides .ensures) (args .run) (args .words .now) (check-record .ensures) in
+    let known = columns-done (args .y) (args .columns) (args .run) (args .a .now) (args .words .now) (args .b .now) (ap isDone (sym read) ∙ code-done (check-record .result) (code .ensures) (c .before .before .if1 .left)) in
     let marked = mark-row (known .readable .accepted) (λ e. c .if2 .left (c .before .mark .ensures ∙ e)) in
     omega (arith, known .readable .accepted .sized .order, marked .passed, c .before .mark .ensures)
 
@@ -63,7 +63,7 @@ returns-3 c =
     let check-sides = c .before .before .before .before .before .check-sides in
     let check-record = c .before .before .before .before .check-record in
     let code = c .before .before .before .code in
-    solve-marked (args .y) (args .columns) (args .a .now) (args .words .now) (args .b .now) (columns-answers (args .y) (args .columns) (args .a .now) (args .b .now) (check-sides .ensures) (args .words .now) (check-record .ensures)) (code-done (check-record .result) (code .ensures) (c .before .before .if1 .left)) (c .before .mark .ensures) (c .if2 .left)
+    solve-marked (args .y) (args .columns) (args .run) (args .a .now) (args .words .now) (args .b .now) (columns-answers (args .y) (args .columns) (args .a .now) (args .b .now) (check-sides .ensures) (args .run) (args .words .now) (check-record .ensures)) (code-done (check-record .result) (code .ensures) (c .before .before .if1 .left)) (c .before .mark .ensures) (c .if2 .left)
 
 pub check-spec : {M : Type 1} → statement M
 check-spec =
@@ -75,6 +75,6 @@ check-spec =
     returns
     mark-requires
     returns-2
-    sub-t11
-    cast-t12
+    sub-t12
+    cast-t13
     returns-3)

@@ -27,7 +27,7 @@ solve-requires : tie.Need-solve-requires
 solve-requires c κs =
     let given = c .before .before .before .before .before .before .before .before .before in
     let full-step = c .before .before .before .before .before .full in
-    let known = solver-admitted (full (given .args .n)) (given .args .columns) (given .args .a .now) (given .args .words .now) (given .args .b .now) (rw (full-step .ensures) at (c .before .before .before .check .ensures)) (code-done (c .before .before .before .check .result) (c .before .before .code .ensures) (c .before .if1 .left)) in
+    let known = solver-admitted (full (given .args .n)) (given .args .columns) (given .args .run) (given .args .a .now) (given .args .words .now) (given .args .b .now) (rw (full-step .ensures) at (c .before .before .before .check .ensures)) (code-done (c .before .before .before .check .result) (c .before .before .code .ensures) (c .before .if1 .left)) in
     rw (full-step .ensures) (known .readable, record { few = known .few; long = known .long })
 
 same-length-2 : tie.Need-same-length-2

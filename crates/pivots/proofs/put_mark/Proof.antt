@@ -1,4 +1,4 @@
--- `put_mark` writes the last word.
+-- `put_mark` writes the word after the pairs.
 use Rattle.pivots.specs.Words.{marked}
 use borrow.Author.Needs.{needs}
 use Rattle.pivots.proofs.put_mark.Statement.{statement}
