@@ -20,9 +20,9 @@
  * Nothing else is asked: sizes, lengths and contents that do not fit are refused by a number, and every double is a content,
  * infinities and NaN too. A call keeps nothing after it returns, takes no memory of its own but stack, and ends.
  *
- * ANSWERS. An answer is code * 4096 + place; 0 is done. The checks 1 to 6 run in the order of the codes, and the first that
- * fails is the answer; every buffer is then as it was. Cholesky and UDU go on from there column by column, UDU from the last
- * one back, and the first diagonal that fails gives its code.
+ * ANSWERS. An answer is code * 4096 + place; 0 is done. The checks 1 to 5, then 13, then 6 run in that order, and the first
+ * that fails is the answer; every buffer is then as it was. Cholesky and UDU go on from there column by column, UDU from the
+ * last one back, and the first diagonal that fails gives its code.
  *
  *   code                             given exactly if                                          place
  *   0  URGYELPAT_DONE                the result stands in the buffers                          0
@@ -40,6 +40,7 @@
  *   8  URGYELPAT_ZERO_DIAGONAL       UDU: that diagonal is zero                                its column j
  *   10 URGYELPAT_CHOLESKY_BELOW_ZERO Cholesky: that diagonal is below zero, -infinity too      its column j
  *   11 URGYELPAT_CHOLESKY_NAN        Cholesky: that diagonal is NaN                            its column j
+ *   13 URGYELPAT_OTHER_RUN           the pivot record has another run number than expected     0
  *
  * Cholesky judges a diagonal once it is updated by the columns before it; exactly one of "passes", 7, 10 and 11 fits it. A NaN
  * on the diagonal of a row that is handed in, or left of it, is never accepted: where the sizes fit, that row is refused by 11,
@@ -80,6 +81,7 @@ extern "C" {
 #define URGYELPAT_ZERO_DIAGONAL 8u
 #define URGYELPAT_CHOLESKY_BELOW_ZERO 10u
 #define URGYELPAT_CHOLESKY_NAN 11u
+#define URGYELPAT_OTHER_RUN 13u
 
 /* The code of an answer, and its place. */
 static inline uint32_t urgyelpat_code(uint64_t answer) { return (uint32_t)(answer / 4096u); }
@@ -93,33 +95,39 @@ typedef struct urgyelpat_determined {
 
 /* ---- LBLT: P A P^T = L D L^T on paper, by Bunch and Kaufman's pivoting ----
  *
- * The pivot record has 2n + 1 words: for each row the index and the size (1 or 2) of its pivot, then the mark, 0 or marked
- * row + 1. A factor call writes it, and the calls that read the factor check its rule. Block by block from row 0 on: a block
- * of size 1 at row k has an index in k..n-1; one of size 2 needs k + 1 < n, an index in k+1..n-1 and the same pair at k + 1.
- * The mark is 0, or names a row of size 1 whose index is that row: where there is no pivot, nothing is exchanged. A record that
- * breaks the rule is refused by 5, at its first row that does, or at n if its mark alone does. One that keeps it, though damaged
- * or of another matrix, is not noticed: keep a factor and its record together.
+ * The pivot record has 2n + 2 words: for each row the index and the size (1 or 2) of its pivot, then the mark, 0 or marked
+ * row + 1, then the run number. A factor call writes it, and the calls that read the factor check its rule. Block by block from
+ * row 0 on: a block of size 1 at row k has an index in k..n-1; one of size 2 needs k + 1 < n, an index in k+1..n-1 and the same
+ * pair at k + 1. The mark is 0, or names a row of size 1 whose index is that row: where there is no pivot, nothing is exchanged.
+ * A record that breaks the rule is refused by 5, at its first row that does, or at n if its mark alone does.
+ *
+ * The run number is the caller's: any number that is given to the factor call, as its last argument, stands in the record from
+ * then on. A call that reads the factor is given the number that it expects, as its last argument, and a record that keeps the
+ * rule but has another number is refused by 13. Give each run (a day, a patient, a sheet) a number of its own, and yesterday's
+ * record is refused today. A record of the number that is expected and that keeps the rule, though damaged or of another matrix,
+ * is not noticed: keep a factor and its record together.
  *
  * The rows of the factor are not in the order in which they came: for a block of size s from row k on, the row that the index
  * names was exchanged with row k + s - 1. */
 
-/* Factors the lower part of a (n*n numbers) in place, and writes its record (2n + 1 words).
+/* Factors the lower part of a (n*n numbers) in place, and writes its record (2n + 2 words), with `run` at its end.
  * Where the diagonal and the largest number below it are both zero in size, or one is zero and the other NaN (the largest is
  * NaN where the first number below is), there is no pivot: the column is passed over, and the first such row is marked. Below
  * the last row there is nothing, which counts as zero, so a NaN alone on the last diagonal is marked ([NaN]). With a NaN or
  * infinity among the numbers the mark is often the last row, wherever that number stands ([NaN / 1 2]: row 1). The call is done
  * all the same, and only a solve refuses the mark.
  * Answers 0, 1, 3 (a), 4 (record). */
-URGYELPAT_MUST_USE uint64_t urgyelpat_lblt_factor(double *a, size_t a_length, uint32_t *record, size_t record_length, size_t n);
+URGYELPAT_MUST_USE uint64_t urgyelpat_lblt_factor(double *a, size_t a_length, uint32_t *record, size_t record_length, size_t n,
+                                                  uint32_t run);
 
 /* Solves A X = B in b (n*columns numbers, column by column) by a factor and its record.
  * After 6 look first for NaN or infinite numbers in all rows of A.
- * Answers 0, 1, 3 (a), 4 (record or b), 5, 6 (its place is a row of the factor; urgyelpat_callers_row gives yours). */
+ * Answers 0, 1, 3 (a), 4 (record or b), 5, 13, 6 (its place is a row of the factor; urgyelpat_callers_row gives yours). */
 URGYELPAT_MUST_USE uint64_t urgyelpat_lblt_solve(const double *a, size_t a_length, const uint32_t *record, size_t record_length,
-                                                 double *b, size_t b_length, size_t n, size_t columns);
+                                                 double *b, size_t b_length, size_t n, size_t columns, uint32_t run);
 
 /* The row of the given matrix that stands at a row of the factor: the exchanges of the record, taken back from the last to the
- * first. ([1 / 2 4]: row 1 is marked, and it is row 0 as given.) record has the 2n + 1 words that a factor call of order n
+ * first. ([1 / 2 4]: row 1 is marked, and it is row 0 as given.) record has the 2n + 2 words that a factor call of order n
  * wrote. */
 static inline size_t urgyelpat_callers_row(const uint32_t *record, size_t n, size_t row)
 {
@@ -133,19 +141,19 @@ static inline size_t urgyelpat_callers_row(const uint32_t *record, size_t n, siz
 }
 
 /* The determinant by a factor and its record; 1 for order 0. A marked record is accepted.
- * Answers 0, 1, 3 (a), 4 (record), 5. */
+ * Answers 0, 1, 3 (a), 4 (record), 5, 13. */
 URGYELPAT_MUST_USE urgyelpat_determined urgyelpat_lblt_determinant(const double *a, size_t a_length, const uint32_t *record,
-                                                                   size_t record_length, size_t n);
+                                                                   size_t record_length, size_t n, uint32_t run);
 
 /* Fills d (n*n numbers) with the block diagonal matrix of a factor, zeros beside the blocks. A marked record is accepted.
- * Answers 0, 1, 3 (a), 4 (record or d), 5. */
+ * Answers 0, 1, 3 (a), 4 (record or d), 5, 13. */
 URGYELPAT_MUST_USE uint64_t urgyelpat_lblt_d(const double *a, size_t a_length, const uint32_t *record, size_t record_length,
-                                             double *d, size_t d_length, size_t n);
+                                             double *d, size_t d_length, size_t n, uint32_t run);
 
 /* Fills l (n*n numbers) with P^T L; on paper the factored matrix is l d l^T. A marked record is accepted.
- * Answers 0, 1, 3 (a), 4 (record or l), 5. */
+ * Answers 0, 1, 3 (a), 4 (record or l), 5, 13. */
 URGYELPAT_MUST_USE uint64_t urgyelpat_lblt_l_permuted(const double *a, size_t a_length, const uint32_t *record,
-                                                      size_t record_length, double *l, size_t l_length, size_t n);
+                                                      size_t record_length, double *l, size_t l_length, size_t n, uint32_t run);
 
 /* ---- Cholesky: A = L L^T on paper, in a room, row batch by row batch ---- */
 

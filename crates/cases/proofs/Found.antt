@@ -34,17 +34,17 @@ use Rattle.matrix.specs.Rounded.{plusZero}
 
 -- ---- LBLT's factor
 
-module _ (n : ℕ) (a : List Float) (words : List ℕ) where
+module _ (n run : ℕ) (a : List Float) (words : List ℕ) where
   abbrev pub lbltAnswer : Answer
   lbltAnswer = tested (factorTests (full n) a words) Done
 
   unfoldable pub lbltWords : List ℕ
-  lbltWords = cond (isDone lbltAnswer) (recorded n (load (lower (full n)) a) words) words
+  lbltWords = cond (isDone lbltAnswer) (recorded n run (load (lower (full n)) a) words) words
 
   unfoldable pub lbltSlice : List Float
   lbltSlice = cond (isDone lbltAnswer) (overlaid (full n) a (finalState n (load (lower (full n)) a) words .matrix)) a
 
-  pub factors : {r : Answer} {a' : List Float} {words' : List ℕ} → Factored (full n) a words r a' words' → Same r lbltAnswer a' lbltSlice words' lbltWords
+  pub factors : {r : Answer} {a' : List Float} {words' : List ℕ} → Factored (full n) run a words r a' words' → Same r lbltAnswer a' lbltSlice words' lbltWords
   unfolding lbltWords lbltSlice
   factors {r} {a'} {words'} f = at (isDone r) refl
     where
@@ -61,22 +61,22 @@ module _ (n : ℕ) (a : List Float) (words : List ℕ) where
 
 -- ---- LBLT's readers
 
-module _ (n : ℕ) (a : List Float) (words : List ℕ) where
+module _ (n run : ℕ) (a : List Float) (words : List ℕ) where
   unfoldable pub determinantNumbers : List (List ℕ)
   determinantNumbers =
-      let r = tested (readerTests (full n) a words) Done in
+      let r = tested (readerTests (full n) run a words) Done in
       answered r ∷ (toBits binary64 (cond (isDone r) (determinantOf n (load (lower (full n)) a) words) plusZero) ∷ []) ∷ []
 
-  pub determines : {v : Valued} → LbltDetermined (full n) a words v → (answered (v .answer) ∷ (toBits binary64 (v .value) ∷ []) ∷ []) ≡ determinantNumbers
+  pub determines : {v : Valued} → LbltDetermined (full n) run a words v → (answered (v .answer) ∷ (toBits binary64 (v .value) ∷ []) ∷ []) ≡ determinantNumbers
   unfolding determinantNumbers
   determines d = rw (d .value, d .answer)
 
   unfoldable pub solveNumbers : List Float → List (List ℕ)
   solveNumbers b =
-      let r = tested (solveTests (full n) 1 a words b) Done in
+      let r = tested (solveTests (full n) 1 run a words b) Done in
       answered r ∷ bitsOf (cond (isDone r) (eachColumn n 1 (solveColumn n (load (lower (full n)) a) words) b) b) ∷ []
 
-  pub solves : {b b' : List Float} {r : Answer} → LbltSolved (full n) 1 a words b r b' → (answered r ∷ bitsOf b' ∷ []) ≡ solveNumbers b
+  pub solves : {b b' : List Float} {r : Answer} → LbltSolved (full n) 1 run a words b r b' → (answered r ∷ bitsOf b' ∷ []) ≡ solveNumbers b
   unfolding solveNumbers
   solves s = rw (s .sides, s .answer)
 
@@ -134,20 +134,20 @@ module _ (n : ℕ) (p u₀ d₀ : List Float) where
 -- ---- what each call gives
 
 -- what LBLT's factor leaves
-abbrev pub leftSlice : ℕ → List ℕ → List Float
-leftSlice n a = lbltSlice n (floats a) (lentWords n)
+abbrev pub leftSlice : ℕ → ℕ → List ℕ → List Float
+leftSlice n run a = lbltSlice n run (floats a) (lentWords n)
 
-abbrev pub leftWords : ℕ → List ℕ → List ℕ
-leftWords n a = lbltWords n (floats a) (lentWords n)
+abbrev pub leftWords : ℕ → ℕ → List ℕ → List ℕ
+leftWords n run a = lbltWords n run (floats a) (lentWords n)
 
 abbrev pub found : Call → List (List ℕ)
-found (lbltFactor n a) = answered (lbltAnswer n (floats a) (lentWords n)) ∷ leftWords n a ∷ bitsOf (leftSlice n a) ∷ []
-found (lbltDeterminant n a) = determinantNumbers n (leftSlice n a) (leftWords n a)
-found (lbltSolve n a b) = solveNumbers n (leftSlice n a) (leftWords n a) (floats b)
-found (lbltReaders n words) =
+found (lbltFactor n run a) = answered (lbltAnswer n run (floats a) (lentWords n)) ∷ leftWords n run a ∷ bitsOf (leftSlice n run a) ∷ []
+found (lbltDeterminant n run expected a) = determinantNumbers n expected (leftSlice n run a) (leftWords n run a)
+found (lbltSolve n run expected a b) = solveNumbers n expected (leftSlice n run a) (leftWords n run a) (floats b)
+found (lbltReaders n expected words) =
     let matrix = lentFloats (n * n) in
-    let filled = answered (tested (columnTests (full n) n matrix words matrix) Done) in
-    answered (tested (solveTests (full n) 1 matrix words (lentFloats n)) Done) ∷ answered (tested (readerTests (full n) matrix words) Done) ∷ filled ∷ filled ∷ []
+    let filled = answered (tested (columnTests (full n) n expected matrix words matrix) Done) in
+    answered (tested (solveTests (full n) 1 expected matrix words (lentFloats n)) Done) ∷ answered (tested (readerTests (full n) expected matrix words) Done) ∷ filled ∷ filled ∷ []
 found (lbltLargest n a k) = (columnMax n (load (lower (full n)) (floats a)) k .imax ∷ []) ∷ []
 found (choleskyFactor room n a) = answered (choleskyAnswer room n (floats a)) ∷ bitsOf (choleskySlice room n (floats a)) ∷ []
 found (choleskySolve room n a b) = choleskySolveNumbers room n (choleskySlice room n (floats a)) (floats b)
@@ -156,16 +156,16 @@ found (uduFactor n p) = uduNumbers n (floats p) (lentFloats (n * n)) (lentFloats
 found (root x) = (toBits binary64 (rootOf (ofBits binary64 x)) ∷ []) ∷ []
 
 pub gives : (c : Call) → Gives c (found c)
-gives (lbltFactor n a) = λ r a' words f. let g = factors n (floats a) (lentWords n) f in rw (g .answer, g .pivots, g .matrix)
-gives (lbltDeterminant n a) = λ r a' words v f d.
-    let g = factors n (floats a) (lentWords n) f in
-    let by : LbltDetermined (full n) (leftSlice n a) (leftWords n a) v = rw (g .matrix, g .pivots) at d in
-    determines n (leftSlice n a) (leftWords n a) by
-gives (lbltSolve n a b) = λ r s a' b' words f d.
-    let g = factors n (floats a) (lentWords n) f in
-    let by : LbltSolved (full n) 1 (leftSlice n a) (leftWords n a) (floats b) s b' = rw (g .matrix, g .pivots) at d in
-    solves n (leftSlice n a) (leftWords n a) by
-gives (lbltReaders n words) = λ r s t v a b b' d d' l l' long-a long-b long-d long-l solved determined d-filled l-filled.
+gives (lbltFactor n run a) = λ r a' words f. let g = factors n run (floats a) (lentWords n) f in rw (g .answer, g .pivots, g .matrix)
+gives (lbltDeterminant n run expected a) = λ r a' words v f d.
+    let g = factors n run (floats a) (lentWords n) f in
+    let by : LbltDetermined (full n) expected (leftSlice n run a) (leftWords n run a) v = rw (g .matrix, g .pivots) at d in
+    determines n expected (leftSlice n run a) (leftWords n run a) by
+gives (lbltSolve n run expected a b) = λ r s a' b' words f d.
+    let g = factors n run (floats a) (lentWords n) f in
+    let by : LbltSolved (full n) 1 expected (leftSlice n run a) (leftWords n run a) (floats b) s b' = rw (g .matrix, g .pivots) at d in
+    solves n expected (leftSlice n run a) (leftWords n run a) by
+gives (lbltReaders n expected words) = λ r s t v a b b' d d' l l' long-a long-b long-d long-l solved determined d-filled l-filled.
     rw (solved .answer, determined .answer, d-filled .answer, l-filled .answer, long-a, long-b, long-d, long-l, length-replicate (n * n) (ofBits binary64 stray), length-replicate n (ofBits binary64 stray))
 gives (lbltLargest n a k) = λ r e. rw e
 gives (choleskyFactor room n a) = λ r l f. let g = extends room n (floats a) f in rw (g .0, g .1)

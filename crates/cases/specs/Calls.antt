@@ -45,12 +45,12 @@ lentWords n = replicate (wordsOf n) 99
 abbrev pub lentFloats : ℕ → List Float
 lentFloats count = replicate count (ofBits binary64 stray)
 
--- a is the slice that is factored, of order n; b is one right-hand side
+-- a is the slice that is factored, of order n, with the number `run`; b is one right-hand side; a reader of LBLT's factor expects the number `expected`
 pub data Call : Type 0 where
-  lbltFactor : (n : ℕ) (a : List ℕ) → Call
-  lbltDeterminant : (n : ℕ) (a : List ℕ) → Call
-  lbltSolve : (n : ℕ) (a b : List ℕ) → Call
-  lbltReaders : (n : ℕ) (words : List ℕ) → Call
+  lbltFactor : (n run : ℕ) (a : List ℕ) → Call
+  lbltDeterminant : (n run expected : ℕ) (a : List ℕ) → Call
+  lbltSolve : (n run expected : ℕ) (a b : List ℕ) → Call
+  lbltReaders : (n expected : ℕ) (words : List ℕ) → Call
   lbltLargest : (n : ℕ) (a : List ℕ) (k : ℕ) → Call
   choleskyFactor : (room n : ℕ) (a : List ℕ) → Call
   choleskySolve : (room n : ℕ) (a b : List ℕ) → Call
@@ -60,23 +60,23 @@ pub data Call : Type 0 where
 
 abbrev pub Gives : Call → List (List ℕ) → Type 0
 -- the answer, the record, the slice
-Gives (lbltFactor n a) numbers =
-    (r : Answer) (a' : List Float) (words : List ℕ) → Factored (full n) (floats a) (lentWords n) r a' words
+Gives (lbltFactor n run a) numbers =
+    (r : Answer) (a' : List Float) (words : List ℕ) → Factored (full n) run (floats a) (lentWords n) r a' words
     → (answered r ∷ words ∷ bitsOf a' ∷ []) ≡ numbers
 -- by what the factor leaves: the answer, the value
-Gives (lbltDeterminant n a) numbers =
-    (r : Answer) (a' : List Float) (words : List ℕ) (v : Valued) → Factored (full n) (floats a) (lentWords n) r a' words → LbltDetermined (full n) a' words v
+Gives (lbltDeterminant n run expected a) numbers =
+    (r : Answer) (a' : List Float) (words : List ℕ) (v : Valued) → Factored (full n) run (floats a) (lentWords n) r a' words → LbltDetermined (full n) expected a' words v
     → (answered (v .answer) ∷ (toBits binary64 (v .value) ∷ []) ∷ []) ≡ numbers
 -- by what the factor leaves: the answer, the right-hand side
-Gives (lbltSolve n a b) numbers =
-    (r s : Answer) (a' b' : List Float) (words : List ℕ) → Factored (full n) (floats a) (lentWords n) r a' words → LbltSolved (full n) 1 a' words (floats b) s b'
+Gives (lbltSolve n run expected a b) numbers =
+    (r s : Answer) (a' b' : List Float) (words : List ℕ) → Factored (full n) run (floats a) (lentWords n) r a' words → LbltSolved (full n) 1 expected a' words (floats b) s b'
     → (answered s ∷ bitsOf b' ∷ []) ≡ numbers
 -- by these words as the record, whatever numbers are lent in slices that fit: what solve, determinant, d and l_permuted answer
-Gives (lbltReaders n words) numbers =
+Gives (lbltReaders n expected words) numbers =
     (r s t : Answer) (v : Valued) (a b b' d d' l l' : List Float) → length a ≡ n * n → length b ≡ n → length d ≡ n * n → length l ≡ n * n
-    → LbltSolved (full n) 1 a words b r b' → LbltDetermined (full n) a words v
-    → LbltFilled (full n) a words (dOf n (load (lower (full n)) a) words) d s d'
-    → LbltFilled (full n) a words (lPermutedOf n (load (lower (full n)) a) words) l t l'
+    → LbltSolved (full n) 1 expected a words b r b' → LbltDetermined (full n) expected a words v
+    → LbltFilled (full n) expected a words (dOf n (load (lower (full n)) a) words) d s d'
+    → LbltFilled (full n) expected a words (lPermutedOf n (load (lower (full n)) a) words) l t l'
     → (answered r ∷ answered (v .answer) ∷ answered s ∷ answered t ∷ []) ≡ numbers
 -- the row imax of column k
 Gives (lbltLargest n a k) numbers = (r : Largest) → r ≡ columnMax n (load (lower (full n)) (floats a)) k → ((r .imax ∷ []) ∷ []) ≡ numbers

@@ -1,4 +1,4 @@
--- Document 01's starred cases, those of Cholesky's solve, of the codes of a diagonal and of the row that a mark names, and one of a mark after an interchange.
+-- Document 01's starred cases, those of Cholesky's solve, of the codes of a diagonal, of the row that a mark names and of the run number, and one of a mark after an interchange.
 use mathlib.Core.List.{List, [], _∷_}
 use Prim.Native.Nat.{ℕ}
 use Rattle.cases.specs.Bits as bits
@@ -13,36 +13,44 @@ abbrev pub refused : ℕ → ℕ → List ℕ
 refused code place = code ∷ place ∷ []
 
 -- A case is a call and, after the arrow, what it gives (`Gives`): code and place, then the lent slices as they are left; or a number.
--- A record is index and size of each row, then the mark: 0, or the marked row + 1. Comments give a matrix by its lower rows.
+-- A record is index and size of each row, the mark (0, or the marked row + 1), the run number. Comments give a matrix by its lower rows.
 abbrev pub table : List Case
 table =
     -- [0 / 1 0]: pivots (1,2), (1,2), determinant −1; (3, 5) solves to (5, 3)
-    (lbltFactor 2 (bits.zero ∷ bits.one ∷ stray ∷ bits.zero ∷ []) ⇒ done ∷ (1 ∷ 2 ∷ 1 ∷ 2 ∷ 0 ∷ []) ∷ (bits.zero ∷ bits.one ∷ stray ∷ bits.zero ∷ []) ∷ [])
-    ∷ (lbltDeterminant 2 (bits.zero ∷ bits.one ∷ stray ∷ bits.zero ∷ []) ⇒ done ∷ (bits.minusOne ∷ []) ∷ [])
-    ∷ (lbltSolve 2 (bits.zero ∷ bits.one ∷ stray ∷ bits.zero ∷ []) (bits.three ∷ bits.five ∷ []) ⇒ done ∷ (bits.five ∷ bits.three ∷ []) ∷ [])
+    (lbltFactor 2 7 (bits.zero ∷ bits.one ∷ stray ∷ bits.zero ∷ []) ⇒ done ∷ (1 ∷ 2 ∷ 1 ∷ 2 ∷ 0 ∷ 7 ∷ []) ∷ (bits.zero ∷ bits.one ∷ stray ∷ bits.zero ∷ []) ∷ [])
+    ∷ (lbltDeterminant 2 7 7 (bits.zero ∷ bits.one ∷ stray ∷ bits.zero ∷ []) ⇒ done ∷ (bits.minusOne ∷ []) ∷ [])
+    ∷ (lbltSolve 2 7 7 (bits.zero ∷ bits.one ∷ stray ∷ bits.zero ∷ []) (bits.three ∷ bits.five ∷ []) ⇒ done ∷ (bits.five ∷ bits.three ∷ []) ∷ [])
     -- [0 / 1 4]: pivots (1,1), (1,1), factor [4 / 0.25 −0.25]
-    ∷ (lbltFactor 2 (bits.zero ∷ bits.one ∷ stray ∷ bits.four ∷ []) ⇒ done ∷ (1 ∷ 1 ∷ 1 ∷ 1 ∷ 0 ∷ []) ∷ (bits.four ∷ bits.quarter ∷ stray ∷ bits.minusQuarter ∷ []) ∷ [])
+    ∷ (lbltFactor 2 7 (bits.zero ∷ bits.one ∷ stray ∷ bits.four ∷ []) ⇒ done ∷ (1 ∷ 1 ∷ 1 ∷ 1 ∷ 0 ∷ 7 ∷ []) ∷ (bits.four ∷ bits.quarter ∷ stray ∷ bits.minusQuarter ∷ []) ∷ [])
     -- [1 / 2 4]: pivots (1,1), (1,1), factor [4 / 0.5 0]; the mark is row 1 of the factor, where the interchange put the caller's row 0
-    ∷ (lbltFactor 2 (bits.one ∷ bits.two ∷ stray ∷ bits.four ∷ []) ⇒ done ∷ (1 ∷ 1 ∷ 1 ∷ 1 ∷ 2 ∷ []) ∷ (bits.four ∷ bits.half ∷ stray ∷ bits.zero ∷ []) ∷ [])
-    ∷ (lbltSolve 2 (bits.one ∷ bits.two ∷ stray ∷ bits.four ∷ []) (bits.one ∷ bits.two ∷ []) ⇒ refused 6 1 ∷ (bits.one ∷ bits.two ∷ []) ∷ [])
+    ∷ (lbltFactor 2 7 (bits.one ∷ bits.two ∷ stray ∷ bits.four ∷ []) ⇒ done ∷ (1 ∷ 1 ∷ 1 ∷ 1 ∷ 2 ∷ 7 ∷ []) ∷ (bits.four ∷ bits.half ∷ stray ∷ bits.zero ∷ []) ∷ [])
+    ∷ (lbltSolve 2 7 7 (bits.one ∷ bits.two ∷ stray ∷ bits.four ∷ []) (bits.one ∷ bits.two ∷ []) ⇒ refused 6 1 ∷ (bits.one ∷ bits.two ∷ []) ∷ [])
     -- [0 / NaN 5]: mark row 0, pivots (0,1), (1,1); solve gives 6
-    ∷ (lbltFactor 2 (bits.zero ∷ bits.nan ∷ stray ∷ bits.five ∷ []) ⇒ done ∷ (0 ∷ 1 ∷ 1 ∷ 1 ∷ 1 ∷ []) ∷ (bits.zero ∷ bits.nan ∷ stray ∷ bits.five ∷ []) ∷ [])
-    ∷ (lbltSolve 2 (bits.zero ∷ bits.nan ∷ stray ∷ bits.five ∷ []) (bits.one ∷ bits.two ∷ []) ⇒ refused 6 0 ∷ (bits.one ∷ bits.two ∷ []) ∷ [])
+    ∷ (lbltFactor 2 7 (bits.zero ∷ bits.nan ∷ stray ∷ bits.five ∷ []) ⇒ done ∷ (0 ∷ 1 ∷ 1 ∷ 1 ∷ 1 ∷ 7 ∷ []) ∷ (bits.zero ∷ bits.nan ∷ stray ∷ bits.five ∷ []) ∷ [])
+    ∷ (lbltSolve 2 7 7 (bits.zero ∷ bits.nan ∷ stray ∷ bits.five ∷ []) (bits.one ∷ bits.two ∷ []) ⇒ refused 6 0 ∷ (bits.one ∷ bits.two ∷ []) ∷ [])
     -- [NaN]: mark row 0
-    ∷ (lbltFactor 1 (bits.nan ∷ []) ⇒ done ∷ (0 ∷ 1 ∷ 1 ∷ []) ∷ (bits.nan ∷ []) ∷ [])
+    ∷ (lbltFactor 1 7 (bits.nan ∷ []) ⇒ done ∷ (0 ∷ 1 ∷ 1 ∷ 7 ∷ []) ∷ (bits.nan ∷ []) ∷ [])
     -- a mark on a row of size 1 whose index is another, or on a row of a block of two: code 5 at n from every reader.
     -- On a row of size 1 whose index is that row: solve alone refuses, by code 6
-    ∷ (lbltReaders 2 (1 ∷ 1 ∷ 1 ∷ 1 ∷ 1 ∷ []) ⇒ refused 5 2 ∷ refused 5 2 ∷ refused 5 2 ∷ refused 5 2 ∷ [])
-    ∷ (lbltReaders 3 (0 ∷ 1 ∷ 2 ∷ 1 ∷ 2 ∷ 1 ∷ 2 ∷ []) ⇒ refused 5 3 ∷ refused 5 3 ∷ refused 5 3 ∷ refused 5 3 ∷ [])
-    ∷ (lbltReaders 2 (1 ∷ 2 ∷ 1 ∷ 2 ∷ 2 ∷ []) ⇒ refused 5 2 ∷ refused 5 2 ∷ refused 5 2 ∷ refused 5 2 ∷ [])
-    ∷ (lbltReaders 2 (1 ∷ 1 ∷ 1 ∷ 1 ∷ 2 ∷ []) ⇒ refused 6 1 ∷ done ∷ done ∷ done ∷ [])
+    ∷ (lbltReaders 2 7 (1 ∷ 1 ∷ 1 ∷ 1 ∷ 1 ∷ 7 ∷ []) ⇒ refused 5 2 ∷ refused 5 2 ∷ refused 5 2 ∷ refused 5 2 ∷ [])
+    ∷ (lbltReaders 3 7 (0 ∷ 1 ∷ 2 ∷ 1 ∷ 2 ∷ 1 ∷ 2 ∷ 7 ∷ []) ⇒ refused 5 3 ∷ refused 5 3 ∷ refused 5 3 ∷ refused 5 3 ∷ [])
+    ∷ (lbltReaders 2 7 (1 ∷ 2 ∷ 1 ∷ 2 ∷ 2 ∷ 7 ∷ []) ⇒ refused 5 2 ∷ refused 5 2 ∷ refused 5 2 ∷ refused 5 2 ∷ [])
+    ∷ (lbltReaders 2 7 (1 ∷ 1 ∷ 1 ∷ 1 ∷ 2 ∷ 7 ∷ []) ⇒ refused 6 1 ∷ done ∷ done ∷ done ∷ [])
+    -- made with run 7 and asked for run 8: code 13, the right-hand side as given, the determinant +0. A marked record gets it from every reader,
+    -- one that breaks the rule gets code 5. Of order 0, made with the largest number
+    ∷ (lbltSolve 2 7 8 (bits.zero ∷ bits.one ∷ stray ∷ bits.zero ∷ []) (bits.three ∷ bits.five ∷ []) ⇒ refused 13 0 ∷ (bits.three ∷ bits.five ∷ []) ∷ [])
+    ∷ (lbltDeterminant 2 7 8 (bits.zero ∷ bits.one ∷ stray ∷ bits.zero ∷ []) ⇒ refused 13 0 ∷ (bits.zero ∷ []) ∷ [])
+    ∷ (lbltReaders 2 8 (1 ∷ 1 ∷ 1 ∷ 1 ∷ 2 ∷ 7 ∷ []) ⇒ refused 13 0 ∷ refused 13 0 ∷ refused 13 0 ∷ refused 13 0 ∷ [])
+    ∷ (lbltReaders 2 8 (1 ∷ 1 ∷ 1 ∷ 1 ∷ 1 ∷ 7 ∷ []) ⇒ refused 5 2 ∷ refused 5 2 ∷ refused 5 2 ∷ refused 5 2 ∷ [])
+    ∷ (lbltReaders 0 0 (0 ∷ 4294967295 ∷ []) ⇒ refused 13 0 ∷ refused 13 0 ∷ refused 13 0 ∷ refused 13 0 ∷ [])
+    ∷ (lbltReaders 0 4294967295 (0 ∷ 4294967295 ∷ []) ⇒ done ∷ done ∷ done ∷ done ∷ [])
     -- column 0, 3, −3: imax is 1, and so is the first pivot's index
     ∷ (lbltLargest 3 (bits.zero ∷ bits.three ∷ bits.minusThree ∷ stray ∷ bits.zero ∷ bits.zero ∷ stray ∷ stray ∷ bits.zero ∷ []) 0 ⇒ (1 ∷ []) ∷ [])
-    ∷ (lbltFactor 3 (bits.zero ∷ bits.three ∷ bits.minusThree ∷ stray ∷ bits.zero ∷ bits.zero ∷ stray ∷ stray ∷ bits.zero ∷ [])
-    ⇒ done ∷ (1 ∷ 2 ∷ 1 ∷ 2 ∷ 2 ∷ 1 ∷ 3 ∷ []) ∷ (bits.zero ∷ bits.three ∷ bits.zero ∷ stray ∷ bits.zero ∷ bits.minusOne ∷ stray ∷ stray ∷ bits.zero ∷ []) ∷ [])
+    ∷ (lbltFactor 3 7 (bits.zero ∷ bits.three ∷ bits.minusThree ∷ stray ∷ bits.zero ∷ bits.zero ∷ stray ∷ stray ∷ bits.zero ∷ [])
+    ⇒ done ∷ (1 ∷ 2 ∷ 1 ∷ 2 ∷ 2 ∷ 1 ∷ 3 ∷ 7 ∷ []) ∷ (bits.zero ∷ bits.three ∷ bits.zero ∷ stray ∷ bits.zero ∷ bits.minusOne ∷ stray ∷ stray ∷ bits.zero ∷ []) ∷ [])
     -- [0 / 2^−600 0 / 0 2^600 0]: the ratio underflows, so row 0 is a size 1 pivot on zero; the mark is row 2
-    ∷ (lbltFactor 3 (bits.zero ∷ bits.tiny ∷ bits.zero ∷ stray ∷ bits.zero ∷ bits.huge ∷ stray ∷ stray ∷ bits.zero ∷ [])
-    ⇒ done ∷ (0 ∷ 1 ∷ 1 ∷ 1 ∷ 2 ∷ 1 ∷ 3 ∷ []) ∷ (bits.zero ∷ bits.infinity ∷ bits.nan ∷ stray ∷ bits.minusInfinity ∷ bits.nan ∷ stray ∷ stray ∷ bits.nan ∷ []) ∷ [])
+    ∷ (lbltFactor 3 7 (bits.zero ∷ bits.tiny ∷ bits.zero ∷ stray ∷ bits.zero ∷ bits.huge ∷ stray ∷ stray ∷ bits.zero ∷ [])
+    ⇒ done ∷ (0 ∷ 1 ∷ 1 ∷ 1 ∷ 2 ∷ 1 ∷ 3 ∷ 7 ∷ []) ∷ (bits.zero ∷ bits.infinity ∷ bits.nan ∷ stray ∷ bits.minusInfinity ∷ bits.nan ∷ stray ∷ stray ∷ bits.nan ∷ []) ∷ [])
     -- Cholesky [4 / 2 5], in a room of 3: [2 / 1 2]; (8, 11) solves to (1.125, 1.75)
     ∷ (choleskyFactor 3 2 (bits.four ∷ bits.two ∷ stray ∷ stray ∷ bits.five ∷ stray ∷ stray ∷ stray ∷ stray ∷ [])
     ⇒ done ∷ (bits.two ∷ bits.one ∷ stray ∷ stray ∷ bits.two ∷ stray ∷ stray ∷ stray ∷ stray ∷ []) ∷ [])

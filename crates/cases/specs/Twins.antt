@@ -33,23 +33,23 @@ factoredOnce = cameTwice
 abbrev pub twinTable : List Case
 twinTable =
     -- x = 1
-    (lbltFactor 2 (twins bits.one) ⇒ done ∷ (0 ∷ 1 ∷ 1 ∷ 1 ∷ 2 ∷ []) ∷ (bits.one ∷ bits.one ∷ stray ∷ bits.zero ∷ []) ∷ [])
+    (lbltFactor 2 7 (twins bits.one) ⇒ done ∷ (0 ∷ 1 ∷ 1 ∷ 1 ∷ 2 ∷ 7 ∷ []) ∷ (bits.one ∷ bits.one ∷ stray ∷ bits.zero ∷ []) ∷ [])
     ∷ (choleskyFactor 2 2 (twins bits.one) ⇒ refused 7 1 ∷ (bits.one ∷ bits.one ∷ stray ∷ bits.zero ∷ []) ∷ [])
     ∷ (uduFactor 2 (twinsAbove bits.one) ⇒ refused 8 0 ∷ (bits.zero ∷ bits.zero ∷ bits.one ∷ bits.one ∷ []) ∷ (bits.zero ∷ bits.one ∷ []) ∷ [])
     -- x = 2
-    ∷ (lbltFactor 2 (twins bits.two) ⇒ done ∷ (0 ∷ 1 ∷ 1 ∷ 1 ∷ 2 ∷ []) ∷ (bits.two ∷ bits.one ∷ stray ∷ bits.zero ∷ []) ∷ [])
+    ∷ (lbltFactor 2 7 (twins bits.two) ⇒ done ∷ (0 ∷ 1 ∷ 1 ∷ 1 ∷ 2 ∷ 7 ∷ []) ∷ (bits.two ∷ bits.one ∷ stray ∷ bits.zero ∷ []) ∷ [])
     ∷ (choleskyFactor 2 2 (twins bits.two) ⇒ done ∷ (0x3ff6_a09e_667f_3bcd ∷ 0x3ff6_a09e_667f_3bcc ∷ stray ∷ 0x3e56_a09e_667f_3bcd ∷ []) ∷ [])
     ∷ (uduFactor 2 (twinsAbove bits.two) ⇒ refused 8 0 ∷ (bits.zero ∷ bits.zero ∷ bits.one ∷ bits.one ∷ []) ∷ (bits.zero ∷ bits.two ∷ []) ∷ [])
     -- x = 3
-    ∷ (lbltFactor 2 (twins bits.three) ⇒ done ∷ (0 ∷ 1 ∷ 1 ∷ 1 ∷ 2 ∷ []) ∷ (bits.three ∷ bits.one ∷ stray ∷ bits.zero ∷ []) ∷ [])
+    ∷ (lbltFactor 2 7 (twins bits.three) ⇒ done ∷ (0 ∷ 1 ∷ 1 ∷ 1 ∷ 2 ∷ 7 ∷ []) ∷ (bits.three ∷ bits.one ∷ stray ∷ bits.zero ∷ []) ∷ [])
     ∷ (choleskyFactor 2 2 (twins bits.three) ⇒ refused 10 1 ∷ (0x3ffb_b67a_e858_4caa ∷ 0x3ffb_b67a_e858_4cab ∷ stray ∷ 0xbcc0_0000_0000_0000 ∷ []) ∷ [])
     ∷ (uduFactor 2 (twinsAbove bits.three) ⇒ refused 8 0 ∷ (bits.zero ∷ bits.zero ∷ bits.one ∷ bits.one ∷ []) ∷ (bits.zero ∷ bits.three ∷ []) ∷ [])
     -- x = 7
-    ∷ (lbltFactor 2 (twins bits.seven) ⇒ done ∷ (0 ∷ 1 ∷ 1 ∷ 1 ∷ 2 ∷ []) ∷ (bits.seven ∷ bits.one ∷ stray ∷ bits.zero ∷ []) ∷ [])
+    ∷ (lbltFactor 2 7 (twins bits.seven) ⇒ done ∷ (0 ∷ 1 ∷ 1 ∷ 1 ∷ 2 ∷ 7 ∷ []) ∷ (bits.seven ∷ bits.one ∷ stray ∷ bits.zero ∷ []) ∷ [])
     ∷ (choleskyFactor 2 2 (twins bits.seven) ⇒ done ∷ (0x4005_2a7f_a9d2_f8ea ∷ 0x4005_2a7f_a9d2_f8e9 ∷ stray ∷ 0x3e66_a09e_667f_3bcd ∷ []) ∷ [])
     ∷ (uduFactor 2 (twinsAbove bits.seven) ⇒ refused 8 0 ∷ (bits.zero ∷ bits.zero ∷ bits.one ∷ bits.one ∷ []) ∷ (bits.zero ∷ bits.seven ∷ []) ∷ [])
     -- x = 49
-    ∷ (lbltFactor 2 (twins bits.fortyNine) ⇒ done ∷ (0 ∷ 1 ∷ 1 ∷ 1 ∷ 0 ∷ []) ∷ (bits.fortyNine ∷ bits.belowOne ∷ stray ∷ 0x3d00_0000_0000_0000 ∷ []) ∷ [])
+    ∷ (lbltFactor 2 7 (twins bits.fortyNine) ⇒ done ∷ (0 ∷ 1 ∷ 1 ∷ 1 ∷ 0 ∷ 7 ∷ []) ∷ (bits.fortyNine ∷ bits.belowOne ∷ stray ∷ 0x3d00_0000_0000_0000 ∷ []) ∷ [])
     ∷ (choleskyFactor 2 2 (twins bits.fortyNine) ⇒ refused 7 1 ∷ (bits.seven ∷ bits.seven ∷ stray ∷ bits.zero ∷ []) ∷ [])
     ∷ (uduFactor 2 (twinsAbove bits.fortyNine) ⇒ done ∷ (bits.one ∷ bits.zero ∷ bits.belowOne ∷ bits.belowOne ∷ []) ∷ (0x3d10_0000_0000_0000 ∷ bits.fortyNine ∷ []) ∷ [])
     -- x = ∞, by Cholesky

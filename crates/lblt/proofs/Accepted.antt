@@ -1,4 +1,4 @@
--- The record that `factor` writes is accepted by the check, and its mark names a row of size 1 whose index is its own row.
+-- The record that `factor` writes is accepted by the check, its mark names a row of size 1 whose index is its own row, and its run number is the given one.
 -- Assumes nothing.
 use mathlib.Core.Path.{_≡_, refl, sym, _∙_, ap, subst}
 use mathlib.Core.Bool.{Bool, true, false, cond}
@@ -16,10 +16,10 @@ use Rattle.matrix.specs.Grid.{load}
 use Rattle.matrix.specs.Layouts.{lower}
 use Rattle.matrix.specs.declared.Layout.{Layout}
 use Rattle.answer.proofs.Tests.{either, eq-or-ne}
-use Rattle.pivots.specs.Words.{markAt, Sized, paired}
+use Rattle.pivots.specs.Words.{markAt, runAt, Sized, paired}
 use Rattle.pivots.specs.Rule.{Accepted}
 use Rattle.pivots.proofs.Boundaries.{Marks, mark-row}
-use Rattle.pivots.proofs.Written.{Written, written-none, written-one, written-two, written-zero, written-all}
+use Rattle.pivots.proofs.Written.{Written, written-none, written-one, written-two, written-zero, written-all, written-run}
 use Rattle.lblt_choice.specs.Choice.{choose}
 use Rattle.lblt.specs.Step.{State, firstMark, take, step, stepped}
 use Rattle.lblt.specs.Factor.{firstState, finalState, recorded, Factored}
@@ -64,6 +64,10 @@ module _ (n : ℕ) where
     unfolding recorded
     accepted run = written-all run written
 
+    pub recorded-run : (run : ℕ) → runAt n (recorded n run M words) ≡ run
+    unfolding recorded
+    recorded-run run = written-run run written
+
 -- of `factor`'s promise
 module _ {y : Layout} {run : ℕ} {a : List Float} {words : List ℕ} {r : Answer} {a' : List Float} {words' : List ℕ} (f : Factored y run a words r a' words') (done : isDone r ≡ true) where
   sized : Sized (y .order) words
@@ -74,3 +78,6 @@ module _ {y : Layout} {run : ℕ} {a : List Float} {words : List ℕ} {r : Answe
 
   pub factor-marks : (markAt (y .order) words' ≡ 0) ⊎ Marks words' (y .order) (markAt (y .order) words')
   factor-marks = ⊎-elim inl (λ set. inr (mark-row factor-accepted set)) (eq-or-ne (markAt (y .order) words') 0)
+
+  pub factor-run : runAt (y .order) words' ≡ run
+  factor-run = ap (runAt (y .order)) (f .left .done done .pivots) ∙ recorded-run (y .order) (load (lower y) a) words sized run

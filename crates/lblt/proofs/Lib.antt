@@ -4,3 +4,4 @@ pub mod Going
 pub mod Done
 pub mod Accepted
 pub mod Overwritten
+pub mod Runs

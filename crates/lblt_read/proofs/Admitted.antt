@@ -15,7 +15,6 @@ use Rattle.answer.specs.declared.Answer.{Answer}
 use Rattle.answer.specs.declared.Answer.the-variants.{Done, OutOfRange, SliceLength, OtherRun}
 use Rattle.answer.specs.Number.{isDone}
 use Rattle.answer.specs.Refusals.{Test, _otherwise_, tested}
-use Rattle.answer.proofs.Done.{done-is}
 use Rattle.answer.proofs.Tested.{Refusals, tested-all, tested-join, tested-fixed, tested-then, all-hold}
 use Rattle.matrix.specs.declared.Layout.{Layout}
 use Rattle.matrix.specs.Sizes.{sizeTests, Fits}
@@ -66,9 +65,9 @@ module _ (n run : ℕ) (words : List ℕ) where
       unfolding ofRun
       record-other other = sym (record-sound ∙ test-fails _ _ _ (ne-eqb (runAt n words) run other))
 
-      pub record-expected : runAt n words ≡ run → r ≡ tested (wordTests n run words) Done
+      pub record-expected : runAt n words ≡ run → Done ≡ tested (wordTests n run words) Done
       unfolding ofRun
-      record-expected same = done-is r done ∙ sym (record-sound ∙ tested-all (ofRun ∷ []) Done (eq-eqb (runAt n words) run same, tt))
+      record-expected same = sym (record-sound ∙ tested-all (ofRun ∷ []) Done (eq-eqb (runAt n words) run same, tt))
 
 -- ---- the tests of size, then others
 
@@ -168,23 +167,11 @@ columns-done y columns run a words b done =
     }
 
 -- no test of a reader answers that all is done
-sides-refuse : (y : Layout) (columns : ℕ) (a b : List Float) → Refusals (sideTests y columns a b)
+pub sides-refuse : (y : Layout) (columns : ℕ) (a b : List Float) → Refusals (sideTests y columns a b)
 sides-refuse y columns a b = (refl, (refl, (refl, (refl, (refl, (refl, (refl, (refl, tt))))))))
 
 pub columns-refuse : (y : Layout) (columns run : ℕ) (a : List Float) (words : List ℕ) (b : List Float) → Refusals (columnTests y columns run a words b)
 columns-refuse y columns run a words b = (refl, (refl, (refl, (refl, (refl, (refl, (refl, (refl, (refl, (refl, (refl, (refl, tt))))))))))))
-
--- where the sizes fit, the record is accepted and it is of the run that is expected, all tests hold
-pub reads-done
-    : (y : Layout) (run : ℕ) (a : List Float) (words : List ℕ)
-    → Fits y 0 (length a) → Accepted (y .order) words → runAt (y .order) words ≡ run
-    → isDone (tested (readerTests y run a words) Done) ≡ true
-reads-done y run a words fits accepted same =
-    ap isDone
-    (tested-join (sizeTests y 0 (length a)) (wordTests (y .order) run words) Done
-    ∙ fits-pass y 0 (length a) fits (tested (wordTests (y .order) run words) Done)
-    ∙ sym (record-expected (y .order) run words (accepted .sized .total) refl (accepted .done) same))
-    ∙ accepted .done
 
 -- ---- the tests of a slice of columns, then the record's
 

@@ -3,4 +3,5 @@ pub mod Gathers
 pub mod Squares
 pub mod Steps
 pub mod Admitted
+pub mod Runs
 pub mod Once

@@ -38,7 +38,7 @@ pub fn check_record(sizes: Answer, words: &[u32], n: usize, run: u32) -> Answer
     if pivots::run(words, n) != run {
         return Answer::OtherRun;
     }
-    fault
+    Answer::Done
 }
 
 // The factor, then the record.

@@ -47,14 +47,14 @@ impl Call {
         let mut b = [1.0; 1024];
         let mut u = [0.0];
         let mut d = [0.0];
-        // A sound record of order 1.
-        let mut record = [0u32, 1, 0];
+        // A sound record of order 1, with the run number 7.
+        let mut record = [0u32, 1, 0, 7];
         match self {
-            Call::LbltFactor => plain(lblt::factor(&mut a, &mut record, n)),
-            Call::LbltSolve => plain(lblt_solve::solve_mut(&a, &record, &mut b, n, columns)),
-            Call::LbltDeterminant => valued(lblt_read::determinant(&a, &record, n)),
-            Call::LbltD => plain(lblt_read::d(&a, &record, &mut u, n)),
-            Call::LbltLPermuted => plain(lblt_read::l_permuted(&a, &record, &mut u, n)),
+            Call::LbltFactor => plain(lblt::factor(&mut a, &mut record, n, 7)),
+            Call::LbltSolve => plain(lblt_solve::solve_mut(&a, &record, &mut b, n, columns, 7)),
+            Call::LbltDeterminant => valued(lblt_read::determinant(&a, &record, n, 7)),
+            Call::LbltD => plain(lblt_read::d(&a, &record, &mut u, n, 7)),
+            Call::LbltLPermuted => plain(lblt_read::l_permuted(&a, &record, &mut u, n, 7)),
             Call::CholeskyFactor => plain(cholesky::factor(&mut a, room, n)),
             Call::CholeskyExtend => plain(cholesky::extend(&mut a, room, earlier, n)),
             Call::CholeskySolve => plain(cholesky::solve_mut(&a, &mut b, room, n, columns)),

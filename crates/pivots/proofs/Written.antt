@@ -2,7 +2,8 @@
 --     Written n words k m     the blocks up to row k are written and sound; m is the first mark: 0, or a row before k, of size 1 and with its own index, plus 1
 --     written-none            nothing written
 --     written-one, written-two, written-zero     one more block: of size 1, of size 2, and a zero column that sets the mark
---     written-all             the mark and a run number are put at the end, and the record is accepted
+--     stamped-before          what the run number leaves
+--     written-all, written-run     the mark and a run number are put at the end: the record is accepted, and the number stands in it
 use mathlib.Core.List.{List}
 use mathlib.Core.Logic.{_⊎_, inl, inr}
 use mathlib.Core.Path.{_≡_, refl, sym, ap, subst, _∙_}
@@ -12,7 +13,7 @@ use lib.ListN.{length, getD, set, length-set}
 use lib.Seq.{getD-set-same, getD-set-other}
 use Rattle.answer.specs.declared.Answer.the-variants.{Done}
 use Rattle.answer.specs.Number.{isDone}
-use Rattle.pivots.specs.Words.{indexWord, sizeWord, markWord, runWord, indexAt, sizeAt, markAt, Sized, paired, marked, stamped}
+use Rattle.pivots.specs.Words.{indexWord, sizeWord, markWord, runWord, indexAt, sizeAt, markAt, runAt, Sized, paired, marked, stamped}
 use Rattle.pivots.specs.Rule.{faultOf, checked, Accepted}
 use Rattle.pivots.proofs.Blocks.{one-rows, two-rows}
 use Rattle.pivots.proofs.Faults.{Going, going-none, going-more, going-all}
@@ -96,6 +97,11 @@ ended-kept n words mark run = record {
   index = λ r h. below (set words (markWord n) mark) (runWord n) (indexWord r) run (omega arith) ∙ below words (markWord n) (indexWord r) mark (omega arith);
   size = λ r h. below (set words (markWord n) mark) (runWord n) (sizeWord r) run (omega arith) ∙ below words (markWord n) (sizeWord r) mark (omega arith);
 }
+
+-- the run number is written after all other words
+pub stamped-before : (n : ℕ) (words : List ℕ) (run p : ℕ) → p < runWord n → getD (stamped n words run) p 0 ≡ getD words p 0
+unfolding stamped
+stamped-before n words run p before = below words (runWord n) p run before
 
 paired-sized : {n : ℕ} {words : List ℕ} (row index size : ℕ) → Sized n words → Sized n (paired words row index size)
 paired-sized {n} {words} row index size s = record { order = s .order; total = paired-length words row index size ∙ s .total }
@@ -210,3 +216,7 @@ written-all {n} {words} {m} run w =
     at (inr mk) =
         let marks = kept-marks kept mk in
         mark-sound n final rows reads (mk .set) (mk .passed) (marks .size) (marks .index)
+
+pub written-run : {n : ℕ} {words : List ℕ} {m : ℕ} (run : ℕ) → Written n words n m → runAt n (stamped n (marked n words m) run) ≡ run
+unfolding marked stamped
+written-run {n} {words} {m} run w = getD-set-same (set words (markWord n) m) (runWord n) run 0 (omega (arith, length-set words (markWord n) m, w .sized .total))

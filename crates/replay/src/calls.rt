@@ -54,7 +54,15 @@ pub fn call(
     r: &mut [u32],
 ) -> Outcome {
     match which {
-        1..=5 => of_lblt(which, n, x, part(a, s.a), part(b, s.b), part_words(r, s.r)),
+        1..=5 => of_lblt(
+            which,
+            n,
+            x,
+            number(y),
+            part(a, s.a),
+            part(b, s.b),
+            part_words(r, s.r),
+        ),
         6..=10 | 14 => of_cholesky(which, n, x, y, part(a, s.a), part(b, s.b)),
         11 => of_udu(n, part(a, s.a), part(b, s.b), part(c, s.c)),
         12..=13 => of_twins(which, n, x, y, part(a, s.a)),
@@ -62,20 +70,26 @@ pub fn call(
     }
 }
 
+// A word's low half, as a run number.
+fn number(word: usize) -> u32 {
+    (word % 0x1_0000_0000) as u32
+}
+
 fn of_lblt(
     which: u64,
     n: usize,
     columns: usize,
+    run: u32,
     a: &mut [f64],
     b: &mut [f64],
     r: &mut [u32],
 ) -> Outcome {
     match which {
-        1 => plain(lblt::factor(a, r, n)),
-        2 => plain(lblt_solve::solve_mut(a, r, b, n, columns)),
-        3 => valued(lblt_read::determinant(a, r, n)),
-        4 => plain(lblt_read::d(a, r, b, n)),
-        _ => plain(lblt_read::l_permuted(a, r, b, n)),
+        1 => plain(lblt::factor(a, r, n, run)),
+        2 => plain(lblt_solve::solve_mut(a, r, b, n, columns, run)),
+        3 => valued(lblt_read::determinant(a, r, n, run)),
+        4 => plain(lblt_read::d(a, r, b, n, run)),
+        _ => plain(lblt_read::l_permuted(a, r, b, n, run)),
     }
 }
 

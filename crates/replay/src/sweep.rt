@@ -250,7 +250,8 @@ fn nines(x: &mut [u32]) -> usize {
     put_word(x, 2, 9);
     put_word(x, 3, 9);
     put_word(x, 4, 9);
-    5
+    put_word(x, 5, 9);
+    6
 }
 
 fn called(
@@ -280,7 +281,7 @@ fn argument(which: u64) -> usize {
     2
 }
 
-// Six columns, or an earlier order of 1.
+// Six columns, an earlier order of 1, or the run number 1.
 fn further(which: u64) -> usize {
     if which == 14 {
         return 6;

@@ -24,7 +24,7 @@ use Rattle.sheet_text.proofs.Lengths.{few-places, sheet-length, lines-length}
 use Rattle.sheet_page.proofs.PutLaws.{put-whole}
 use Rattle.sheet_page.proofs.PageLength.{ShortRow, page-length, refusal-length, twin-length}
 use Rattle.sheet.specs.declared.Responded.{Responded}
-use Rattle.sheet.specs.Respond.{pageFrom, emptyWords, numbersOf, factorPage, Response, factors, refuses, Responds}
+use Rattle.sheet.specs.Respond.{sheetRun, pageFrom, emptyWords, numbersOf, factorPage, Response, factors, refuses, Responds}
 use Rattle.sheet.specs.Warn.{Warning, names-twins, no-twins, no-sheet, Warns}
 use Rattle.sheet.proofs.Twins.{of-rows}
 use Rattle.sheet.proofs.Answers.{numbers-length}
@@ -128,9 +128,9 @@ mark-small n words small a = go (eq-or-ne (markAt n words) 0)
 page-fits : (n : ℕ) (M : Matrix) (words : List ℕ) → n ≤ 64 → Sized n words → length (pageFrom n M words) ≤ 65536
 unfolding pageFrom
 page-fits n M words small sized =
-    let a = accepted n M words sized in
-    page-length n (recorded n M words) (finalState n M words .matrix) (determinantOf n (finalState n M words .matrix) (recorded n M words)) small
-    (rows-short n (recorded n M words) small n (boundary-all a .before)) (mark-small n (recorded n M words) small a)
+    let a = accepted n M words sized sheetRun in
+    page-length n (recorded n sheetRun M words) (finalState n M words .matrix) (determinantOf n (finalState n M words .matrix) (recorded n sheetRun M words)) small
+    (rows-short n (recorded n sheetRun M words) small n (boundary-all a .before)) (mark-small n (recorded n sheetRun M words) small a)
 
 words-sized : (n : ℕ) → n ≤ 64 → Sized n (take (wordsOf n) emptyWords)
 words-sized n small = record {

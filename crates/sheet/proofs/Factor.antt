@@ -16,18 +16,18 @@ use Rattle.matrix.specs.Layouts.{full, startOf, lower}
 use Rattle.matrix.proofs.Places.{lower-at}
 use Rattle.matrix.proofs.Sizes.{full-fits}
 use Rattle.matrix.specs.Rounded.{plusZero}
-use Rattle.pivots.specs.Words.{Sized}
+use Rattle.pivots.specs.Words.{runAt, Sized}
 use Rattle.pivots.specs.Rule.{checked}
 use Rattle.lblt.specs.Factor.{factorTests, finalState, recorded, Stored}
 use Rattle.lblt.proofs.Done.{all-right}
-use Rattle.lblt.proofs.Accepted.{accepted}
+use Rattle.lblt.proofs.Accepted.{accepted, recorded-run}
 use Rattle.lblt_read.specs.Calls.{readerTests, LbltDetermined}
 use Rattle.lblt_read.specs.Diagonal.{determinantOf}
-use Rattle.lblt_read.proofs.Admitted.{reads-done}
+use Rattle.lblt_read.proofs.Runs.{reader-expected}
 use Rattle.sheet_text.specs.Place.{places}
 use Rattle.sheet_text.proofs.EachPlace.{each-same, each-place}
 use Rattle.sheet_page.specs.Page.{matrixIn, bitsAt, lowerBits, pageLines, pageOf}
-use Rattle.sheet.specs.Respond.{pageFrom}
+use Rattle.sheet.specs.Respond.{sheetRun, pageFrom}
 use Rattle.sheet.specs.inner.Parts.{Square}
 
 -- the factor's entries are those that stand in the slice
@@ -49,16 +49,17 @@ module _ (n : ℕ) (a : List Float) (words : List ℕ) (q : Square n a words) wh
   words-sized : Sized n words
   words-sized = record { order = omega (arith, q .small); total = q .sized }
 
-  module _ (a′ : List Float) (words′ : List ℕ) (s : Stored (full n) a words a′ words′) (long : length a′ ≡ length a) (sized : length words′ ≡ length words) where
+  module _ (a′ : List Float) (words′ : List ℕ) (s : Stored (full n) sheetRun a words a′ words′) (long : length a′ ≡ length a) (sized : length words′ ≡ length words) where
     record-accepted : isDone (checked n words′) ≡ true
-    record-accepted = ap (λ (w : List ℕ). isDone (checked n w)) (s .pivots) ∙ accepted n (load (lower (full n)) a) words words-sized .done
+    record-accepted = ap (λ (w : List ℕ). isDone (checked n w)) (s .pivots) ∙ accepted n (load (lower (full n)) a) words words-sized sheetRun .done
 
-    reader-done : isDone (tested (readerTests (full n) a′ words′) Done) ≡ true
+    reader-done : isDone (tested (readerTests (full n) sheetRun a′ words′) Done) ≡ true
     reader-done =
-        reads-done (full n) a′ words′ (full-fits n (length a′) (omega (arith, q .small)) (long ∙ q .long))
+        ap isDone (sym (reader-expected (full n) sheetRun a′ words′ (full-fits n (length a′) (omega (arith, q .small)) (long ∙ q .long))
         (record { sized = record { order = omega (arith, q .small); total = sized ∙ q .sized }; done = record-accepted })
+        (ap (runAt n) (s .pivots) ∙ recorded-run n (load (lower (full n)) a) words words-sized sheetRun)))
 
-    determinant-is : (v : Valued) → LbltDetermined (full n) a′ words′ v → v .value ≡ determinantOf n (finalState n (load (lower (full n)) a) words .matrix) (recorded n (load (lower (full n)) a) words)
+    determinant-is : (v : Valued) → LbltDetermined (full n) sheetRun a′ words′ v → v .value ≡ determinantOf n (finalState n (load (lower (full n)) a) words .matrix) (recorded n sheetRun (load (lower (full n)) a) words)
     determinant-is v d =
         d .value
         ∙ ap (λ (done : Bool). cond done (determinantOf n (load (lower (full n)) a′) words′) plusZero) (ap isDone (d .answer) ∙ reader-done)
@@ -66,9 +67,9 @@ module _ (n : ℕ) (a : List Float) (words : List ℕ) (q : Square n a words) wh
         ∙ ap (determinantOf n (finalState n (load (lower (full n)) a) words .matrix)) (s .pivots)
 
     -- the page that is written is that of the matrix that was given
-    pub page-is : (v : Valued) → LbltDetermined (full n) a′ words′ v → pageOf n words′ (matrixIn n a′) (v .value) ≡ pageFrom n (load (lower (full n)) a) words
+    pub page-is : (v : Valued) → LbltDetermined (full n) sheetRun a′ words′ v → pageOf n words′ (matrixIn n a′) (v .value) ≡ pageFrom n (load (lower (full n)) a) words
     unfolding pageFrom
     page-is v d =
         page-same n words′ a′ (finalState n (load (lower (full n)) a) words .matrix) (v .value) (s .matrix .cells)
         ∙ ap (λ (w : List ℕ). pageOf n w (finalState n (load (lower (full n)) a) words .matrix) (v .value)) (s .pivots)
-        ∙ ap (pageOf n (recorded n (load (lower (full n)) a) words) (finalState n (load (lower (full n)) a) words .matrix)) (determinant-is v d)
+        ∙ ap (pageOf n (recorded n sheetRun (load (lower (full n)) a) words) (finalState n (load (lower (full n)) a) words .matrix)) (determinant-is v d)

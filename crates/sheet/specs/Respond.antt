@@ -19,10 +19,14 @@ use Rattle.sheet_page.specs.Page.{pageOf, refusalOf}
 use Rattle.sheet_page.specs.Put.{Put}
 use Rattle.sheet.specs.declared.Responded.{Responded}
 
+-- the run number of every sheet; the page does not show it
+abbrev pub sheetRun : ℕ
+sheetRun = 0
+
 -- order, pivots, mark, factor, determinant, and the number of pivot and entry lines, of a matrix and a record to write in
 unfoldable pub pageFrom : ℕ → Matrix → List ℕ → List ℕ
 pageFrom n M words =
-    pageOf n (recorded n M words) (finalState n M words .matrix) (determinantOf n (finalState n M words .matrix) (recorded n M words))
+    pageOf n (recorded n sheetRun M words) (finalState n M words .matrix) (determinantOf n (finalState n M words .matrix) (recorded n sheetRun M words))
 
 -- room for 4,096 numbers, and for the record of 64 rows
 abbrev pub emptyRoom : List Float

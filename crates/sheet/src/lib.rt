@@ -10,13 +10,16 @@ ghost use Rattle.sheet.specs.Respond.{Responds, emptyRoom};
 ghost use Rattle.sheet.specs.Warn.{Warns};
 ghost use Rattle.sheet.specs.inner.Parts.{Square, Writes, Empty};
 
+// The run number of every sheet.
+const SHEET_RUN: u32 = 0;
+
 // Factors the n·n numbers and writes the page.
 fn factor_and_write(a: &mut [f64], words: &mut [u32], n: usize, out: &mut [u8]) -> usize
     requires { ⌜ Square n (now a) (now words) ⌝ }
     ensures { λ r. ⌜ Writes n (now (a .entry)) (now (words .entry)) (now (out .entry)) r (now (out .exit)) ⌝ }
 {
-    lblt::factor(a, words, n);
-    let determinant = lblt_read::determinant(a, words, n);
+    lblt::factor(a, words, n, SHEET_RUN);
+    let determinant = lblt_read::determinant(a, words, n, SHEET_RUN);
     put_page(out, n, words, a, determinant.value)
 }
 

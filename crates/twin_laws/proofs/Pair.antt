@@ -13,7 +13,7 @@ use Rattle.leaf.specs.Abs.{absOf}
 use Rattle.leaf.specs.Maximum.{maximumOf}
 use Rattle.matrix.specs.Matrix.{Matrix}
 use Rattle.matrix.specs.Loop.{turns, for}
-use Rattle.pivots.specs.Words.{paired, marked}
+use Rattle.pivots.specs.Words.{paired, marked, stamped}
 use Rattle.matrix.specs.Rounded.{_⊗_, _⊘_, plusZero, one}
 use Rattle.lblt_choice.specs.Choice.{α, columnMax, choiceBy, choose, contest, rowMax}
 use Rattle.lblt_choice.specs.declared.Choice.{Choice}
@@ -107,9 +107,9 @@ last-pivot : (N : Matrix) → pivot1 2 1 1 N ≡ N
 unfolding pivot1 brought1 update1 eliminate1 for turns
 last-pivot N = refl
 
-module _ (M : Matrix) (x : Float) (held : T (fits binary64 x)) (corner : M 0 0 ≡ x) (side : M 1 0 ≡ x) (end : M 1 1 ≡ x) (v w : ℕ) (a b c : ℕ) where
+module _ (M : Matrix) (x : Float) (held : T (fits binary64 x)) (corner : M 0 0 ≡ x) (side : M 1 0 ≡ x) (end : M 1 1 ≡ x) (run : ℕ) (v w : ℕ) (a b c d : ℕ) where
   abbrev pub words : List ℕ
-  words = v ∷ w ∷ a ∷ b ∷ c ∷ []
+  words = v ∷ w ∷ a ∷ b ∷ c ∷ d ∷ []
 
   -- the state after a first choice, and after both
   after : Choice → State
@@ -123,13 +123,13 @@ module _ (M : Matrix) (x : Float) (held : T (fits binary64 x)) (corner : M 0 0 �
       ∙ ap (λ (r : ℕ). take 2 (after first) (choose 2 (after first .matrix) r)) one-row
       ∙ ap (take 2 (after first)) f
 
-  recorded-by : (s : State) → finalState 2 M words ≡ s → recorded 2 M words ≡ marked 2 (s .words) (s .mark)
+  recorded-by : (s : State) → finalState 2 M words ≡ s → recorded 2 run M words ≡ stamped 2 (marked 2 (s .words) (s .mark)) run
   unfolding recorded
-  recorded-by s e = ap (λ (t : State). marked 2 (t .words) (t .mark)) e
+  recorded-by s e = ap (λ (t : State). stamped 2 (marked 2 (t .words) (t .mark)) run) e
 
   -- x zero: both columns are null, the mark is row 0, and nothing is changed
-  pub pair-zero : eq x plusZero ≡ true → (recorded 2 M words ≡ 0 ∷ 1 ∷ 1 ∷ 1 ∷ 1 ∷ []) × (finalState 2 M words .matrix ≡ M)
-  unfolding after firstState take firstMark paired marked
+  pub pair-zero : eq x plusZero ≡ true → (recorded 2 run M words ≡ 0 ∷ 1 ∷ 1 ∷ 1 ∷ 1 ∷ run ∷ []) × (finalState 2 M words .matrix ≡ M)
+  unfolding after firstState take firstMark paired marked stamped
   pair-zero none =
       let first : choose 2 M 0 ≡ ZeroColumn = first-choice M x held corner side ∙ ap (λ (b : Bool). cond b ZeroColumn (One 0)) none in
       let last : choose 2 M 1 ≡ ZeroColumn = last-choice M ∙ ap (λ (b : Bool). cond b ZeroColumn (One 1)) (ap gone end ∙ gone-zero x none) in
@@ -145,8 +145,8 @@ module _ (M : Matrix) (x : Float) (held : T (fits binary64 x)) (corner : M 0 0 �
       ∙ rw (corner, side, end)
 
   by-left-over : (b : Bool) → choose 2 (pivot1 2 0 0 M) 1 ≡ cond b ZeroColumn (One 1) → choose 2 M 0 ≡ One 0
-      → (recorded 2 M words ≡ 0 ∷ 1 ∷ 1 ∷ 1 ∷ cond b 2 0 ∷ []) × (finalState 2 M words .matrix ≡ pivot1 2 0 0 M)
-  unfolding after firstState take firstMark paired marked
+      → (recorded 2 run M words ≡ 0 ∷ 1 ∷ 1 ∷ 1 ∷ cond b 2 0 ∷ run ∷ []) × (finalState 2 M words .matrix ≡ pivot1 2 0 0 M)
+  unfolding after firstState take firstMark paired marked stamped
   by-left-over true last first =
       let is : finalState 2 M words ≡ take 2 (after (One 0)) ZeroColumn = both (One 0) ZeroColumn first last refl in
       (recorded-by (take 2 (after (One 0)) ZeroColumn) is, ap (λ (s : State). s .matrix) is)
@@ -155,7 +155,7 @@ module _ (M : Matrix) (x : Float) (held : T (fits binary64 x)) (corner : M 0 0 �
       (recorded-by (take 2 (after (One 0)) (One 1)) is, ap (λ (s : State). s .matrix) is ∙ last-pivot (pivot1 2 0 0 M))
 
   -- any other x: a pivot of size 1 in its place, and the mark is row 1 if nothing is left
-  pub pair-other : eq x plusZero ≡ false → (recorded 2 M words ≡ 0 ∷ 1 ∷ 1 ∷ 1 ∷ cond (gone (trail x x x x)) 2 0 ∷ []) × (finalState 2 M words .matrix ≡ pivot1 2 0 0 M)
+  pub pair-other : eq x plusZero ≡ false → (recorded 2 run M words ≡ 0 ∷ 1 ∷ 1 ∷ 1 ∷ cond (gone (trail x x x x)) 2 0 ∷ run ∷ []) × (finalState 2 M words .matrix ≡ pivot1 2 0 0 M)
   pair-other some =
       by-left-over (gone (trail x x x x))
       (last-choice (pivot1 2 0 0 M) ∙ ap (λ (y : Float). cond (gone y) ZeroColumn (One 1)) left-over)

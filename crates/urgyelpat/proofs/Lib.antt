@@ -1,4 +1,5 @@
 pub mod Unique
+pub mod Runs
 pub mod FactorPlaces
 pub mod ReaderPlaces
 pub mod CholeskyPlaces

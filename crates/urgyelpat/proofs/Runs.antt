@@ -1,0 +1,104 @@
+-- A record that a factor call made with a run number, in a later call whose slices fit, whatever numbers they hold: one that expects this number accepts
+-- it, one that expects another answers 13, place 0, and writes nothing. Assumes nothing.
+use mathlib.Core.Bool.{true}
+use mathlib.Core.List.{List}
+use mathlib.Core.Path.{_≡_, refl, sym, ap, _∙_}
+use Prim.Native.Nat.{ℕ, _+_, _-_, _*_, _≤_}
+use native.Mathlib.Omega.{arith}
+use borrow.Author.Tests.{eq-eqb}
+use lib.Ieee.{Float}
+use lib.ListN.{length}
+use Rattle.answer.specs.declared.Answer.the-variants.{Done, OtherRun}
+use Rattle.answer.specs.Number.{codeOf, isDone, numberOf}
+use Rattle.answer.specs.Refusals.{tested}
+use Rattle.matrix.specs.Layouts.{full}
+use Rattle.matrix.specs.Sizes.{Fits}
+use Rattle.matrix.specs.Rounded.{plusZero}
+use Rattle.matrix.proofs.Sizes.{full-fits}
+use Rattle.pivots.specs.Words.{markAt, runAt}
+use Rattle.pivots.specs.Rule.{Accepted}
+use Rattle.lblt.proofs.Accepted.{factor-accepted, factor-run}
+use Rattle.lblt_read.specs.Calls.{columnTests}
+use Rattle.lblt_read.proofs.Runs.{reader-expected, reader-other, columns-expected, columns-other}
+use Rattle.lblt_solve.proofs.Marked.{solve-refused, solve-done, solve-marked}
+use Rattle.urgyelpat.specs.declared.Determined.{Determined}
+use Rattle.urgyelpat.specs.Calls.{LbltFactor, LbltSolve, LbltDeterminant, LbltD, LbltLPermuted}
+
+abbrev pub refusedByRun : ℕ
+refusedByRun = 13 * 4096
+
+-- a and the words are what the factor call was given; the number 0 is its answer
+module _ {n run : ℕ} {a a' : List Float} {words words' : List ℕ} (made : LbltFactor n run a words 0 a' words') where
+  made-done : isDone (made .below) ≡ true
+  made-done = eq-eqb (codeOf (made .below)) 0 (omega (arith, made .result))
+
+  accepted : Accepted n words'
+  accepted = factor-accepted (made .given) made-done
+
+  stamp : runAt n words' ≡ run
+  stamp = factor-run (made .given) made-done
+
+  -- m is the factor that is lent: this one, or any other
+  module _ (m : List Float) (square : length m ≡ n * n) where
+    fits : Fits (full n) 0 (length m)
+    fits = full-fits n (length m) (accepted .sized .order) square
+
+    -- ---- the number of the record
+
+    pub determinant-accepts : {v : Determined} → LbltDeterminant n run m words' v → v .answer ≡ 0
+    determinant-accepts c =
+        ap (λ (d : Determined). d .answer) (c .result)
+        ∙ ap numberOf (c .given .answer ∙ sym (reader-expected (full n) run m words' fits accepted stamp))
+
+    module _ (d : List Float) (long : length d ≡ n * n) where
+      read : Done ≡ tested (columnTests (full n) n run m words' d) Done
+      read = columns-expected (full n) run m words' fits accepted n (accepted .sized .order) d long stamp
+
+      pub d-accepts : {r : ℕ} {d' : List Float} → LbltD n run m words' d r d' → r ≡ 0
+      d-accepts c = c .result ∙ ap numberOf (c .given .answer ∙ sym read)
+
+      pub l-permuted-accepts : {r : ℕ} {d' : List Float} → LbltLPermuted n run m words' d r d' → r ≡ 0
+      l-permuted-accepts c = c .result ∙ ap numberOf (c .given .answer ∙ sym read)
+
+    module _ (columns : ℕ) (few : columns ≤ 1024) (b : List Float) (long : length b ≡ n * columns) {r : ℕ} {b' : List Float} (c : LbltSolve n columns run m words' b r b') where
+      solve-read : Done ≡ tested (columnTests (full n) columns run m words' b) Done
+      solve-read = columns-expected (full n) run m words' fits accepted columns few b long stamp
+
+      -- solve goes on to the mark
+      pub solve-accepts : markAt n words' ≡ 0 → r ≡ 0
+      solve-accepts none = c .result ∙ ap numberOf (c .given .answer ∙ sym (solve-done (full n) columns run m words' b solve-read refl refl none))
+
+      pub solve-finds-mark : (markAt n words' ≡ 0 → ⊥) → r ≡ 6 * 4096 + (markAt n words' - 1)
+      solve-finds-mark set = c .result ∙ ap numberOf (c .given .answer ∙ sym (solve-marked (full n) columns run m words' b solve-read refl refl set))
+
+    -- ---- another number
+
+    module _ (expected : ℕ) (differs : expected ≡ run → ⊥) where
+      not-stamped : runAt n words' ≡ expected → ⊥
+      not-stamped e = differs (sym e ∙ stamp)
+
+      pub determinant-refuses : {v : Determined} → LbltDeterminant n expected m words' v → (v .answer ≡ refusedByRun) × (v .value ≡ plusZero)
+      determinant-refuses c =
+          let is : c .below .answer ≡ OtherRun = c .given .answer ∙ sym (reader-other (full n) expected m words' fits accepted not-stamped) in
+          (ap (λ (d : Determined). d .answer) (c .result) ∙ ap numberOf is, ap (λ (d : Determined). d .value) (c .result) ∙ c .given .value ∙ rw is)
+
+      module _ (d : List Float) (long : length d ≡ n * n) where
+        other-read : OtherRun ≡ tested (columnTests (full n) n expected m words' d) Done
+        other-read = columns-other (full n) expected m words' fits accepted n (accepted .sized .order) d long not-stamped
+
+        pub d-refuses : {r : ℕ} {d' : List Float} → LbltD n expected m words' d r d' → (r ≡ refusedByRun) × (d' ≡ d)
+        d-refuses c =
+            let is : c .below ≡ OtherRun = c .given .answer ∙ sym other-read in
+            (c .result ∙ ap numberOf is, c .given .left .refused (ap isDone is))
+
+        pub l-permuted-refuses : {r : ℕ} {d' : List Float} → LbltLPermuted n expected m words' d r d' → (r ≡ refusedByRun) × (d' ≡ d)
+        l-permuted-refuses c =
+            let is : c .below ≡ OtherRun = c .given .answer ∙ sym other-read in
+            (c .result ∙ ap numberOf is, c .given .left .refused (ap isDone is))
+
+      -- a marked record too
+      pub solve-refuses : (columns : ℕ) → columns ≤ 1024 → (b : List Float) → length b ≡ n * columns → {r : ℕ} {b' : List Float} → LbltSolve n columns expected m words' b r b' → (r ≡ refusedByRun) × (b' ≡ b)
+      solve-refuses columns few b long c =
+          let read = columns-other (full n) expected m words' fits accepted columns few b long not-stamped in
+          let is : c .below ≡ OtherRun = c .given .answer ∙ sym (solve-refused (full n) columns expected m words' b read refl) in
+          (c .result ∙ ap numberOf is, c .given .sides ∙ rw is)
