@@ -101,11 +101,12 @@ typedef struct urgyelpat_determined {
  * pair at k + 1. The mark is 0, or names a row of size 1 whose index is that row: where there is no pivot, nothing is exchanged.
  * A record that breaks the rule is refused by 5, at its first row that does, or at n if its mark alone does.
  *
- * The run number is the caller's: any number that is given to the factor call, as its last argument, stands in the record from
- * then on. A call that reads the factor is given the number that it expects, as its last argument, and a record that keeps the
- * rule but has another number is refused by 13. Give each run (a day, a patient, a sheet) a number of its own, and yesterday's
- * record is refused today. A record of the number that is expected and that keeps the rule, though damaged or of another matrix,
- * is not noticed: keep a factor and its record together.
+ * The run number is the caller's: any uint32_t, and no number means "unchecked". A factor call that is done writes the one that
+ * it is given, as its last argument; a refused one leaves the record that stood there, with its number. A call that reads the
+ * factor is given the number that it expects, as its last argument, and refuses by 13 a record that keeps the rule but has
+ * another. Give each run (a day, a patient, a sheet) a number of its own, and yesterday's record is refused today. A record that
+ * keeps the rule and has the expected number is accepted, even if it is damaged or of another matrix: keep a factor and its
+ * record together.
  *
  * The rows of the factor are not in the order in which they came: for a block of size s from row k on, the row that the index
  * names was exchanged with row k + s - 1. */
@@ -128,7 +129,7 @@ URGYELPAT_MUST_USE uint64_t urgyelpat_lblt_solve(const double *a, size_t a_lengt
 
 /* The row of the given matrix that stands at a row of the factor: the exchanges of the record, taken back from the last to the
  * first. ([1 / 2 4]: row 1 is marked, and it is row 0 as given.) record has the 2n + 2 words that a factor call of order n
- * wrote. */
+ * wrote, in whichever run: only its pairs are read. */
 static inline size_t urgyelpat_callers_row(const uint32_t *record, size_t n, size_t row)
 {
     size_t rest = n; /* the exchanges of the rows from here on are taken back */

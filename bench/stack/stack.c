@@ -16,6 +16,8 @@
 #define MOST ((size_t)URGYELPAT_LARGEST)
 /* the columns of a solve: one, and many with a rest when they are taken four at a time */
 #define MANY ((size_t)67)
+/* the run number of every record */
+#define RUN ((uint32_t)7)
 
 typedef enum {
     EMPTY,
@@ -62,7 +64,7 @@ static const char *const names[CALLS] = {
 
 static void *stack; /* its lowest byte */
 static double *a, *b;
-static uint32_t record[2 * URGYELPAT_LARGEST + 1];
+static uint32_t record[2 * URGYELPAT_LARGEST + 2];
 static double vector[URGYELPAT_LARGEST];
 
 /* ---- what is lent */
@@ -117,7 +119,7 @@ static void prepare(which call, size_t n)
     case LBLT_D:
     case LBLT_L_PERMUTED:
         fill_random(n, 0.0);
-        answer = urgyelpat_lblt_factor(a, n * n, record, 2 * n + 1, n);
+        answer = urgyelpat_lblt_factor(a, n * n, record, 2 * n + 2, n, RUN);
         break;
     case CHOLESKY_FACTOR:
     case UDU_FACTOR:
@@ -165,22 +167,22 @@ __attribute__((noinline)) static uint64_t called(which call, size_t n)
         answer = nothing(n);
         break;
     case LBLT_FACTOR:
-        answer = urgyelpat_lblt_factor(a, n * n, record, 2 * n + 1, n);
+        answer = urgyelpat_lblt_factor(a, n * n, record, 2 * n + 2, n, RUN);
         break;
     case LBLT_SOLVE_ONE:
-        answer = urgyelpat_lblt_solve(a, n * n, record, 2 * n + 1, b, n, n, 1);
+        answer = urgyelpat_lblt_solve(a, n * n, record, 2 * n + 2, b, n, n, 1, RUN);
         break;
     case LBLT_SOLVE_MANY:
-        answer = urgyelpat_lblt_solve(a, n * n, record, 2 * n + 1, b, n * MANY, n, MANY);
+        answer = urgyelpat_lblt_solve(a, n * n, record, 2 * n + 2, b, n * MANY, n, MANY, RUN);
         break;
     case LBLT_DETERMINANT:
-        answer = urgyelpat_lblt_determinant(a, n * n, record, 2 * n + 1, n).answer;
+        answer = urgyelpat_lblt_determinant(a, n * n, record, 2 * n + 2, n, RUN).answer;
         break;
     case LBLT_D:
-        answer = urgyelpat_lblt_d(a, n * n, record, 2 * n + 1, b, n * n, n);
+        answer = urgyelpat_lblt_d(a, n * n, record, 2 * n + 2, b, n * n, n, RUN);
         break;
     case LBLT_L_PERMUTED:
-        answer = urgyelpat_lblt_l_permuted(a, n * n, record, 2 * n + 1, b, n * n, n);
+        answer = urgyelpat_lblt_l_permuted(a, n * n, record, 2 * n + 2, b, n * n, n, RUN);
         break;
     case CHOLESKY_FACTOR:
         answer = urgyelpat_cholesky_factor(a, n * n, n, n);

@@ -3,11 +3,11 @@
 
 /// An implementation of the calls. An answer is code·4,096 + place, and for a pair of twin rows p < q (4,096 + q)·4,096 + p.
 pub trait Calls {
-    fn lblt_factor(&self, a: &mut [f64], record: &mut [u32], n: usize) -> u64;
-    fn lblt_solve(&self, a: &[f64], record: &[u32], b: &mut [f64], n: usize, columns: usize) -> u64;
-    fn lblt_determinant(&self, a: &[f64], record: &[u32], n: usize) -> (u64, f64);
-    fn lblt_d(&self, a: &[f64], record: &[u32], d: &mut [f64], n: usize) -> u64;
-    fn lblt_l_permuted(&self, a: &[f64], record: &[u32], l: &mut [f64], n: usize) -> u64;
+    fn lblt_factor(&self, a: &mut [f64], record: &mut [u32], n: usize, run: u32) -> u64;
+    fn lblt_solve(&self, a: &[f64], record: &[u32], b: &mut [f64], n: usize, columns: usize, run: u32) -> u64;
+    fn lblt_determinant(&self, a: &[f64], record: &[u32], n: usize, run: u32) -> (u64, f64);
+    fn lblt_d(&self, a: &[f64], record: &[u32], d: &mut [f64], n: usize, run: u32) -> u64;
+    fn lblt_l_permuted(&self, a: &[f64], record: &[u32], l: &mut [f64], n: usize, run: u32) -> u64;
     fn cholesky_factor(&self, a: &mut [f64], room: usize, n: usize) -> u64;
     fn cholesky_extend(&self, a: &mut [f64], room: usize, earlier: usize, n: usize) -> u64;
     fn cholesky_solve(&self, a: &[f64], b: &mut [f64], room: usize, n: usize, columns: usize) -> u64;
@@ -58,6 +58,8 @@ pub enum Number {
     X,
     /// Earlier order, or the columns of `cholesky_solve`.
     Y,
+    /// The run number of LBLT's calls.
+    Run,
 }
 
 #[derive(Clone, Copy, Debug, PartialEq, Eq)]
@@ -68,16 +70,16 @@ pub enum Slice {
     Record,
 }
 
-use Number::{N, X, Y};
+use Number::{N, Run, X, Y};
 use Slice::{A, B, C, Record};
 
 #[rustfmt::skip]
 pub const FORMS: [Form; 14] = [
-    Form { call: LbltFactor, name: "lblt_factor", number: 1, numbers: &[N], slices: &[A, Record], valued: false },
-    Form { call: LbltSolve, name: "lblt_solve", number: 2, numbers: &[N, X], slices: &[A, Record, B], valued: false },
-    Form { call: LbltDeterminant, name: "lblt_determinant", number: 3, numbers: &[N], slices: &[A, Record], valued: true },
-    Form { call: LbltD, name: "lblt_d", number: 4, numbers: &[N], slices: &[A, Record, B], valued: false },
-    Form { call: LbltLPermuted, name: "lblt_l_permuted", number: 5, numbers: &[N], slices: &[A, Record, B], valued: false },
+    Form { call: LbltFactor, name: "lblt_factor", number: 1, numbers: &[N, Run], slices: &[A, Record], valued: false },
+    Form { call: LbltSolve, name: "lblt_solve", number: 2, numbers: &[N, X, Run], slices: &[A, Record, B], valued: false },
+    Form { call: LbltDeterminant, name: "lblt_determinant", number: 3, numbers: &[N, Run], slices: &[A, Record], valued: true },
+    Form { call: LbltD, name: "lblt_d", number: 4, numbers: &[N, Run], slices: &[A, Record, B], valued: false },
+    Form { call: LbltLPermuted, name: "lblt_l_permuted", number: 5, numbers: &[N, Run], slices: &[A, Record, B], valued: false },
     Form { call: CholeskyFactor, name: "cholesky_factor", number: 6, numbers: &[X, N], slices: &[A], valued: false },
     Form { call: CholeskyExtend, name: "cholesky_extend", number: 7, numbers: &[X, Y, N], slices: &[A], valued: false },
     Form { call: CholeskyL, name: "cholesky_l", number: 8, numbers: &[X, N], slices: &[A, B], valued: false },
@@ -110,6 +112,8 @@ pub struct Case {
     pub x: usize,
     /// `cholesky_extend`, `first_twin_since`: earlier order; `cholesky_solve`: columns.
     pub y: usize,
+    /// LBLT: the run number, given or expected.
+    pub run: u32,
     /// The first matrix.
     pub a: Vec<f64>,
     /// Right-hand sides, `d`, `l` or `u`.
@@ -132,6 +136,21 @@ pub struct Outcome {
 
 pub const NAN: u64 = 0x7ff8_0000_0000_0000;
 
+/// The words of a pivot record: index and size of each row, the mark, the run number.
+pub fn record_length(n: usize) -> usize {
+    2 * n + 2
+}
+
+/// Index and size of each row.
+pub fn pairs(record: &[u32]) -> std::slice::ChunksExact<'_, u32> {
+    record[..record.len() - 2].chunks_exact(2)
+}
+
+/// 0, or the marked row + 1.
+pub fn mark(record: &[u32]) -> u32 {
+    record[record.len() - 2]
+}
+
 pub fn word(x: f64) -> u64 {
     if x.is_nan() { NAN } else { x.to_bits() }
 }
@@ -142,19 +161,19 @@ pub fn words(s: &[f64]) -> Vec<u64> {
 
 impl Case {
     pub fn new(call: Call, n: usize, a: Vec<f64>) -> Case {
-        Case { call, n, x: 0, y: 0, a, b: vec![], c: vec![], record: vec![] }
+        Case { call, n, x: 0, y: 0, run: 0, a, b: vec![], c: vec![], record: vec![] }
     }
 
     /// Runs the call on what is lent, in place.
     pub fn run_in_place(&mut self, calls: &dyn Calls) -> (u64, Option<f64>) {
-        let Case { call, n, x, y, a, b, c, record } = self;
-        let (n, x, y) = (*n, *x, *y);
+        let Case { call, n, x, y, run, a, b, c, record } = self;
+        let (n, x, y, run) = (*n, *x, *y, *run);
         match call {
-            LbltFactor => (calls.lblt_factor(a, record, n), None),
-            LbltSolve => (calls.lblt_solve(a, record, b, n, x), None),
-            LbltDeterminant => with_value(calls.lblt_determinant(a, record, n)),
-            LbltD => (calls.lblt_d(a, record, b, n), None),
-            LbltLPermuted => (calls.lblt_l_permuted(a, record, b, n), None),
+            LbltFactor => (calls.lblt_factor(a, record, n, run), None),
+            LbltSolve => (calls.lblt_solve(a, record, b, n, x, run), None),
+            LbltDeterminant => with_value(calls.lblt_determinant(a, record, n, run)),
+            LbltD => (calls.lblt_d(a, record, b, n, run), None),
+            LbltLPermuted => (calls.lblt_l_permuted(a, record, b, n, run), None),
             CholeskyFactor => (calls.cholesky_factor(a, x, n), None),
             CholeskyExtend => (calls.cholesky_extend(a, x, y, n), None),
             CholeskySolve => (calls.cholesky_solve(a, b, x, n, y), None),
@@ -178,7 +197,13 @@ impl Case {
             N => self.n,
             X => self.x,
             Y => self.y,
+            Run => self.run as usize,
         }
+    }
+
+    /// The third number of its call in a stored list.
+    pub fn third(&self) -> usize {
+        if self.call.form().numbers.contains(&Run) { self.run as usize } else { self.y }
     }
 
     /// How much there is to read in it.

@@ -64,11 +64,13 @@ pub fn parse_case(line: &str) -> Result<Case, String> {
     let mut case = Case::new(form.call, 0, vec![]);
     for &which in form.numbers {
         let field = head.next().ok_or("a number is missing")?;
-        let number = field.parse().map_err(|_| format!("{field} is no number"))?;
+        let none = |_| format!("{field} is no number");
+        let number = field.parse().map_err(none)?;
         match which {
             Number::N => case.n = number,
             Number::X => case.x = number,
             Number::Y => case.y = number,
+            Number::Run => case.run = field.parse().map_err(none)?,
         }
     }
     if head.next().is_some() {

@@ -1,7 +1,7 @@
 //! The stored lists: a stream of words that sets registers, makes calls and says what they answer and leave. README.md describes it; the
 //! machine below replays it on any implementation of the calls and is what the programs of the test command do.
 
-use crate::call::{Call, Calls, Case, FORMS, Form, Slice, word};
+use crate::call::{Call, Calls, Case, FORMS, Form, Number, Slice, word};
 use crate::cases::fill;
 
 pub const BLOCK_WORDS: usize = 8192;
@@ -19,7 +19,7 @@ pub const REPEAT: u64 = 10;
 pub const PLACES: u64 = 11;
 
 /// The most that the registers A and B, C, and R have to hold.
-pub const MOST: [usize; 3] = [4096, 64, 129];
+pub const MOST: [usize; 3] = [4096, 64, 130];
 
 pub fn step(mut x: u64) -> u64 {
     x ^= x << 13;
@@ -250,7 +250,8 @@ impl<'a> Machine<'a> {
     pub fn call(&mut self, call: u64, n: usize, x: usize, y: usize) -> (u64, u64) {
         self.calls_made += 1;
         let form = form(call);
-        self.held = Case { call: form.call, n, x, y, ..std::mem::replace(&mut self.held, Case::new(form.call, 0, vec![])) };
+        let (y, run) = if form.numbers.contains(&Number::Run) { (0, y as u32) } else { (y, 0) };
+        self.held = Case { call: form.call, n, x, y, run, ..std::mem::replace(&mut self.held, Case::new(form.call, 0, vec![])) };
         let (answer, value) = self.held.run_in_place(self.calls);
         (answer, value.map_or(0, word))
     }
@@ -285,15 +286,15 @@ impl<'a> Machine<'a> {
         match library {
             1 => {
                 self.set(Slice::A, &lower);
-                self.set(Slice::Record, &[9; 5]);
-                h = self.swept(h, 1, [0, 0], &[Slice::A, Slice::Record]);
+                self.set(Slice::Record, &[9; 6]);
+                h = self.swept(h, 1, [0, 1], &[Slice::A, Slice::Record]);
                 self.set(Slice::B, &[y, z]);
-                h = self.swept(h, 2, [1, 0], &[Slice::B]);
-                h = self.swept(h, 3, [0, 0], &[]);
+                h = self.swept(h, 2, [1, 1], &[Slice::B]);
+                h = self.swept(h, 3, [0, 1], &[]);
                 self.set(Slice::B, &filled);
-                h = self.swept(h, 4, [0, 0], &[Slice::B]);
+                h = self.swept(h, 4, [0, 1], &[Slice::B]);
                 self.set(Slice::B, &filled);
-                self.swept(h, 5, [0, 0], &[Slice::B])
+                self.swept(h, 5, [0, 1], &[Slice::B])
             }
             2 => {
                 self.set(Slice::A, &lower);

@@ -178,11 +178,16 @@ impl Record<'_> {
         self.0[2 * k + 1] as usize
     }
 
+    /// Two words a row, the mark, the run number.
+    fn order(&self) -> usize {
+        (self.0.len() - 2) / 2
+    }
+
     /// The first row of each block.
     fn blocks(&self) -> Vec<usize> {
         let mut rows = vec![];
         let mut k = 0;
-        while 2 * k + 1 < self.0.len() {
+        while k < self.order() {
             rows.push(k);
             k += self.size(k);
         }
@@ -222,16 +227,18 @@ fn code(code: u64, place: usize) -> u64 {
     code << 12 | place as u64
 }
 
-fn factored(a: &[f64], record: &[u32], n: usize, other: Option<(usize, usize)>) -> u64 {
+fn factored(a: &[f64], record: &[u32], n: usize, other: Option<(usize, usize)>, run: u32) -> u64 {
     let columns = other.map_or(0, |(_, columns)| columns);
     if n > 1024 || columns > 1024 {
         code(1, 0)
     } else if a.len() != n * n {
         code(3, 0)
-    } else if record.len() != 2 * n + 1 || other.is_some_and(|(len, columns)| len != n * columns) {
+    } else if record.len() != 2 * n + 2 || other.is_some_and(|(len, columns)| len != n * columns) {
         code(4, 0)
     } else if let Some(place) = Record(record).broken_at(n) {
         code(5, place)
+    } else if record.last() != Some(&run) {
+        code(13, 0)
     } else {
         0
     }
@@ -303,14 +310,14 @@ fn solve_triangles(l: impl Fn(usize, usize) -> f64, b: &mut [f64]) {
 }
 
 impl Calls for Paper {
-    fn lblt_factor(&self, a: &mut [f64], record: &mut [u32], n: usize) -> u64 {
+    fn lblt_factor(&self, a: &mut [f64], record: &mut [u32], n: usize, run: u32) -> u64 {
         if n > 1024 {
             return code(1, 0);
         }
         if a.len() != n * n {
             return code(3, 0);
         }
-        if record.len() != 2 * n + 1 {
+        if record.len() != 2 * n + 2 {
             return code(4, 0);
         }
         let mut a = Lent { cells: a, room: n };
@@ -341,11 +348,12 @@ impl Calls for Paper {
             k += block;
         }
         record[2 * n] = mark;
+        record[2 * n + 1] = run;
         0
     }
 
-    fn lblt_solve(&self, a: &[f64], record: &[u32], b: &mut [f64], n: usize, columns: usize) -> u64 {
-        let refused = factored(a, record, n, Some((b.len(), columns)));
+    fn lblt_solve(&self, a: &[f64], record: &[u32], b: &mut [f64], n: usize, columns: usize, run: u32) -> u64 {
+        let refused = factored(a, record, n, Some((b.len(), columns)), run);
         if refused != 0 {
             return refused;
         }
@@ -358,8 +366,8 @@ impl Calls for Paper {
         0
     }
 
-    fn lblt_determinant(&self, a: &[f64], record: &[u32], n: usize) -> (u64, f64) {
-        let refused = factored(a, record, n, None);
+    fn lblt_determinant(&self, a: &[f64], record: &[u32], n: usize, run: u32) -> (u64, f64) {
+        let refused = factored(a, record, n, None, run);
         if refused != 0 {
             return (refused, 0.0);
         }
@@ -372,8 +380,8 @@ impl Calls for Paper {
         (0, product)
     }
 
-    fn lblt_d(&self, a: &[f64], record: &[u32], d: &mut [f64], n: usize) -> u64 {
-        let refused = factored(a, record, n, Some((d.len(), n)));
+    fn lblt_d(&self, a: &[f64], record: &[u32], d: &mut [f64], n: usize, run: u32) -> u64 {
+        let refused = factored(a, record, n, Some((d.len(), n)), run);
         if refused == 0 {
             let record = Record(record);
             d.fill(0.0);
@@ -389,8 +397,8 @@ impl Calls for Paper {
         refused
     }
 
-    fn lblt_l_permuted(&self, a: &[f64], record: &[u32], l: &mut [f64], n: usize) -> u64 {
-        let refused = factored(a, record, n, Some((l.len(), n)));
+    fn lblt_l_permuted(&self, a: &[f64], record: &[u32], l: &mut [f64], n: usize, run: u32) -> u64 {
+        let refused = factored(a, record, n, Some((l.len(), n)), run);
         if refused == 0 {
             let record = Record(record);
             for (at, x) in l.iter_mut().enumerate() {

@@ -2,11 +2,11 @@
 //!
 //! The text itself answers `LBLT::new`, `solve_mut`, `determinant`, `d`, `l_permuted`, `Cholesky::new`, `l`, `unpack`, `determinant` and
 //! `UDU::new`. What follows document 01 because the text says nothing of it is marked "document 01": the checks before a call, the room, the
-//! further batch, and what stays in the buffers after a refusal. Marked "document 02" are the codes of a diagonal that is turned down, and the row
-//! that a mark may name. The text has no call for rows that came twice, and its Cholesky solve rests on triangular solves that it does not
+//! further batch, and what stays in the buffers after a refusal. Marked "document 02" are the codes of a diagonal that is turned down, the row that a
+//! mark may name, and the run number. The text has no call for rows that came twice, and its Cholesky solve rests on triangular solves that it does not
 //! contain: the steps answer these calls here too.
 
-use crate::call::Calls;
+use crate::call::{Calls, record_length};
 use crate::linalg::cholesky::Cholesky;
 use crate::linalg::lblt::{LBLT, parts};
 use crate::linalg::udu::UDU;
@@ -30,7 +30,7 @@ fn refusal(code: u64, place: usize) -> u64 {
 
 /// Document 01: the checks before a call, in the order of the table.
 mod checks {
-    use super::{MOST, refusal};
+    use super::{MOST, record_length, refusal};
 
     pub fn counts(counts: &[usize]) -> Option<u64> {
         counts.iter().any(|&c| c > MOST).then(|| refusal(1, 0))
@@ -48,7 +48,17 @@ mod checks {
         (len != wanted).then(|| refusal(4, 0))
     }
 
-    pub fn record(record: &[u32], n: usize) -> Option<u64> {
+    /// Its rule, then its run number.
+    pub fn record(record: &[u32], n: usize, run: u32) -> Option<u64> {
+        rule(record, n).or_else(|| of_run(record, n, run))
+    }
+
+    /// Document 02.
+    fn of_run(record: &[u32], n: usize, run: u32) -> Option<u64> {
+        (record[2 * n + 1] != run).then(|| refusal(13, 0))
+    }
+
+    fn rule(record: &[u32], n: usize) -> Option<u64> {
         let pair = |k: usize| (record[2 * k] as usize, record[2 * k + 1]);
         let mut may_be_marked = vec![false; n];
         let mut k = 0;
@@ -72,7 +82,7 @@ mod checks {
     }
 
     pub fn factored(a: &[f64], words: &[u32], n: usize) -> Option<u64> {
-        counts(&[n]).or_else(|| first(a.len(), n * n)).or_else(|| another(words.len(), 2 * n + 1))
+        counts(&[n]).or_else(|| first(a.len(), n * n)).or_else(|| another(words.len(), record_length(n)))
     }
 
     pub fn in_room(a: &[f64], room: usize, earlier: usize, n: usize) -> Option<u64> {
@@ -147,7 +157,7 @@ fn leading_of(whole: &Square, n: usize, m: usize) -> Square {
 }
 
 impl Calls for Text {
-    fn lblt_factor(&self, a: &mut [f64], record: &mut [u32], n: usize) -> u64 {
+    fn lblt_factor(&self, a: &mut [f64], record: &mut [u32], n: usize, run: u32) -> u64 {
         if let Some(refused) = checks::factored(a, record, n) {
             return refused;
         }
@@ -158,14 +168,15 @@ impl Calls for Text {
             record[2 * k + 1] = size as u32;
         }
         record[2 * n] = zero_pivot.map_or(0, |k| k as u32 + 1);
+        record[2 * n + 1] = run; // document 02
         DONE
     }
 
-    fn lblt_solve(&self, a: &[f64], record: &[u32], b: &mut [f64], n: usize, columns: usize) -> u64 {
+    fn lblt_solve(&self, a: &[f64], record: &[u32], b: &mut [f64], n: usize, columns: usize, run: u32) -> u64 {
         let refused = checks::counts(&[n, columns])
             .or_else(|| checks::factored(a, record, n))
             .or_else(|| checks::another(b.len(), n * columns))
-            .or_else(|| checks::record(record, n));
+            .or_else(|| checks::record(record, n, run));
         if let Some(refused) = refused {
             return refused;
         }
@@ -175,23 +186,23 @@ impl Calls for Text {
         if solved { DONE } else { refusal(6, record[2 * n] as usize - 1) }
     }
 
-    fn lblt_determinant(&self, a: &[f64], record: &[u32], n: usize) -> (u64, f64) {
-        match checks::factored(a, record, n).or_else(|| checks::record(record, n)) {
+    fn lblt_determinant(&self, a: &[f64], record: &[u32], n: usize, run: u32) -> (u64, f64) {
+        match checks::factored(a, record, n).or_else(|| checks::record(record, n, run)) {
             Some(refused) => (refused, 0.0),
             None => (DONE, lblt_of(a, record, n).determinant()),
         }
     }
 
-    fn lblt_d(&self, a: &[f64], record: &[u32], d: &mut [f64], n: usize) -> u64 {
-        let refused = checks::factored(a, record, n).or_else(|| checks::another(d.len(), n * n)).or_else(|| checks::record(record, n));
+    fn lblt_d(&self, a: &[f64], record: &[u32], d: &mut [f64], n: usize, run: u32) -> u64 {
+        let refused = checks::factored(a, record, n).or_else(|| checks::another(d.len(), n * n)).or_else(|| checks::record(record, n, run));
         if refused.is_none() {
             d.copy_from_slice(lblt_of(a, record, n).d().as_slice());
         }
         refused.unwrap_or(DONE)
     }
 
-    fn lblt_l_permuted(&self, a: &[f64], record: &[u32], l: &mut [f64], n: usize) -> u64 {
-        let refused = checks::factored(a, record, n).or_else(|| checks::another(l.len(), n * n)).or_else(|| checks::record(record, n));
+    fn lblt_l_permuted(&self, a: &[f64], record: &[u32], l: &mut [f64], n: usize, run: u32) -> u64 {
+        let refused = checks::factored(a, record, n).or_else(|| checks::another(l.len(), n * n)).or_else(|| checks::record(record, n, run));
         if refused.is_none() {
             l.copy_from_slice(lblt_of(a, record, n).l_permuted().as_slice());
         }

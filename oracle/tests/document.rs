@@ -29,9 +29,12 @@ fn lower(a: &[f64], n: usize) -> Vec<f64> {
     (0..n).flat_map(|i| (0..=i).map(move |j| a[i + j * n])).collect()
 }
 
+/// The run number of the factors.
+const RUN: u32 = 7;
+
 fn factored(calls: &dyn Calls, n: usize, rows: &[f64]) -> (Vec<f64>, Vec<u32>) {
-    let (mut a, mut record) = (matrix(n, rows), vec![9; 2 * n + 1]);
-    assert_eq!(calls.lblt_factor(&mut a, &mut record, n), 0);
+    let (mut a, mut record) = (matrix(n, rows), vec![9; 2 * n + 2]);
+    assert_eq!(calls.lblt_factor(&mut a, &mut record, n, RUN), 0);
     (a, record)
 }
 
@@ -58,24 +61,24 @@ fn max() {
 fn lblt() {
     for calls in BOTH {
         let (a, record) = factored(calls, 2, &[0.0, 1.0, 0.0]);
-        assert_eq!(record, [1, 2, 1, 2, 0]);
-        assert_eq!(calls.lblt_determinant(&a, &record, 2), (0, -1.0));
+        assert_eq!(record, [1, 2, 1, 2, 0, RUN]);
+        assert_eq!(calls.lblt_determinant(&a, &record, 2, RUN), (0, -1.0));
         let mut b = [3.0, 5.0];
-        assert_eq!(calls.lblt_solve(&a, &record, &mut b, 2, 1), 0);
+        assert_eq!(calls.lblt_solve(&a, &record, &mut b, 2, 1, RUN), 0);
         assert_eq!(b, [5.0, 3.0]);
 
         let (a, record) = factored(calls, 2, &[0.0, 1.0, 4.0]);
-        assert_eq!(record, [1, 1, 1, 1, 0]);
+        assert_eq!(record, [1, 1, 1, 1, 0, RUN]);
         assert_eq!(lower(&a, 2), [4.0, 0.25, -0.25]);
 
         let (a, record) = factored(calls, 2, &[0.0, f64::NAN, 5.0]);
-        assert_eq!(record, [0, 1, 1, 1, 1]);
-        assert_eq!(calls.lblt_solve(&a, &record, &mut b, 2, 1), 6 * 4096);
+        assert_eq!(record, [0, 1, 1, 1, 1, RUN]);
+        assert_eq!(calls.lblt_solve(&a, &record, &mut b, 2, 1, RUN), 6 * 4096);
         assert_eq!(b, [5.0, 3.0]);
 
         for nan in [f64::NAN, SIGNALLING] {
             let (_, record) = factored(calls, 1, &[nan]);
-            assert_eq!(record, [0, 1, 1]);
+            assert_eq!(record, [0, 1, 1, RUN]);
         }
 
         let (_, record) = factored(calls, 3, &[0.0, 3.0, 0.0, -3.0, 0.0, 0.0]);
@@ -85,30 +88,57 @@ fn lblt() {
         let (a, record) = factored(calls, 3, &[0.0, power(-600), 0.0, 0.0, power(600), 0.0]);
         assert_eq!((record[0], record[1]), (0, 1));
         assert_eq!(record[6], 3);
-        assert_eq!(calls.lblt_solve(&a, &record, &mut [0.0; 3], 3, 1), 6 * 4096 + 2);
+        assert_eq!(calls.lblt_solve(&a, &record, &mut [0.0; 3], 3, 1, RUN), 6 * 4096 + 2);
 
         let (a, record) = factored(calls, 2, &[4.0, 2.0, 3.0]);
-        assert_eq!(record, [0, 1, 1, 1, 0]);
+        assert_eq!(record, [0, 1, 1, 1, 0, RUN]);
         assert_eq!(lower(&a, 2), [4.0, 0.5, 2.0]);
-        assert_eq!(calls.lblt_determinant(&a, &record, 2), (0, 8.0));
+        assert_eq!(calls.lblt_determinant(&a, &record, 2, RUN), (0, 8.0));
     }
+}
+
+/// What solve, determinant, `d` and `l_permuted` of order 2 answer to a record, with the run number that they expect; a refusal leaves what was lent.
+fn answers(calls: &dyn Calls, record: &[u32], run: u32) -> [u64; 4] {
+    let a = [1.0, 2.0, 3.0, 4.0];
+    let [mut b, mut d, mut l] = [[9.0; 4]; 3];
+    let (determined, value) = calls.lblt_determinant(&a, record, 2, run);
+    let solved = calls.lblt_solve(&a, record, &mut b, 2, 2, run);
+    let filled = [calls.lblt_d(&a, record, &mut d, 2, run), calls.lblt_l_permuted(&a, record, &mut l, 2, run)];
+    for (answer, lent) in [(solved, b), (filled[0], d), (filled[1], l)] {
+        assert!(answer == 0 || lent == [9.0; 4]);
+    }
+    assert!(determined == 0 || value.to_bits() == 0);
+    [solved, determined, filled[0], filled[1]]
 }
 
 /// Document 02: a mark names a row of size 1 whose index is that row.
 #[test]
 fn marks() {
-    let a = [1.0, 2.0, 3.0, 4.0];
     for calls in BOTH {
-        let answers = |record: &[u32]| {
-            let solved = calls.lblt_solve(&a, record, &mut [9.0; 2], 2, 1);
-            let determined = calls.lblt_determinant(&a, record, 2).0;
-            let filled = [calls.lblt_d(&a, record, &mut [9.0; 4], 2), calls.lblt_l_permuted(&a, record, &mut [9.0; 4], 2)];
-            [solved, determined, filled[0], filled[1]]
-        };
-        assert_eq!(answers(&[1, 1, 1, 1, 1]), [5 * 4096 + 2; 4]);
-        assert_eq!(answers(&[1, 2, 1, 2, 2]), [5 * 4096 + 2; 4]);
-        assert_eq!(answers(&[0, 1, 1, 1, 1]), [6 * 4096, 0, 0, 0]);
-        assert_eq!(answers(&[1, 1, 1, 1, 2]), [6 * 4096 + 1, 0, 0, 0]);
+        assert_eq!(answers(calls, &[1, 1, 1, 1, 1, RUN], RUN), [5 * 4096 + 2; 4]);
+        assert_eq!(answers(calls, &[1, 2, 1, 2, 2, RUN], RUN), [5 * 4096 + 2; 4]);
+        assert_eq!(answers(calls, &[0, 1, 1, 1, 1, RUN], RUN), [6 * 4096, 0, 0, 0]);
+        assert_eq!(answers(calls, &[1, 1, 1, 1, 2, RUN], RUN), [6 * 4096 + 1, 0, 0, 0]);
+    }
+}
+
+/// Document 02: the run number is judged after the rule and before the mark.
+#[test]
+fn runs() {
+    for calls in BOTH {
+        for run in [0, RUN, u32::MAX] {
+            for other in [run.wrapping_add(1), run ^ 1 << 31] {
+                assert_eq!(answers(calls, &[1, 2, 1, 2, 0, run], run), [0; 4]);
+                assert_eq!(answers(calls, &[1, 2, 1, 2, 0, run], other), [13 * 4096; 4]);
+                assert_eq!(answers(calls, &[1, 1, 1, 1, 2, run], other), [13 * 4096; 4]);
+                assert_eq!(answers(calls, &[1, 1, 1, 1, 1, run], other), [5 * 4096 + 2; 4]);
+                assert_eq!(answers(calls, &[1, 1, 0, 1, 0, run], other), [5 * 4096 + 1; 4]);
+                assert_eq!(answers(calls, &[1, 2, 1, 2, run], other), [4 * 4096; 4]);
+            }
+        }
+        let mut record = [9; 5];
+        assert_eq!(calls.lblt_factor(&mut [1.0; 4], &mut record, 2, RUN), 4 * 4096);
+        assert_eq!(record, [9; 5]);
     }
 }
 
@@ -208,10 +238,10 @@ fn udu() {
 #[test]
 fn orders() {
     for calls in BOTH {
-        assert_eq!(calls.lblt_factor(&mut [], &mut [0], 0), 0);
-        assert_eq!(calls.lblt_determinant(&[], &[0], 0), (0, 1.0));
+        assert_eq!(calls.lblt_factor(&mut [], &mut [0, 9], 0, RUN), 0);
+        assert_eq!(calls.lblt_determinant(&[], &[0, RUN], 0, RUN), (0, 1.0));
         for n in [1025, 1 << 32, usize::MAX] {
-            assert_eq!(calls.lblt_factor(&mut [], &mut [], n), 4096);
+            assert_eq!(calls.lblt_factor(&mut [], &mut [], n, RUN), 4096);
             assert_eq!(calls.cholesky_factor(&mut [], n, n), 4096);
             assert_eq!(calls.udu_factor(&[], &mut [], &mut [], n), 4096);
         }

@@ -2,7 +2,7 @@
 
 use std::hint::black_box;
 
-use oracle::call::Calls;
+use oracle::call::{Calls, record_length};
 use oracle::cases::Rng;
 use oracle::linalg::cholesky::Cholesky;
 use oracle::linalg::lblt::LBLT;
@@ -33,6 +33,9 @@ pub const WORKS: [Work; 12] = [
     Work { name: "lblt l_permuted, heavy diagonal", measure: l_permuted_heavy },
     Work { name: "udu factor", measure: udu },
 ];
+
+/// The run number of all records.
+const RUN: u32 = 1;
 
 /// Both triangles alike.
 fn symmetric(n: usize, on_diagonal: f64) -> Vec<f64> {
@@ -69,9 +72,9 @@ fn cholesky(n: usize, seconds: f64) -> Pair {
 fn lblt(n: usize, seconds: f64, on_diagonal: f64) -> Pair {
     let a = symmetric(n, on_diagonal);
     pair(seconds, &mut |many| timed(squares(&a, n, many), LBLT::new), &mut |many| {
-        let items = copies(&a, many).into_iter().map(|a| (a, vec![0; 2 * n + 1])).collect();
+        let items = copies(&a, many).into_iter().map(|a| (a, vec![0; record_length(n)])).collect();
         timed(items, |(mut a, mut record)| {
-            black_box(Port.lblt_factor(&mut a, &mut record, n));
+            black_box(Port.lblt_factor(&mut a, &mut record, n, RUN));
             (a, record)
         })
     })
@@ -81,8 +84,8 @@ fn lblt(n: usize, seconds: f64, on_diagonal: f64) -> Pair {
 fn factored(n: usize, on_diagonal: f64) -> (LBLT<f64, Dyn>, Vec<f64>, Vec<u32>) {
     let mut a = symmetric(n, on_diagonal);
     let text = LBLT::new(square(n, a.clone()));
-    let mut record = vec![0; 2 * n + 1];
-    assert_eq!(Port.lblt_factor(&mut a, &mut record, n), 0);
+    let mut record = vec![0; record_length(n)];
+    assert_eq!(Port.lblt_factor(&mut a, &mut record, n, RUN), 0);
     (text, a, record)
 }
 
@@ -103,7 +106,7 @@ fn solve(n: usize, seconds: f64, columns: usize) -> Pair {
         },
         &mut |many| {
             timed_in_place(copies(&b, many), |b| {
-                black_box(Port.lblt_solve(&a, &record, b, n, columns));
+                black_box(Port.lblt_solve(&a, &record, b, n, columns, RUN));
             })
         },
     )
@@ -139,7 +142,7 @@ fn beside_lblt(n: usize, seconds: f64, columns: usize) -> Pair {
         seconds,
         &mut |many| {
             timed_in_place(copies(&b, many), |b| {
-                black_box(Port.lblt_solve(&lblt, &record, b, n, columns));
+                black_box(Port.lblt_solve(&lblt, &record, b, n, columns, RUN));
             })
         },
         &mut |many| {
@@ -162,7 +165,7 @@ fn l_permuted_of(n: usize, seconds: f64, on_diagonal: f64) -> Pair {
     let (text, a, record) = factored(n, on_diagonal);
     pair(seconds, &mut |many| timed(vec![(); many], |()| text.l_permuted()), &mut |many| {
         timed(copies(&vec![0.0; n * n], many), |mut l| {
-            black_box(Port.lblt_l_permuted(&a, &record, &mut l, n));
+            black_box(Port.lblt_l_permuted(&a, &record, &mut l, n, RUN));
             l
         })
     })

@@ -8,7 +8,7 @@ fn main() -> Result<(), BatchRefusal> {
     if let Some(twins) = first_twin(&matrix, 2, 2)? {
         println!("rows {} and {} are the same", twins.p, twins.q);
     }
-    let factor = LBLT::new(matrix, 2)?;
+    let factor = LBLT::new(matrix, 2, 1116)?; // 1116 is the run number, here the day
     println!("x = {:?}", factor.solve(&[8.0, 8.0])?);
     println!("determinant {}", factor.determinant());
 

@@ -7,8 +7,14 @@ pub struct Determined {
 }
 
 extern "C" {
-    pub fn urgyelpat_lblt_factor(a: *mut f64, a_length: usize, record: *mut u32, record_length: usize, n: usize)
-        -> u64;
+    pub fn urgyelpat_lblt_factor(
+        a: *mut f64,
+        a_length: usize,
+        record: *mut u32,
+        record_length: usize,
+        n: usize,
+        run: u32,
+    ) -> u64;
     pub fn urgyelpat_lblt_solve(
         a: *const f64,
         a_length: usize,
@@ -18,6 +24,7 @@ extern "C" {
         b_length: usize,
         n: usize,
         columns: usize,
+        run: u32,
     ) -> u64;
     pub fn urgyelpat_lblt_determinant(
         a: *const f64,
@@ -25,6 +32,7 @@ extern "C" {
         record: *const u32,
         record_length: usize,
         n: usize,
+        run: u32,
     ) -> Determined;
     pub fn urgyelpat_lblt_d(
         a: *const f64,
@@ -34,6 +42,7 @@ extern "C" {
         d: *mut f64,
         d_length: usize,
         n: usize,
+        run: u32,
     ) -> u64;
     pub fn urgyelpat_lblt_l_permuted(
         a: *const f64,
@@ -43,6 +52,7 @@ extern "C" {
         l: *mut f64,
         l_length: usize,
         n: usize,
+        run: u32,
     ) -> u64;
     pub fn urgyelpat_cholesky_factor(a: *mut f64, a_length: usize, room: usize, n: usize) -> u64;
     pub fn urgyelpat_cholesky_extend(a: *mut f64, a_length: usize, room: usize, earlier: usize, n: usize) -> u64;

@@ -1,18 +1,24 @@
 //! LBLT: P·A·Pᵀ = L·D·Lᵀ on paper, by Bunch and Kaufman's pivoting, for any symmetric matrix.
 //!
-//! The pivot record of a factor of order n has 2n + 1 words: the index and the size (1 or 2) of each row's pivot, then the
-//! mark, 0 or marked row + 1. [`factor`] writes it, and the calls that read the factor check its rule. Block by block from row
-//! 0 on: a block of size 1 at row k has an index in k..n; one of size 2 needs k + 1 < n, an index in k + 1..n and the same pair
-//! at k + 1. The mark is 0, or names a row of size 1 whose index is that row: where there is no pivot, nothing is exchanged.
-//! A record that breaks the rule is refused by [`BadRecord`](Refusal::BadRecord). One that keeps it, though damaged or of
-//! another matrix, is not noticed: keep a factor and its record together, as [`LBLT`] does.
+//! The pivot record of a factor of order n has 2n + 2 words: the index and the size (1 or 2) of each row's pivot, then the
+//! mark, 0 or marked row + 1, then the run number. [`factor`] writes it, and the calls that read the factor check its rule.
+//! Block by block from row 0 on: a block of size 1 at row k has an index in k..n; one of size 2 needs k + 1 < n, an index in
+//! k + 1..n and the same pair at k + 1. The mark is 0, or names a row of size 1 whose index is that row: where there is no
+//! pivot, nothing is exchanged. A record that breaks the rule is refused by [`BadRecord`](Refusal::BadRecord).
+//!
+//! The run number is the caller's: any `u32`, and no number means "unchecked". A [`factor`] call that is done writes the one
+//! that it is given, as its last argument; a refused one leaves the record that stood there, with its number. A call that
+//! reads the factor is given the number that it expects, as its last argument, and refuses by
+//! [`OtherRun`](Refusal::OtherRun) a record that keeps the rule but has another. Give each run (a day, a patient, a sheet) a
+//! number of its own, and yesterday's record is refused today. A record that keeps the rule and has the expected number is
+//! accepted, even if it is damaged or of another matrix: keep a factor and its record together, as [`LBLT`] does.
 //!
 //! The rows of the factor are not in the order in which they came: [`callers_row`] gives the way back.
 
 use crate::refusal::{done, value, Refusal};
 use crate::{ffi, kept, whole_columns};
 
-/// Factors the lower part of `a` (n·n numbers) in place and writes its pivot record (2n + 1 words).
+/// Factors the lower part of `a` (n·n numbers) in place and writes its pivot record (2n + 2 words), with `run` at its end.
 ///
 /// Where the diagonal and the largest number below it are both zero in size, or one is zero and the other NaN (the largest is
 /// NaN where the first number below is), there is no pivot: the column is passed over, and the first such row is marked. Below
@@ -24,30 +30,38 @@ use crate::{ffi, kept, whole_columns};
 /// [`SliceLength`](Refusal::SliceLength).
 ///
 /// ```
-/// let (mut a, mut record) = ([0.0, 1.0, 0.0, 4.0], [0; 5]);
-/// urgyelpat::lblt::factor(&mut a, &mut record, 2)?;
+/// let (mut a, mut record) = ([0.0, 1.0, 0.0, 4.0], [0; 6]);
+/// urgyelpat::lblt::factor(&mut a, &mut record, 2, 1116)?; // in run 1116
 /// assert_eq!(a, [4.0, 0.25, 0.0, -0.25]);
-/// assert_eq!(record, [1, 1, 1, 1, 0]);
+/// assert_eq!(record, [1, 1, 1, 1, 0, 1116]);
 /// # Ok::<(), urgyelpat::Refusal>(())
 /// ```
-pub fn factor(a: &mut [f64], record: &mut [u32], n: usize) -> Result<(), Refusal> {
+pub fn factor(a: &mut [f64], record: &mut [u32], n: usize, run: u32) -> Result<(), Refusal> {
     // SAFETY: each pointer and length are a slice's, and what is written is borrowed alone.
-    done(unsafe { ffi::urgyelpat_lblt_factor(a.as_mut_ptr(), a.len(), record.as_mut_ptr(), record.len(), n) })
+    done(unsafe { ffi::urgyelpat_lblt_factor(a.as_mut_ptr(), a.len(), record.as_mut_ptr(), record.len(), n, run) })
 }
 
-/// Solves A·X = B in `b` (n·columns numbers), by a factor and its record.
+/// Solves A·X = B in `b` (n·columns numbers), by a factor and its record, which is expected to be of the run `run`.
 ///
 /// Refused by [`OutOfRange`](Refusal::OutOfRange), [`MatrixLength`](Refusal::MatrixLength),
-/// [`SliceLength`](Refusal::SliceLength), [`BadRecord`](Refusal::BadRecord), [`ZeroMark`](Refusal::ZeroMark), which names a row
-/// of the factor: [`callers_row`] gives yours. Look first for NaN or infinite numbers in all rows of A.
+/// [`SliceLength`](Refusal::SliceLength), [`BadRecord`](Refusal::BadRecord), [`OtherRun`](Refusal::OtherRun),
+/// [`ZeroMark`](Refusal::ZeroMark), which names a row of the factor: [`callers_row`] gives yours. Look first for NaN or
+/// infinite numbers in all rows of A.
 ///
 /// ```
+/// use urgyelpat::{lblt, Refusal};
+///
+/// let (a, mondays) = ([0.0, 1.0, 0.0, 0.0], [1, 2, 1, 2, 0, 1116]);
 /// let mut b = [3.0, 5.0];
-/// urgyelpat::lblt::solve_mut(&[0.0, 1.0, 0.0, 0.0], &[1, 2, 1, 2, 0], &mut b, 2, 1)?;
+/// // on Tuesday run 1117 is expected, and Monday's record is refused
+/// assert_eq!(lblt::solve_mut(&a, &mondays, &mut b, 2, 1, 1117), Err(Refusal::OtherRun));
+/// assert_eq!(b, [3.0, 5.0]);
+///
+/// lblt::solve_mut(&a, &mondays, &mut b, 2, 1, 1116)?;
 /// assert_eq!(b, [5.0, 3.0]);
-/// # Ok::<(), urgyelpat::Refusal>(())
+/// # Ok::<(), Refusal>(())
 /// ```
-pub fn solve_mut(a: &[f64], record: &[u32], b: &mut [f64], n: usize, columns: usize) -> Result<(), Refusal> {
+pub fn solve_mut(a: &[f64], record: &[u32], b: &mut [f64], n: usize, columns: usize, run: u32) -> Result<(), Refusal> {
     // SAFETY: each pointer and length are a slice's, and what is written is borrowed alone.
     done(unsafe {
         ffi::urgyelpat_lblt_solve(
@@ -59,39 +73,40 @@ pub fn solve_mut(a: &[f64], record: &[u32], b: &mut [f64], n: usize, columns: us
             b.len(),
             n,
             columns,
+            run,
         )
     })
 }
 
-/// The determinant by a factor and its record; 1 for order 0.
+/// The determinant by a factor and its record, which is expected to be of the run `run`; 1 for order 0.
 ///
 /// Refused by [`OutOfRange`](Refusal::OutOfRange), [`MatrixLength`](Refusal::MatrixLength),
-/// [`SliceLength`](Refusal::SliceLength), [`BadRecord`](Refusal::BadRecord).
+/// [`SliceLength`](Refusal::SliceLength), [`BadRecord`](Refusal::BadRecord), [`OtherRun`](Refusal::OtherRun).
 ///
 /// ```
 /// use urgyelpat::{lblt, Refusal};
 ///
 /// let a = [0.0, 1.0, 0.0, 0.0];
-/// assert_eq!(lblt::determinant(&a, &[1, 2, 1, 2, 0], 2), Ok(-1.0));
-/// assert_eq!(lblt::determinant(&a, &[1, 2, 9, 2, 0], 2), Err(Refusal::BadRecord { row: 0 }));
+/// assert_eq!(lblt::determinant(&a, &[1, 2, 1, 2, 0, 1116], 2, 1116), Ok(-1.0));
+/// assert_eq!(lblt::determinant(&a, &[1, 2, 9, 2, 0, 1116], 2, 1116), Err(Refusal::BadRecord { row: 0 }));
 /// ```
-pub fn determinant(a: &[f64], record: &[u32], n: usize) -> Result<f64, Refusal> {
+pub fn determinant(a: &[f64], record: &[u32], n: usize, run: u32) -> Result<f64, Refusal> {
     // SAFETY: each pointer and length are a slice's.
-    value(unsafe { ffi::urgyelpat_lblt_determinant(a.as_ptr(), a.len(), record.as_ptr(), record.len(), n) })
+    value(unsafe { ffi::urgyelpat_lblt_determinant(a.as_ptr(), a.len(), record.as_ptr(), record.len(), n, run) })
 }
 
-/// Fills `d` (n·n numbers) with the block diagonal matrix of a factor.
+/// Fills `d` (n·n numbers) with the block diagonal matrix of a factor, whose record is expected to be of the run `run`.
 ///
 /// Refused by [`OutOfRange`](Refusal::OutOfRange), [`MatrixLength`](Refusal::MatrixLength),
-/// [`SliceLength`](Refusal::SliceLength), [`BadRecord`](Refusal::BadRecord).
+/// [`SliceLength`](Refusal::SliceLength), [`BadRecord`](Refusal::BadRecord), [`OtherRun`](Refusal::OtherRun).
 ///
 /// ```
 /// let mut d = [9.0; 4];
-/// urgyelpat::lblt::d(&[4.0, 0.25, 7.0, -0.25], &[1, 1, 1, 1, 0], &mut d, 2)?;
+/// urgyelpat::lblt::d(&[4.0, 0.25, 7.0, -0.25], &[1, 1, 1, 1, 0, 1116], &mut d, 2, 1116)?;
 /// assert_eq!(d, [4.0, 0.0, 0.0, -0.25]);
 /// # Ok::<(), urgyelpat::Refusal>(())
 /// ```
-pub fn d(a: &[f64], record: &[u32], d: &mut [f64], n: usize) -> Result<(), Refusal> {
+pub fn d(a: &[f64], record: &[u32], d: &mut [f64], n: usize, run: u32) -> Result<(), Refusal> {
     // SAFETY: each pointer and length are a slice's, and what is written is borrowed alone.
     done(unsafe {
         ffi::urgyelpat_lblt_d(
@@ -102,22 +117,23 @@ pub fn d(a: &[f64], record: &[u32], d: &mut [f64], n: usize) -> Result<(), Refus
             d.as_mut_ptr(),
             d.len(),
             n,
+            run,
         )
     })
 }
 
-/// Fills `l` (n·n numbers) with Pᵀ·L; on paper the factored matrix is l·d·lᵀ.
+/// Fills `l` (n·n numbers) with Pᵀ·L; on paper the factored matrix is l·d·lᵀ. The record is expected to be of the run `run`.
 ///
 /// Refused by [`OutOfRange`](Refusal::OutOfRange), [`MatrixLength`](Refusal::MatrixLength),
-/// [`SliceLength`](Refusal::SliceLength), [`BadRecord`](Refusal::BadRecord).
+/// [`SliceLength`](Refusal::SliceLength), [`BadRecord`](Refusal::BadRecord), [`OtherRun`](Refusal::OtherRun).
 ///
 /// ```
 /// let mut l = [9.0; 4];
-/// urgyelpat::lblt::l_permuted(&[4.0, 0.25, 7.0, -0.25], &[1, 1, 1, 1, 0], &mut l, 2)?;
+/// urgyelpat::lblt::l_permuted(&[4.0, 0.25, 7.0, -0.25], &[1, 1, 1, 1, 0, 1116], &mut l, 2, 1116)?;
 /// assert_eq!(l, [0.25, 1.0, 1.0, 0.0]);
 /// # Ok::<(), urgyelpat::Refusal>(())
 /// ```
-pub fn l_permuted(a: &[f64], record: &[u32], l: &mut [f64], n: usize) -> Result<(), Refusal> {
+pub fn l_permuted(a: &[f64], record: &[u32], l: &mut [f64], n: usize, run: u32) -> Result<(), Refusal> {
     // SAFETY: each pointer and length are a slice's, and what is written is borrowed alone.
     done(unsafe {
         ffi::urgyelpat_lblt_l_permuted(
@@ -128,6 +144,7 @@ pub fn l_permuted(a: &[f64], record: &[u32], l: &mut [f64], n: usize) -> Result<
             l.as_mut_ptr(),
             l.len(),
             n,
+            run,
         )
     })
 }
@@ -137,9 +154,9 @@ pub fn l_permuted(a: &[f64], record: &[u32], l: &mut [f64], n: usize) -> Result<
 ///
 /// ```
 /// // the lower rows 1 / 2 4: row 1 is brought to the top, and the factor's row 1 has no pivot
-/// let (mut a, mut record) = ([1.0, 2.0, 0.0, 4.0], [0; 5]);
-/// urgyelpat::lblt::factor(&mut a, &mut record, 2)?;
-/// assert_eq!(record, [1, 1, 1, 1, 2]);
+/// let (mut a, mut record) = ([1.0, 2.0, 0.0, 4.0], [0; 6]);
+/// urgyelpat::lblt::factor(&mut a, &mut record, 2, 1116)?;
+/// assert_eq!(record, [1, 1, 1, 1, 2, 1116]);
 /// assert_eq!(urgyelpat::lblt::callers_row(&record, 2, 1), 0);
 /// # Ok::<(), urgyelpat::Refusal>(())
 /// ```
@@ -160,15 +177,17 @@ pub fn callers_row(record: &[u32], n: usize, row: usize) -> usize {
     row
 }
 
-/// A factored symmetric matrix with its pivot record.
+/// A factored symmetric matrix with its pivot record. Its calls expect its own run number: whether it is the factor of this
+/// run, [`run`](LBLT::run) tells.
 ///
 /// ```
 /// use urgyelpat::LBLT;
 ///
-/// let factor = LBLT::new(vec![0.0, 1.0, 0.0, 4.0], 2)?;
+/// let factor = LBLT::new(vec![0.0, 1.0, 0.0, 4.0], 2, 1116)?; // in run 1116
 /// assert_eq!(factor.solve(&[1.0, 6.0])?, [2.0, 1.0]);
 /// assert_eq!(factor.determinant(), -1.0);
 /// assert_eq!(factor.zero_pivot(), None);
+/// assert_eq!(factor.run(), 1116);
 /// # Ok::<(), urgyelpat::Refusal>(())
 /// ```
 #[derive(Clone, Debug, PartialEq)]
@@ -182,13 +201,14 @@ pub struct LBLT {
 const OWN: &str = "the factor call's own record and sizes are accepted";
 
 impl LBLT {
-    /// Factors a symmetric matrix of order n, n·n numbers, of which the lower part is read.
+    /// Factors a symmetric matrix of order n, n·n numbers, of which the lower part is read. The run number, any number of the
+    /// caller's, stands at the end of the record.
     ///
     /// Refused by [`OutOfRange`](Refusal::OutOfRange) and [`MatrixLength`](Refusal::MatrixLength). A matrix in which a row has
     /// no pivot is factored too: see [`zero_pivot`](LBLT::zero_pivot).
-    pub fn new(mut matrix: Vec<f64>, n: usize) -> Result<LBLT, Refusal> {
-        let mut record = vec![0; 2 * kept(n) + 1];
-        factor(&mut matrix, &mut record, n)?;
+    pub fn new(mut matrix: Vec<f64>, n: usize, run: u32) -> Result<LBLT, Refusal> {
+        let mut record = vec![0; 2 * kept(n) + 2];
+        factor(&mut matrix, &mut record, n, run)?;
         Ok(LBLT {
             matrix,
             record,
@@ -206,14 +226,14 @@ impl LBLT {
         &self.matrix
     }
 
-    /// The pivot record as it stands, 2n + 1 words.
+    /// The pivot record as it stands, 2n + 2 words.
     pub fn record(&self) -> &[u32] {
         &self.record
     }
 
     /// The pivot of each row, as (index, block size).
     pub fn pivots(&self) -> impl Iterator<Item = (usize, usize)> + '_ {
-        self.record
+        self.record[..2 * self.order]
             .chunks_exact(2)
             .map(|pivot| (pivot[0] as usize, pivot[1] as usize))
     }
@@ -225,12 +245,17 @@ impl LBLT {
         (self.record[2 * self.order] as usize).checked_sub(1)
     }
 
+    /// The run number that the factor was made with.
+    pub fn run(&self) -> u32 {
+        self.record[2 * self.order + 1]
+    }
+
     /// The row of the given matrix that stands at a row of the factor.
     ///
     /// ```
     /// use urgyelpat::{Refusal, LBLT};
     ///
-    /// let factor = LBLT::new(vec![1.0, 2.0, 0.0, 4.0], 2)?;
+    /// let factor = LBLT::new(vec![1.0, 2.0, 0.0, 4.0], 2, 1116)?;
     /// assert_eq!(factor.solve(&[1.0, 1.0]), Err(Refusal::ZeroMark { row: 1 }));
     /// assert_eq!(factor.callers_row(1), 0);
     /// # Ok::<(), Refusal>(())
@@ -254,49 +279,49 @@ impl LBLT {
     /// ```
     /// use urgyelpat::{Refusal, LBLT};
     ///
-    /// let factor = LBLT::new(vec![0.0, 1.0, 0.0, 0.0], 2)?;
+    /// let factor = LBLT::new(vec![0.0, 1.0, 0.0, 0.0], 2, 1116)?;
     /// let mut sides = [3.0, 5.0, 1.0, 0.0];
     /// factor.solve_mut(&mut sides)?;
     /// assert_eq!(sides, [5.0, 3.0, 0.0, 1.0]);
     ///
-    /// let marked = LBLT::new(vec![1.0, 1.0, 0.0, 1.0], 2)?;
+    /// let marked = LBLT::new(vec![1.0, 1.0, 0.0, 1.0], 2, 1116)?;
     /// assert_eq!(marked.solve_mut(&mut sides), Err(Refusal::ZeroMark { row: 1 }));
     /// assert_eq!(sides, [5.0, 3.0, 0.0, 1.0]);
     /// # Ok::<(), Refusal>(())
     /// ```
     pub fn solve_mut(&self, b: &mut [f64]) -> Result<(), Refusal> {
         let columns = whole_columns(b.len(), self.order);
-        solve_mut(&self.matrix, &self.record, b, self.order, columns)
+        solve_mut(&self.matrix, &self.record, b, self.order, columns, self.run())
     }
 
     /// The determinant; 1 for order 0.
     pub fn determinant(&self) -> f64 {
-        determinant(&self.matrix, &self.record, self.order).expect(OWN)
+        determinant(&self.matrix, &self.record, self.order, self.run()).expect(OWN)
     }
 
     /// The block diagonal matrix D, n·n numbers.
     ///
     /// ```
-    /// let factor = urgyelpat::LBLT::new(vec![0.0, 1.0, 7.0, 0.0], 2)?;
+    /// let factor = urgyelpat::LBLT::new(vec![0.0, 1.0, 7.0, 0.0], 2, 1116)?;
     /// assert_eq!(factor.d(), [0.0, 1.0, 1.0, 0.0]);
     /// # Ok::<(), urgyelpat::Refusal>(())
     /// ```
     pub fn d(&self) -> Vec<f64> {
         let mut filled = vec![0.0; self.matrix.len()];
-        d(&self.matrix, &self.record, &mut filled, self.order).expect(OWN);
+        d(&self.matrix, &self.record, &mut filled, self.order, self.run()).expect(OWN);
         filled
     }
 
     /// The factor Pᵀ·L, n·n numbers; on paper the matrix is l·d·lᵀ.
     ///
     /// ```
-    /// let factor = urgyelpat::LBLT::new(vec![0.0, 1.0, 7.0, 4.0], 2)?;
+    /// let factor = urgyelpat::LBLT::new(vec![0.0, 1.0, 7.0, 4.0], 2, 1116)?;
     /// assert_eq!(factor.l_permuted(), [0.25, 1.0, 1.0, 0.0]);
     /// # Ok::<(), urgyelpat::Refusal>(())
     /// ```
     pub fn l_permuted(&self) -> Vec<f64> {
         let mut filled = vec![0.0; self.matrix.len()];
-        l_permuted(&self.matrix, &self.record, &mut filled, self.order).expect(OWN);
+        l_permuted(&self.matrix, &self.record, &mut filled, self.order, self.run()).expect(OWN);
         filled
     }
 }

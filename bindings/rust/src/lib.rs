@@ -9,8 +9,9 @@
 //! ```
 //! use urgyelpat::LBLT;
 //!
-//! // the symmetric matrix with the lower rows 4 / 2 3, column by column; the entry above the diagonal is not read
-//! let factor = LBLT::new(vec![4.0, 2.0, 0.0, 3.0], 2)?;
+//! // the symmetric matrix with the lower rows 4 / 2 3, column by column; the entry above the diagonal is not read.
+//! // 1116 is the run number: any number that you give to this run
+//! let factor = LBLT::new(vec![4.0, 2.0, 0.0, 3.0], 2, 1116)?;
 //! assert_eq!(factor.determinant(), 8.0);
 //! assert_eq!(factor.solve(&[8.0, 8.0])?, [1.0, 2.0]);
 //! # Ok::<(), urgyelpat::Refusal>(())

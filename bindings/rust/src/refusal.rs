@@ -5,9 +5,9 @@ use crate::ffi::Determined;
 
 /// Why a call was refused, and where.
 ///
-/// The checks 1 to 6 run in the order of the codes, and the first that fails is the answer; every slice is then as it was.
-/// Cholesky and UDU go on from there column by column, UDU from the last one back, and the first diagonal that fails gives its
-/// code: for Cholesky just one of 7, 10 and 11 fits it. What 7, 8, 10 and 11 leave is said at the calls that give them.
+/// The checks 1 to 5, then 13, then 6 run in that order, and the first that fails is the answer; every slice is then as it
+/// was. Cholesky and UDU go on from there column by column, UDU from the last one back, and the first diagonal that fails gives
+/// its code: for Cholesky just one of 7, 10 and 11 fits it. What 7, 8, 10 and 11 leave is said at the calls that give them.
 #[derive(Clone, Copy, Debug, PartialEq, Eq, Hash)]
 #[non_exhaustive]
 pub enum Refusal {
@@ -51,6 +51,8 @@ pub enum Refusal {
         /// Its row and column.
         column: usize,
     },
+    /// Code 13: the pivot record has another run number than the one that is expected.
+    OtherRun,
 }
 
 impl Refusal {
@@ -67,13 +69,18 @@ impl Refusal {
             Refusal::ZeroDiagonal { .. } => 8,
             Refusal::CholeskyBelowZero { .. } => 10,
             Refusal::CholeskyNan { .. } => 11,
+            Refusal::OtherRun => 13,
         }
     }
 
     /// The place on the stand; 0 where the refusal names none.
     pub fn place(self) -> usize {
         match self {
-            Refusal::OutOfRange | Refusal::OrderAboveRoom | Refusal::MatrixLength | Refusal::SliceLength => 0,
+            Refusal::OutOfRange
+            | Refusal::OrderAboveRoom
+            | Refusal::MatrixLength
+            | Refusal::SliceLength
+            | Refusal::OtherRun => 0,
             Refusal::BadRecord { row } | Refusal::ZeroMark { row } => row,
             Refusal::CholeskyZero { column }
             | Refusal::ZeroDiagonal { column }
@@ -126,6 +133,10 @@ impl fmt::Display for Refusal {
                 f,
                 "the diagonal of row {column} is NaN, not a number: look for NaN, infinite or far too large numbers, first in that row, and for a broken probe or cable. Measure again"
             ),
+            Refusal::OtherRun => write!(
+                f,
+                "the pivot record was made in another run, perhaps yesterday's: take the record that this run's factor call wrote, or factor this run's matrix again"
+            ),
         }
     }
 }
@@ -147,6 +158,7 @@ pub(crate) fn done(answer: u64) -> Result<(), Refusal> {
         8 => Refusal::ZeroDiagonal { column: place },
         10 => Refusal::CholeskyBelowZero { column: place },
         11 => Refusal::CholeskyNan { column: place },
+        13 => Refusal::OtherRun,
         code => {
             panic!("liburgyelpat.a answers code {code}, which this crate does not know: build both from one version")
         }

@@ -14,13 +14,13 @@ fn check(y: Layout, columns: usize, a: &[f64], words: &[u32], b: &[f64], run: u3
     ensures { λ r. ⌜ r ≡ tested (solveTests y columns run (now (a .entry)) (now (words .entry)) (now (b .entry))) Done ⌝ }
 {
     let sizes = lblt_read::check_sides(y, columns, a, b);
-    let answer = lblt_read::check_record(sizes, words, y.order, run);
-    if answer.code() != 0 {
-        return answer;
+    let read = lblt_read::check_record(sizes, words, y.order, run);
+    if read.code() != 0 {
+        return read;
     }
     let mark = pivots::mark(words, y.order);
     if mark == 0 {
-        return answer;
+        return read;
     }
     Answer::ZeroMark((mark - 1) as u32)
 }

@@ -5,7 +5,7 @@
 use std::collections::BTreeMap;
 use std::process::ExitCode;
 
-use oracle::call::{Call, Calls, Case, Outcome, word};
+use oracle::call::{Call, Calls, Case, Outcome, mark, pairs, word};
 use oracle::cases::{self, Chain};
 use oracle::line::{case_line, outcome_line};
 use oracle::paper::Paper;
@@ -105,7 +105,7 @@ impl<'a> Tally<'a> {
         }
         if case.call == Call::LbltFactor && text.answer == 0 {
             self.size_two += blocks_of_two(&text);
-            self.marks += (text.record.last() != Some(&0)) as u64;
+            self.marks += (mark(&text.record) != 0) as u64;
         }
         if text != other {
             let said = format!("{}\ntext  {}\nother {}", case_line(case), outcome_line(case, &text), outcome_line(case, &other));
@@ -167,5 +167,5 @@ impl<'a> Tally<'a> {
 }
 
 fn blocks_of_two(factored: &Outcome) -> u64 {
-    factored.record.chunks_exact(2).filter(|pair| pair[1] == 2).count() as u64 / 2
+    pairs(&factored.record).filter(|pair| pair[1] == 2).count() as u64 / 2
 }

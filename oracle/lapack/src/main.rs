@@ -3,7 +3,7 @@
 
 use std::process::ExitCode;
 
-use oracle::call::{Call, Calls, Case, words};
+use oracle::call::{Call, Calls, Case, mark, pairs, record_length, words};
 use oracle::cases::{Rng, filled};
 use oracle::text::Text;
 
@@ -12,7 +12,7 @@ unsafe extern "C" {
     fn dpotf2_(uplo: *const u8, n: *const i32, a: *mut f64, lda: *const i32, info: *mut i32, uplo_len: usize);
 }
 
-/// The factor, and the pivots and INFO as a record.
+/// The factor, and the pivots and INFO as a record of run 0.
 fn dsytf2(a: &mut [f64], n: usize) -> Vec<u32> {
     let order = n as i32;
     let mut ipiv = vec![0; n];
@@ -20,7 +20,7 @@ fn dsytf2(a: &mut [f64], n: usize) -> Vec<u32> {
     unsafe { dsytf2_(b"L".as_ptr(), &order, a.as_mut_ptr(), &order.max(1), ipiv.as_mut_ptr(), &mut info, 1) };
     assert!(info >= 0);
     let mut record: Vec<u32> = ipiv.iter().flat_map(|&p| if p > 0 { [p as u32 - 1, 1] } else { [-p as u32 - 1, 2] }).collect();
-    record.push(info as u32);
+    record.extend([info as u32, 0]);
     record
 }
 
@@ -73,11 +73,11 @@ fn symmetric(matrices: u64, first: u64) -> bool {
         let r = &mut Rng::new(seed);
         let n = 1 + r.below(64);
         let a = random(r, n, 0.0);
-        let (mut text, mut record) = (a.clone(), vec![0; 2 * n + 1]);
-        Text.lblt_factor(&mut text, &mut record, n);
+        let (mut text, mut record) = (a.clone(), vec![0; record_length(n)]);
+        Text.lblt_factor(&mut text, &mut record, n, 0);
         let mut other = a.clone();
         rows += n;
-        twos += record.chunks_exact(2).filter(|pair| pair[1] == 2).count() / 2;
+        twos += pairs(&record).filter(|pair| pair[1] == 2).count() / 2;
         if dsytf2(&mut other, n) == record {
             same += 1;
             worst = worst.max(apart(&text, &other, n));
@@ -147,8 +147,8 @@ fn small() {
     ];
     for (what, lower) in lblt {
         let (a, n) = placed(lower);
-        let (mut text, mut record) = (a.clone(), vec![0; 2 * n + 1]);
-        Text.lblt_factor(&mut text, &mut record, n);
+        let (mut text, mut record) = (a.clone(), vec![0; record_length(n)]);
+        Text.lblt_factor(&mut text, &mut record, n, 0);
         let mut other = a.clone();
         let ipiv = dsytf2(&mut other, n);
         println!("{what}: {}", shown(&a, n));
@@ -193,10 +193,10 @@ fn shown(a: &[f64], n: usize) -> String {
 }
 
 fn pivots(record: &[u32]) -> String {
-    let pairs: Vec<String> = record.chunks_exact(2).map(|p| format!("({},{})", p[0], p[1])).collect();
-    let mark = match record.last() {
-        Some(0) | None => "no mark".into(),
-        Some(m) => format!("mark {}", m - 1),
+    let shown: Vec<String> = pairs(record).map(|p| format!("({},{})", p[0], p[1])).collect();
+    let mark = match mark(record) {
+        0 => "no mark".into(),
+        m => format!("mark {}", m - 1),
     };
-    format!("{} {mark}", pairs.join(","))
+    format!("{} {mark}", shown.join(","))
 }

@@ -9,7 +9,7 @@ struct Determinant {
 }
 
 unsafe extern "C" {
-    fn urgyelpat_lblt_factor(a: *mut f64, a_len: usize, record: *mut u32, record_len: usize, n: usize) -> u64;
+    fn urgyelpat_lblt_factor(a: *mut f64, a_len: usize, record: *mut u32, record_len: usize, n: usize, run: u32) -> u64;
     fn urgyelpat_lblt_solve(
         a: *const f64,
         a_len: usize,
@@ -19,9 +19,19 @@ unsafe extern "C" {
         b_len: usize,
         n: usize,
         columns: usize,
+        run: u32,
     ) -> u64;
-    fn urgyelpat_lblt_determinant(a: *const f64, a_len: usize, record: *const u32, record_len: usize, n: usize) -> Determinant;
-    fn urgyelpat_lblt_d(a: *const f64, a_len: usize, record: *const u32, record_len: usize, d: *mut f64, d_len: usize, n: usize) -> u64;
+    fn urgyelpat_lblt_determinant(a: *const f64, a_len: usize, record: *const u32, record_len: usize, n: usize, run: u32) -> Determinant;
+    fn urgyelpat_lblt_d(
+        a: *const f64,
+        a_len: usize,
+        record: *const u32,
+        record_len: usize,
+        d: *mut f64,
+        d_len: usize,
+        n: usize,
+        run: u32,
+    ) -> u64;
     fn urgyelpat_lblt_l_permuted(
         a: *const f64,
         a_len: usize,
@@ -30,6 +40,7 @@ unsafe extern "C" {
         l: *mut f64,
         l_len: usize,
         n: usize,
+        run: u32,
     ) -> u64;
     fn urgyelpat_cholesky_factor(a: *mut f64, a_len: usize, room: usize, n: usize) -> u64;
     fn urgyelpat_cholesky_extend(a: *mut f64, a_len: usize, room: usize, earlier: usize, n: usize) -> u64;
@@ -47,29 +58,29 @@ pub struct Port;
 /// Every slice is lent by Rust for the time of the call, and no two overlap.
 impl Calls for Port {
     #[inline]
-    fn lblt_factor(&self, a: &mut [f64], record: &mut [u32], n: usize) -> u64 {
-        unsafe { urgyelpat_lblt_factor(a.as_mut_ptr(), a.len(), record.as_mut_ptr(), record.len(), n) }
+    fn lblt_factor(&self, a: &mut [f64], record: &mut [u32], n: usize, run: u32) -> u64 {
+        unsafe { urgyelpat_lblt_factor(a.as_mut_ptr(), a.len(), record.as_mut_ptr(), record.len(), n, run) }
     }
 
     #[inline]
-    fn lblt_solve(&self, a: &[f64], record: &[u32], b: &mut [f64], n: usize, columns: usize) -> u64 {
-        unsafe { urgyelpat_lblt_solve(a.as_ptr(), a.len(), record.as_ptr(), record.len(), b.as_mut_ptr(), b.len(), n, columns) }
+    fn lblt_solve(&self, a: &[f64], record: &[u32], b: &mut [f64], n: usize, columns: usize, run: u32) -> u64 {
+        unsafe { urgyelpat_lblt_solve(a.as_ptr(), a.len(), record.as_ptr(), record.len(), b.as_mut_ptr(), b.len(), n, columns, run) }
     }
 
     #[inline]
-    fn lblt_determinant(&self, a: &[f64], record: &[u32], n: usize) -> (u64, f64) {
-        let r = unsafe { urgyelpat_lblt_determinant(a.as_ptr(), a.len(), record.as_ptr(), record.len(), n) };
+    fn lblt_determinant(&self, a: &[f64], record: &[u32], n: usize, run: u32) -> (u64, f64) {
+        let r = unsafe { urgyelpat_lblt_determinant(a.as_ptr(), a.len(), record.as_ptr(), record.len(), n, run) };
         (r.answer, r.value)
     }
 
     #[inline]
-    fn lblt_d(&self, a: &[f64], record: &[u32], d: &mut [f64], n: usize) -> u64 {
-        unsafe { urgyelpat_lblt_d(a.as_ptr(), a.len(), record.as_ptr(), record.len(), d.as_mut_ptr(), d.len(), n) }
+    fn lblt_d(&self, a: &[f64], record: &[u32], d: &mut [f64], n: usize, run: u32) -> u64 {
+        unsafe { urgyelpat_lblt_d(a.as_ptr(), a.len(), record.as_ptr(), record.len(), d.as_mut_ptr(), d.len(), n, run) }
     }
 
     #[inline]
-    fn lblt_l_permuted(&self, a: &[f64], record: &[u32], l: &mut [f64], n: usize) -> u64 {
-        unsafe { urgyelpat_lblt_l_permuted(a.as_ptr(), a.len(), record.as_ptr(), record.len(), l.as_mut_ptr(), l.len(), n) }
+    fn lblt_l_permuted(&self, a: &[f64], record: &[u32], l: &mut [f64], n: usize, run: u32) -> u64 {
+        unsafe { urgyelpat_lblt_l_permuted(a.as_ptr(), a.len(), record.as_ptr(), record.len(), l.as_mut_ptr(), l.len(), n, run) }
     }
 
     #[inline]

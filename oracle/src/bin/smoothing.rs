@@ -1,7 +1,7 @@
 //! A point sent twice into a fit with a smoothing term: A = K + λ·I, K from the points by the kernel 2^−|x − y|. The two rows differ where the
 //! term stands, so that they are no twins; the fit counts the point twice, as if it stood once with half its term.
 
-use oracle::call::Calls;
+use oracle::call::{Calls, record_length};
 use oracle::paper::Paper;
 use oracle::text::Text;
 
@@ -40,11 +40,11 @@ fn twins(a: &[f64], n: usize) -> String {
 /// The weights, by the text's LBLT: A·w = values.
 fn weights(points: &[Point]) -> Vec<f64> {
     let n = points.len();
-    let (mut a, mut record) = (matrix(points), vec![0; 2 * n + 1]);
+    let (mut a, mut record) = (matrix(points), vec![0; record_length(n)]);
     let mut w: Vec<f64> = points.iter().map(|p| p.value).collect();
-    assert_eq!(Text.lblt_factor(&mut a, &mut record, n), 0);
-    assert_eq!(Text.lblt_solve(&a, &record, &mut w, n, 1), 0, "the matrix is singular");
-    println!("  determinant {:.6}", Text.lblt_determinant(&a, &record, n).1);
+    assert_eq!(Text.lblt_factor(&mut a, &mut record, n, 0), 0);
+    assert_eq!(Text.lblt_solve(&a, &record, &mut w, n, 1, 0), 0, "the matrix is singular");
+    println!("  determinant {:.6}", Text.lblt_determinant(&a, &record, n, 0).1);
     w
 }
 

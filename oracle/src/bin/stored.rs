@@ -5,7 +5,7 @@ use std::path::Path;
 use std::process::ExitCode;
 use std::{env, fs, io};
 
-use oracle::call::{Call, Calls, Case, Slice};
+use oracle::call::{Call, Calls, Case, Slice, record_length};
 use oracle::cases::{self, SPECIAL, fill, filled};
 use oracle::list::{MOST, Machine, Pattern, Spot, Writer};
 use oracle::paper::Paper;
@@ -74,7 +74,7 @@ fn emit(w: &mut Writer, case: &Case) -> u64 {
             w.set_or_fill(slice, &words);
         }
     }
-    w.call(case.call, case.n, case.x, case.y)
+    w.call(case.call, case.n, case.x, case.third())
 }
 
 fn emit_all<'a>(w: &mut Writer, cases: impl IntoIterator<Item = &'a Case>) {
@@ -105,7 +105,7 @@ fn families(w: &mut Writer, first: Call, orders: std::ops::RangeInclusive<usize>
 fn refusals(w: &mut Writer, calls: &[Call]) {
     let all: Vec<Case> = cases::refusals().into_iter().filter(|c| calls.contains(&c.call) && fits(c)).collect();
     for &call in calls {
-        for code in 1..=6 {
+        for code in (1..=6).chain([13]) {
             let of_code = |c: &&Case| c.call == call && c.run(&Text).answer / 4096 == code;
             let some: Vec<&Case> = all.iter().filter(of_code).collect();
             for at in 0..some.len().min(4) {
@@ -117,15 +117,17 @@ fn refusals(w: &mut Writer, calls: &[Call]) {
 
 /// Sound records with each word changed to each of a few.
 fn records(w: &mut Writer) {
-    let sound: [&[u32]; 5] = [&[0, 1, 0], &[1, 1, 1, 1, 2], &[1, 2, 1, 2, 0], &[0, 1, 2, 2, 2, 2, 1], &[2, 2, 2, 2, 2, 1, 0]];
+    let run = 7;
+    let sound: [&[u32]; 5] =
+        [&[0, 1, 0, run], &[1, 1, 1, 1, 2, run], &[1, 2, 1, 2, 0, run], &[0, 1, 2, 2, 2, 2, 1, run], &[2, 2, 2, 2, 2, 1, 0, run]];
     for record in sound {
-        let n = record.len() / 2;
+        let n = record.len() / 2 - 1;
         for at in 0..record.len() {
             for word in [0, 1, 2, 3, n as u32, n as u32 + 1, u32::MAX] {
                 let mut changed = record.to_vec();
                 changed[at] = word;
                 let a = (0..n * n).map(|at| at as f64 + 1.0).collect();
-                emit_all(w, [&Case { record: changed, ..Case::new(Call::LbltDeterminant, n, a) }]);
+                emit_all(w, [&Case { run, record: changed, ..Case::new(Call::LbltDeterminant, n, a) }]);
             }
         }
     }
@@ -143,17 +145,25 @@ fn matrix(n: usize, lower: &[f64]) -> Vec<f64> {
     a
 }
 
-/// The LBLT calls on one matrix.
+/// The run number of a matrix of order n.
+fn run_of(n: usize) -> usize {
+    20_000 + n
+}
+
+/// The LBLT calls on one matrix; after the solve, a solve and a determinant that expect another run.
 fn lblt_calls(w: &mut Writer, n: usize, columns: usize, sides: impl Fn(&mut Writer)) {
-    w.set(Slice::Record, &vec![9; 2 * n + 1]);
-    w.call(Call::LbltFactor, n, 0, 0);
+    let run = run_of(n);
+    w.set(Slice::Record, &vec![9; record_length(n)]);
+    w.call(Call::LbltFactor, n, 0, run);
     sides(w);
-    w.call(Call::LbltSolve, n, columns, 0);
-    w.call(Call::LbltDeterminant, n, 0, 0);
+    w.call(Call::LbltSolve, n, columns, run);
+    w.call(Call::LbltSolve, n, columns, run + 1);
+    w.call(Call::LbltDeterminant, n, 0, run + 1);
+    w.call(Call::LbltDeterminant, n, 0, run);
     for call in [Call::LbltD, Call::LbltLPermuted] {
         let square: Vec<u64> = filled(n * n).iter().map(|x| x.to_bits()).collect();
         w.set_or_fill(Slice::B, &square);
-        w.call(call, n, 0, 0);
+        w.call(call, n, 0, run);
     }
 }
 
@@ -188,6 +198,10 @@ fn lblt(w: &mut Writer) {
     for one_record in marks.chunk_by(|one, other| one.record == other.record) {
         emit_all(w, one_record);
     }
+    let runs = cases::runs();
+    for one_run in runs.chunk_by(|one, other| (&one.record, one.run) == (&other.record, other.run)) {
+        emit_all(w, one_run);
+    }
     families(w, Call::LbltFactor, 1..=4, 4000, 1_000_000);
     families(w, Call::LbltFactor, 5..=8, 3500, 1_100_000);
     families(w, Call::LbltFactor, 9..=12, 1500, 1_200_000);
@@ -199,7 +213,7 @@ fn lblt(w: &mut Writer) {
             lblt_calls(w, n, 2.min(64 / n), |w| w.random(Slice::B, n * 2.min(64 / n), 77));
             for columns in [4, 7, 64] {
                 w.random(Slice::B, n * columns, 78);
-                w.call(Call::LbltSolve, n, columns, 0);
+                w.call(Call::LbltSolve, n, columns, run_of(n));
             }
         }
     }
@@ -424,7 +438,7 @@ fn twin_families(w: &mut Writer, orders: std::ops::RangeInclusive<usize>, words:
                 w.case();
                 w.set(Slice::A, &bits(&same[0]));
                 for case in same {
-                    w.call(case.call, case.n, case.x, case.y);
+                    w.call(case.call, case.n, case.x, case.third());
                 }
             }
         }

@@ -3,7 +3,7 @@
 use super::filled;
 use super::matrices::{FOR_CHOLESKY, FOR_LBLT, FOR_UDU, Symmetric, alpha_edge, fill, numbers, symmetric};
 use super::rng::Rng;
-use crate::call::{Call, Calls, Case};
+use crate::call::{Call, Calls, Case, record_length};
 use crate::text::Text;
 
 /// A matrix in its room, to be factored in batches that end at the cuts.
@@ -22,7 +22,7 @@ pub fn family(seed: u64) -> Family {
     let r = &mut Rng::new(seed);
     let n = order(r);
     match r.below(9) {
-        0..4 => Family { cases: lblt(r, n), chains: vec![] },
+        0..4 => Family { cases: lblt(r, &mut Rng::new(!seed), n), chains: vec![] },
         4..7 => cholesky(r, n),
         _ => Family { cases: vec![udu(r, n.max(1))], chains: vec![] },
     }
@@ -43,16 +43,35 @@ pub(super) fn placed(r: &mut Rng, m: &Symmetric, room: usize, lower: bool) -> Ve
     if r.one_in(8) { m.placed(room, lower, |_| f64::NAN) } else { m.placed(room, lower, fill) }
 }
 
-fn lblt(r: &mut Rng, n: usize) -> Vec<Case> {
+/// A run number: one of the ends, or any.
+fn a_run(r: &mut Rng) -> u32 {
+    match r.below(4) {
+        0 => 0,
+        1 => u32::MAX,
+        _ => r.word() as u32,
+    }
+}
+
+/// Any number but this one; often one bit or one unit beside it.
+fn another_run(r: &mut Rng, run: u32) -> u32 {
+    let bit = 1 << r.below(32);
+    let any = a_run(r);
+    let other = r.pick(&[run ^ bit, run.wrapping_add(1), run.wrapping_sub(1), any]);
+    if other == run { !run } else { other }
+}
+
+/// `runs` is the source of the run numbers and of what is read by another one.
+fn lblt(r: &mut Rng, runs: &mut Rng, n: usize) -> Vec<Case> {
     let m = symmetric(r, &FOR_LBLT, n);
     let a = placed(r, &m, n, true);
-    let factor = Case { record: vec![0x5a5a_5a5a; 2 * n + 1], ..Case::new(Call::LbltFactor, n, a) };
+    let run = a_run(runs);
+    let factor = Case { run, record: vec![0x5a5a_5a5a; record_length(n)], ..Case::new(Call::LbltFactor, n, a) };
     let mut own = factor.clone();
-    Text.lblt_factor(&mut own.a, &mut own.record, n);
+    Text.lblt_factor(&mut own.a, &mut own.record, n, run);
     let mut out = vec![factor];
     readers(r, &own, &mut out);
     if n <= 20 && r.one_in(4) {
-        let other = Case { record: sound_record(r, n), a: numbers(r, n * n), ..own.clone() };
+        let other = Case { record: sound_record(r, n, run), a: numbers(r, n * n), ..own.clone() };
         readers(r, &other, &mut out);
     }
     if n <= 20 && r.one_in(4) {
@@ -60,8 +79,15 @@ fn lblt(r: &mut Rng, n: usize) -> Vec<Case> {
         readers(r, &broken, &mut out);
     }
     if n <= 20 && r.one_in(4) {
-        let mismarked = Case { record: mismarked_record(r, n), a: numbers(r, n * n), ..own };
+        let mismarked = Case { record: mismarked_record(r, n, run), a: numbers(r, n * n), ..own.clone() };
         readers(r, &mismarked, &mut out);
+    }
+    if n <= 20 && runs.one_in(4) {
+        let records = [sound_record(runs, n, run), changed_record(runs, &own.record), mismarked_record(runs, n, run), own.record.clone()];
+        for record in records {
+            let other = Case { run: another_run(runs, run), record, ..own.clone() };
+            readers(runs, &other, &mut out);
+        }
     }
     out
 }
@@ -71,7 +97,7 @@ pub fn alpha_case(seed: u64) -> Case {
     let r = &mut Rng::new(seed);
     let n = 2 + r.below(3);
     let a = alpha_edge(r, n).placed(n, true, fill);
-    Case { record: vec![9; 2 * n + 1], ..Case::new(Call::LbltFactor, n, a) }
+    Case { run: n as u32, record: vec![9; record_length(n)], ..Case::new(Call::LbltFactor, n, a) }
 }
 
 fn readers(r: &mut Rng, own: &Case, out: &mut Vec<Case>) {
@@ -91,9 +117,10 @@ pub fn many_columns() -> Vec<Case> {
     let mut out = vec![];
     for n in (1..=20).chain([33, 60, 128]) {
         for columns in [4, 5, 6, 7, 8, 9, 64, 67] {
-            let mut own = Case { record: vec![9; 2 * n + 1], ..Case::new(Call::LbltFactor, n, heavy_or_not(r, n, 0.0)) };
-            Text.lblt_factor(&mut own.a, &mut own.record, n);
-            let mut other = Case { record: sound_record(r, n), a: numbers(r, n * n), ..own.clone() };
+            let run = columns as u32;
+            let mut own = Case { run, record: vec![9; record_length(n)], ..Case::new(Call::LbltFactor, n, heavy_or_not(r, n, 0.0)) };
+            Text.lblt_factor(&mut own.a, &mut own.record, n, run);
+            let mut other = Case { record: sound_record(r, n, run), a: numbers(r, n * n), ..own.clone() };
             other.record[2 * n] = 0;
             for factor in [own, other] {
                 let b = (0..n * columns).map(|_| r.unit()).collect();
@@ -128,18 +155,18 @@ fn marks_on_ones(pairs: &[u32]) -> (Vec<u32>, Vec<u32>) {
 }
 
 /// A record that keeps the rule.
-fn sound_record(r: &mut Rng, n: usize) -> Vec<u32> {
+fn sound_record(r: &mut Rng, n: usize, run: u32) -> Vec<u32> {
     let mut out = sound_pairs(r, n);
     let (own, _) = marks_on_ones(&out);
-    out.push(if !own.is_empty() && r.one_in(4) { r.pick(&own) } else { 0 });
+    out.extend([if !own.is_empty() && r.one_in(4) { r.pick(&own) } else { 0 }, run]);
     out
 }
 
 /// A record whose pairs keep the rule and whose mark names a row of size 1 with another index, or no row where there is none.
-fn mismarked_record(r: &mut Rng, n: usize) -> Vec<u32> {
+fn mismarked_record(r: &mut Rng, n: usize, run: u32) -> Vec<u32> {
     let mut out = sound_pairs(r, n);
     let (_, others) = marks_on_ones(&out);
-    out.push(if others.is_empty() { n as u32 + 1 } else { r.pick(&others) });
+    out.extend([if others.is_empty() { n as u32 + 1 } else { r.pick(&others) }, run]);
     out
 }
 
@@ -147,7 +174,7 @@ fn mismarked_record(r: &mut Rng, n: usize) -> Vec<u32> {
 fn changed_record(r: &mut Rng, record: &[u32]) -> Vec<u32> {
     let mut out = record.to_vec();
     let at = r.below(out.len());
-    let n = (out.len() / 2) as u32;
+    let n = (out.len() / 2) as u32 - 1;
     let other = r.below(out.len());
     out[at] = r.pick(&[0, 1, 2, 3, n.saturating_sub(1), n, n + 1, u32::MAX, record[other]]);
     out
@@ -211,9 +238,9 @@ pub fn largest() -> Vec<Case> {
     let r = &mut Rng::new(1024);
     let n = 1024;
     let a = heavy_or_not(r, n, 0.0);
-    let factor = Case { record: vec![9; 2 * n + 1], ..Case::new(Call::LbltFactor, n, a) };
+    let factor = Case { run: 1, record: vec![9; record_length(n)], ..Case::new(Call::LbltFactor, n, a) };
     let mut own = factor.clone();
-    Text.lblt_factor(&mut own.a, &mut own.record, n);
+    Text.lblt_factor(&mut own.a, &mut own.record, n, 1);
     let reader = |call| Case { call, b: filled(n * n), ..own.clone() };
     let definite = heavy_or_not(r, n, n as f64);
     let root = Case { x: n, ..Case::new(Call::CholeskyFactor, n, definite.clone()) };
@@ -223,6 +250,10 @@ pub fn largest() -> Vec<Case> {
         Case { b: vec![], ..reader(Call::LbltDeterminant) },
         reader(Call::LbltD),
         reader(Call::LbltLPermuted),
+        Case { run: 2, x: 3, b: numbers(r, 3 * n), ..reader(Call::LbltSolve) },
+        Case { run: 2, b: vec![], ..reader(Call::LbltDeterminant) },
+        Case { run: 2, ..reader(Call::LbltD) },
+        Case { run: 2, ..reader(Call::LbltLPermuted) },
         root.clone(),
         Case { call: Call::CholeskyUnpack, ..root.clone() },
         Case { call: Call::CholeskyDeterminant, ..root.clone() },
@@ -231,7 +262,7 @@ pub fn largest() -> Vec<Case> {
     ];
     batches(&root, &[341, 1000, n], &mut out);
     let m = n + 1;
-    out.push(Case { record: vec![9; 2 * m + 1], ..Case::new(Call::LbltFactor, m, filled(m * m)) });
+    out.push(Case { record: vec![9; record_length(m)], ..Case::new(Call::LbltFactor, m, filled(m * m)) });
     out.push(Case { x: m, ..Case::new(Call::CholeskyFactor, m, filled(m * m)) });
     out.push(Case { b: filled(m * m), c: filled(m), ..Case::new(Call::UduFactor, m, filled(m * m)) });
     out

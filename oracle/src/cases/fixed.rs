@@ -1,6 +1,6 @@
 //! Cases that need no chance: special numbers at orders 1 and 2, and every way to be refused.
 
-use crate::call::{Call, Calls, Case, Number, Slice};
+use crate::call::{Call, Calls, Case, Number, Slice, record_length};
 use crate::cases::filled;
 use crate::text::Text;
 
@@ -39,6 +39,9 @@ pub const SPECIAL: [f64; 32] = [
     -1e-16,
 ];
 
+/// The run number of these cases.
+const RUN: u32 = 7;
+
 /// The calls on one matrix of order 1 or 2 whose lower entries are given.
 fn on(lower: &[f64], side: [f64; 2]) -> Vec<Case> {
     let n = if lower.len() == 1 { 1 } else { 2 };
@@ -52,9 +55,9 @@ fn on(lower: &[f64], side: [f64; 2]) -> Vec<Case> {
         p[2] = lower[1];
         p[3] = lower[2];
     }
-    let factor = Case { record: vec![9; 2 * n + 1], ..Case::new(Call::LbltFactor, n, a.clone()) };
+    let factor = Case { run: RUN, record: vec![9; record_length(n)], ..Case::new(Call::LbltFactor, n, a.clone()) };
     let mut factored = factor.clone();
-    Text.lblt_factor(&mut factored.a, &mut factored.record, n);
+    Text.lblt_factor(&mut factored.a, &mut factored.record, n, RUN);
     let reader = |call| Case { call, b: filled(n * n), ..factored.clone() };
     let cholesky = Case { x: n, ..Case::new(Call::CholeskyFactor, n, a) };
     let twin = Case { call: Call::FirstTwin, ..cholesky.clone() };
@@ -110,11 +113,12 @@ pub fn refusals() -> Vec<Case> {
     let mut out = vec![];
     for n in 0..4usize {
         let mut sound: Vec<u32> = (0..n as u32).flat_map(|k| [k, 1]).collect();
-        sound.push(0);
+        sound.extend([0, RUN]);
         for call in [Call::LbltFactor, Call::LbltSolve, Call::LbltDeterminant, Call::LbltD, Call::LbltLPermuted] {
             let base = Case {
                 x: if call == Call::LbltSolve { 2 } else { 0 },
                 b: filled(if call == Call::LbltSolve { 2 * n } else { n * n }),
+                run: RUN,
                 record: sound.clone(),
                 ..Case::new(call, n, filled(n * n))
             };
@@ -132,6 +136,7 @@ pub fn refusals() -> Vec<Case> {
     out.retain(fits);
     records(&mut out);
     out.extend(marks());
+    out.extend(runs());
     out
 }
 
@@ -162,6 +167,7 @@ enum Edit {
     C(isize),
     RecordLength(isize),
     RecordWord(usize, u32),
+    Run(u32),
 }
 
 fn edits(base: &Case) -> Vec<Edit> {
@@ -181,6 +187,9 @@ fn edits(base: &Case) -> Vec<Edit> {
             out.push(Edit::RecordWord(at, word));
         }
     }
+    if base.run == RUN {
+        out.extend([0, RUN - 1, RUN + 1, u32::MAX].map(Edit::Run));
+    }
     out
 }
 
@@ -197,6 +206,7 @@ impl Edit {
                 let len = case.record.len().saturating_add_signed(by);
                 case.record.resize(len, 0);
             }
+            Edit::Run(run) => case.run = run,
             Edit::RecordWord(at, word) => {
                 if let Some(place) = case.record.get_mut(at) {
                     *place = word;
@@ -220,6 +230,9 @@ fn taken(mut case: Case) -> Case {
     if !form.numbers.contains(&Number::Y) {
         case.y = 0;
     }
+    if !form.numbers.contains(&Number::Run) {
+        case.run = 0;
+    }
     if !form.slices.contains(&Slice::B) {
         case.b.clear();
     }
@@ -235,23 +248,41 @@ fn taken(mut case: Case) -> Case {
 /// Only what the call takes differs from empty and 0.
 fn fits(case: &Case) -> bool {
     let only = taken(case.clone());
-    (only.x, only.y, only.size()) == (case.x, case.y, case.size())
+    (only.x, only.y, only.run, only.size()) == (case.x, case.y, case.run, case.size())
 }
 
-/// All records of orders 1 and 2 over a few words, in each call that checks them.
+/// All records of orders 1 and 2 over a few words, in each call that checks them, by their own run number and by another.
 fn records(out: &mut Vec<Case>) {
     let words = [0, 1, 2, 3, u32::MAX];
     for n in 1..=2usize {
-        let len = 2 * n + 1;
-        for t in 0..words.len().pow(len as u32) {
-            out.extend(readers(n, (0..len).map(|at| words[t / words.len().pow(at as u32) % words.len()]).collect()));
+        let free = record_length(n) - 1;
+        for t in 0..words.len().pow(free as u32) {
+            let word = |at: usize| words[t / words.len().pow(at as u32) % words.len()];
+            let record: Vec<u32> = (0..free).map(word).chain([RUN]).collect();
+            out.extend([RUN, RUN + 1].into_iter().flat_map(|run| readers(n, record.clone(), run)));
         }
     }
 }
 
 /// All records of order 3 whose pairs keep the rule, with every mark up to one above the order, in each call that checks them.
 pub fn marks() -> impl Iterator<Item = Case> {
-    pairs_from(0, 3).into_iter().flat_map(|pairs| (0..5).flat_map(move |mark| readers(3, [&pairs[..], &[mark]].concat())))
+    pairs_from(0, 3).into_iter().flat_map(|pairs| (0..5).flat_map(move |mark| readers(3, [&pairs[..], &[mark, RUN]].concat(), RUN)))
+}
+
+/// Records of run numbers at the ends and between, read by the same number and by others: one bit or one unit beside it, and the ends. The records: sound,
+/// marked, broken in a row and at the mark, of no rows.
+pub fn runs() -> Vec<Case> {
+    let records: [(usize, &[u32]); 5] =
+        [(0, &[0]), (2, &[1, 2, 1, 2, 0]), (2, &[1, 1, 1, 1, 2]), (2, &[1, 1, 0, 1, 2]), (2, &[1, 1, 1, 1, 1])];
+    let mut out = vec![];
+    for (n, words) in records {
+        for run in [0, 20_261_116, u32::MAX] {
+            for expected in [run, run ^ 1, run ^ 1 << 16, run ^ 1 << 31, run.wrapping_add(1), run.wrapping_sub(1), 0, u32::MAX] {
+                out.extend(readers(n, [words, &[run]].concat(), expected));
+            }
+        }
+    }
+    out
 }
 
 /// All pairs of the rows from k on that keep the rule.
@@ -266,9 +297,9 @@ fn pairs_from(k: usize, n: usize) -> Vec<Vec<u32>> {
     out
 }
 
-/// The calls that read a record.
-fn readers(n: usize, record: Vec<u32>) -> [Case; 4] {
-    let base = Case { record, ..Case::new(Call::LbltDeterminant, n, (1..=n * n).map(|x| x as f64).collect()) };
+/// The calls that read a record, expecting this run number.
+fn readers(n: usize, record: Vec<u32>, run: u32) -> [Case; 4] {
+    let base = Case { run, record, ..Case::new(Call::LbltDeterminant, n, (1..=n * n).map(|x| x as f64).collect()) };
     let filler = |call| Case { call, b: filled(n * n), ..base.clone() };
     [Case { call: Call::LbltSolve, x: 1, b: filled(n), ..base.clone() }, filler(Call::LbltD), filler(Call::LbltLPermuted), base]
 }

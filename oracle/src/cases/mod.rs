@@ -8,7 +8,7 @@ mod solves;
 mod twins;
 
 pub use families::{Chain, Family, alpha_case, family, largest, many_columns};
-pub use fixed::{SPECIAL, marks, refusals, sweep};
+pub use fixed::{SPECIAL, marks, refusals, runs, sweep};
 pub use matrices::{fill, filled};
 pub use rng::Rng;
 pub use solves::{largest_solves, solves, solves_of_all_orders};

@@ -5,5 +5,6 @@ mod cholesky;
 mod lblt;
 mod numbers;
 mod refusals;
+mod runs;
 mod twins;
 mod udu;

@@ -11,12 +11,13 @@ fn all() -> Vec<Refusal> {
         cholesky::extend(&mut a.clone(), 2, 2, 1).unwrap_err(),
         cholesky::unpack(&mut a.clone(), 3, 2).unwrap_err(),
         cholesky::l(&a, &mut b, 2, 2).unwrap_err(),
-        lblt::determinant(&a, &[0, 1, 2, 1, 0], 2).unwrap_err(),
-        lblt::solve_mut(&a, &[0, 1, 1, 1, 2], &mut b, 2, 1).unwrap_err(),
+        lblt::determinant(&a, &[0, 1, 2, 1, 0, 7], 2, 7).unwrap_err(),
+        lblt::solve_mut(&a, &[0, 1, 1, 1, 2, 7], &mut b, 2, 1, 7).unwrap_err(),
         cholesky::factor(&mut [1.0, 1.0, 0.0, 1.0], 2, 2).unwrap_err(),
         udu::factor(&[1.0, 0.0, 1.0, 0.0], &mut u, &mut b, 2).unwrap_err(),
         cholesky::factor(&mut [1.0, 2.0, 0.0, 1.0], 2, 2).unwrap_err(),
         cholesky::factor(&mut [1.0, f64::NAN, 0.0, 1.0], 2, 2).unwrap_err(),
+        lblt::determinant(&a, &[0, 1, 1, 1, 0, 7], 2, 8).unwrap_err(),
     ]
 }
 
@@ -33,10 +34,11 @@ fn each_has_its_code_and_place() {
         Refusal::ZeroDiagonal { column: 1 },
         Refusal::CholeskyBelowZero { column: 1 },
         Refusal::CholeskyNan { column: 1 },
+        Refusal::OtherRun,
     ];
     assert_eq!(all(), expected);
-    assert_eq!(expected.map(Refusal::code), [1, 2, 3, 4, 5, 6, 7, 8, 10, 11]);
-    assert_eq!(expected.map(Refusal::place), [0, 0, 0, 0, 1, 1, 1, 1, 1, 1]);
+    assert_eq!(expected.map(Refusal::code), [1, 2, 3, 4, 5, 6, 7, 8, 10, 11, 13]);
+    assert_eq!(expected.map(Refusal::place), [0, 0, 0, 0, 1, 1, 1, 1, 1, 1, 0]);
 }
 
 #[test]
@@ -46,7 +48,12 @@ fn each_says_what_to_do_and_where() {
         let sentence = boxed.to_string();
         assert!(sentence.len() > 40, "{sentence}");
         assert_eq!(sentence.contains("row 1"), refusal.place() == 1, "{sentence}");
-        for (code, words) in [(7, "exactly zero"), (10, "fell below zero"), (11, "is NaN")] {
+        for (code, words) in [
+            (7, "exactly zero"),
+            (10, "fell below zero"),
+            (11, "is NaN"),
+            (13, "in another run"),
+        ] {
             assert_eq!(sentence.contains(words), refusal.code() == code, "{sentence}");
         }
     }
