@@ -7,7 +7,7 @@ int main(void)
     double a[4] = {4, 2, 0, 3}; /* the symmetric matrix 4 2 / 2 3, column by column; above the diagonal nothing is read */
     double b[2] = {8, 8};
     uint32_t record[6] = {0};
-    const uint32_t run = 20260316; /* the number of this run, here its day: a record of another day is refused */
+    const uint32_t run = 1116; /* the number of this run, here its day: a record of another day is refused */
 
     uint64_t answer = urgyelpat_first_twin(a, 4, 2, 2);
     if (urgyelpat_is_pair(answer))
