@@ -2,14 +2,14 @@
 use mathlib.Core.Path.{_≡_, refl, sym, _∙_, ap, subst}
 use mathlib.Core.Bool.{Bool, true, false, cond}
 use mathlib.Core.List.{List}
-use Prim.Native.Nat.{ℕ, zero, suc, _+_, _*_, _≤_, _<_}
+use Prim.Native.Nat.{ℕ, zero, suc, _+_, _≤_, _<_}
 use native.Mathlib.Omega.{arith}
 use lib.Dec.{ltb, eqb}
 use lib.ListN.{length, getD, set, length-set}
 use lib.Seq.{getD-set-same, getD-set-other, ext-getD}
 use borrow.Author.Tests.{ltb-true, ltb-false, eqb-true, eqb-false}
 use Rattle.matrix.specs.Matrix.{Matrix}
-use Rattle.pivots.specs.Words.{wordsOf, Sized, paired, marked, stamped}
+use Rattle.pivots.specs.Words.{indexWord, sizeWord, markWord, runWord, wordsOf, Sized, paired, marked, stamped}
 use Rattle.pivots.proofs.Written.{paired-length}
 use Rattle.lblt_choice.specs.Choice.{choose}
 use Rattle.lblt.specs.Step.{State, take, step, stepped}
@@ -39,10 +39,10 @@ alike-set {m} {words} {words'} v room a = record { long = length-set words m v �
         let less : p < m = omega (arith, other) in
         getD-set-other words m p v 0 other ∙ a .first p less ∙ sym (getD-set-other words' m p v 0 other)
 
-alike-paired : {words words' : List ℕ} (k index size : ℕ) → 2 * k + 1 < length words → Alike (2 * k) words words' → Alike (2 * (k + 1)) (paired words k index size) (paired words' k index size)
+alike-paired : {words words' : List ℕ} (k index size : ℕ) → sizeWord k < length words → Alike (indexWord k) words words' → Alike (indexWord (k + 1)) (paired words k index size) (paired words' k index size)
 unfolding paired
 alike-paired {words} {words'} k index size room a =
-    alike-less (omega arith) (alike-set size (omega (arith, length-set words (2 * k) index)) (alike-set index (omega arith) a))
+    alike-less (omega arith) (alike-set size (omega (arith, length-set words (indexWord k) index)) (alike-set index (omega arith) a))
 
 -- ---- steps
 
@@ -68,8 +68,8 @@ noted-long S ZeroColumn words = paired-length words (S .row) (S .row) 1
 noted-long S (One p) words = paired-length words (S .row) p 1
 noted-long S (Two p) words = paired-length (paired words (S .row) p 2) (S .row + 1) p 2 ∙ paired-length words (S .row) p 2
 
-module _ (n : ℕ) (S : State) (words words' : List ℕ) (long : length words ≡ wordsOf n) (more : S .row < n) (a : Alike (2 * S .row) words words') where
-  alike-noted : (c : Choice) → Within n (S .row) c → Alike (2 * take n S c .row) (noted S c words) (noted S c words')
+module _ (n : ℕ) (S : State) (words words' : List ℕ) (long : length words ≡ wordsOf n) (more : S .row < n) (a : Alike (indexWord (S .row)) words words') where
+  alike-noted : (c : Choice) → Within n (S .row) c → Alike (indexWord (take n S c .row)) (noted S c words) (noted S c words')
   unfolding take noted Within
   alike-noted ZeroColumn range = alike-paired (S .row) (S .row) 1 (omega arith) a
   alike-noted (One p) range = alike-paired (S .row) p 1 (omega arith) a
@@ -77,7 +77,7 @@ module _ (n : ℕ) (S : State) (words words' : List ℕ) (long : length words �
       alike-less (omega arith)
       (alike-paired (S .row + 1) p 2 (omega (arith, paired-length words (S .row) p 2, range .0, range .1)) (alike-paired (S .row) p 2 (omega arith) a))
 
-  alike-step : Alike (2 * step n S .row) (noted S (choose n (S .matrix) (S .row)) words) (noted S (choose n (S .matrix) (S .row)) words')
+  alike-step : Alike (indexWord (step n S .row)) (noted S (choose n (S .matrix) (S .row)) words) (noted S (choose n (S .matrix) (S .row)) words')
   unfolding step
   alike-step = alike-noted (choose n (S .matrix) (S .row)) (choose-range n (S .matrix) (S .row) more)
 
@@ -88,14 +88,14 @@ step-over n S words = take-over n S words (choose n (S .matrix) (S .row))
 -- what two runs over two records end with
 record Ends (n : ℕ) (S S' : State) : Type 0 where
   pub mark : S .mark ≡ S' .mark
-  pub words : Alike (2 * n) (S .words) (S' .words)
+  pub words : Alike (markWord n) (S .words) (S' .words)
   pub long : length (S .words) ≡ wordsOf n
 
 by-test : (n : ℕ) (b : Bool) {x y x' y' : State} → (b ≡ true → Ends n x x') → (b ≡ false → Ends n y y') → Ends n (cond b x y) (cond b x' y')
 by-test n true f g = f refl
 by-test n false f g = g refl
 
-stepped-over : (fuel n : ℕ) (S : State) (words words' : List ℕ) → length words ≡ wordsOf n → n ≤ S .row + fuel → Alike (2 * S .row) words words' → Ends n (stepped fuel n (over S words)) (stepped fuel n (over S words'))
+stepped-over : (fuel n : ℕ) (S : State) (words words' : List ℕ) → length words ≡ wordsOf n → n ≤ S .row + fuel → Alike (indexWord (S .row)) words words' → Ends n (stepped fuel n (over S words)) (stepped fuel n (over S words'))
 unfolding stepped
 stepped-over zero n S words words' long enough a = record { mark = refl; words = alike-less (omega arith) a; long = long }
 stepped-over (suc fuel) n S words words' long enough a =
@@ -111,13 +111,13 @@ stepped-over (suc fuel) n S words words' long enough a =
 
 -- ---- the record
 
-alike-all : (n run : ℕ) {words words' : List ℕ} (m : ℕ) → length words ≡ wordsOf n → Alike (2 * n) words words' → stamped n (marked n words m) run ≡ stamped n (marked n words' m) run
+alike-all : (n run : ℕ) {words words' : List ℕ} (m : ℕ) → length words ≡ wordsOf n → Alike (markWord n) words words' → stamped n (marked n words m) run ≡ stamped n (marked n words' m) run
 unfolding marked stamped
 alike-all n run {words} {words'} m long a =
-    let marks : length (set words (2 * n) m) ≡ wordsOf n = length-set words (2 * n) m ∙ long in
+    let marks : length (set words (markWord n) m) ≡ wordsOf n = length-set words (markWord n) m ∙ long in
     let b = alike-set run (omega (arith, marks)) (alike-set m (omega arith) a) in
-    ext-getD 0 (set (set words (2 * n) m) (2 * n + 1) run) (set (set words' (2 * n) m) (2 * n + 1) run) (b .long)
-    (λ p h. b .first p (omega (arith, length-set (set words (2 * n) m) (2 * n + 1) run, marks)))
+    ext-getD 0 (set (set words (markWord n) m) (runWord n) run) (set (set words' (markWord n) m) (runWord n) run) (b .long)
+    (λ p h. b .first p (omega (arith, length-set (set words (markWord n) m) (runWord n) run, marks)))
 
 pub overwritten : (n run : ℕ) (M : Matrix) (words words' : List ℕ) → Sized n words → Sized n words' → recorded n run M words ≡ recorded n run M words'
 unfolding recorded finalState firstState

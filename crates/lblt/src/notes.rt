@@ -1,13 +1,13 @@
 // What a step notes: the pairs of its rows, and the first mark.
 ghost use mathlib.Core.Path.{_≡_};
-ghost use Prim.Native.Nat.{_+_, _*_, _<_};
+ghost use Prim.Native.Nat.{_+_, _<_};
 ghost use lib.ListN.{length};
-ghost use Rattle.pivots.specs.Words.{paired};
+ghost use Rattle.pivots.specs.Words.{sizeWord, paired};
 ghost use Rattle.lblt.specs.Step.{firstMark};
 use pivots::put_pair;
 
 pub fn one(words: &mut [u32], k: usize, p: usize)
-    requires { ⌜ 2 * k + 1 < length (now words) ⌝ }
+    requires { ⌜ sizeWord k < length (now words) ⌝ }
     requires { ⌜ p < 1024 ⌝ }
     ensures { λ _. ⌜ now (words .exit) ≡ paired (now (words .entry)) k p 1 ⌝ }
 {
@@ -15,7 +15,7 @@ pub fn one(words: &mut [u32], k: usize, p: usize)
 }
 
 pub fn two(words: &mut [u32], k: usize, p: usize)
-    requires { ⌜ 2 * k + 3 < length (now words) ⌝ }
+    requires { ⌜ sizeWord (k + 1) < length (now words) ⌝ }
     requires { ⌜ p < 1024 ⌝ }
     ensures { λ _. ⌜ now (words .exit) ≡ paired (paired (now (words .entry)) k p 2) (k + 1) p 2 ⌝ }
 {

@@ -80,7 +80,7 @@ paired-kept words row index size = record {
   size = λ r h. below (set words (indexWord row) index) (sizeWord row) (sizeWord r) size (omega arith) ∙ below words (indexWord row) (sizeWord r) index (omega arith);
 }
 
-module _ (words : List ℕ) (row index size : ℕ) (room : 2 * row + 1 < length words) where
+module _ (words : List ℕ) (row index size : ℕ) (room : sizeWord row < length words) where
   paired-size : sizeAt (paired words row index size) row ≡ size
   unfolding paired
   paired-size = getD-set-same (set words (indexWord row) index) (sizeWord row) size 0 (simp length-set room)
@@ -125,7 +125,7 @@ pub written-one
     → Written n words k m → k ≤ p → p < n
     → Written n (paired words k p 1) (k + 1) m
 written-one {n} {words} {k} {m} p w low high =
-    let room : 2 * k + 1 < length words = omega (arith, w .sized .total) in
+    let room : sizeWord k < length words = omega (arith, w .sized .total) in
     let i = paired-index words k p 1 room in
     record {
       sized = paired-sized k p 1 (w .sized);
@@ -138,7 +138,7 @@ written-one {n} {words} {k} {m} p w low high =
 -- a zero column while no mark is set: the pivot is its own row, and the mark names it
 pub written-zero : {n : ℕ} {words : List ℕ} {k : ℕ} → Written n words k 0 → k < n → Written n (paired words k k 1) (k + 1) (k + 1)
 written-zero {n} {words} {k} w high =
-    let room : 2 * k + 1 < length words = omega (arith, w .sized .total) in
+    let room : sizeWord k < length words = omega (arith, w .sized .total) in
     let back : k + 1 - 1 ≡ k = omega arith in
     let next = written-one k w (omega arith) high in
     record {
@@ -159,8 +159,8 @@ pub written-two
     → Written n (paired (paired words k p 2) (k + 1) p 2) (k + 2) m
 written-two {n} {words} {k} {m} p w low high =
     let first = paired words k p 2 in
-    let room : 2 * k + 1 < length words = omega (arith, w .sized .total) in
-    let room₂ : 2 * (k + 1) + 1 < length first = omega (arith, w .sized .total, paired-length words k p 2) in
+    let room : sizeWord k < length words = omega (arith, w .sized .total) in
+    let room₂ : sizeWord (k + 1) < length first = omega (arith, w .sized .total, paired-length words k p 2) in
     let both : Kept words (paired first (k + 1) p 2) k = kept-both (omega arith) (paired-kept words k p 2) (paired-kept first (k + 1) p 2) in
     let i : indexAt (paired first (k + 1) p 2) k ≡ p = paired-kept first (k + 1) p 2 .index k (omega arith) ∙ paired-index words k p 2 room in
     let z : sizeAt (paired first (k + 1) p 2) k ≡ 2 = paired-kept first (k + 1) p 2 .size k (omega arith) ∙ paired-size words k p 2 room in

@@ -1,8 +1,9 @@
 // The pivot record: for each row the index and size of its pivot, then the mark, then the run number; its check, readers and writers.
 ghost use mathlib.Core.Path.{_≡_};
-ghost use Prim.Native.Nat.{_<_, _≤_, _+_, _*_};
+ghost use Prim.Native.Nat.{_<_, _≤_};
 ghost use lib.ListN.{length};
-ghost use Rattle.pivots.specs.Words.{wordsOf, Sized, indexAt, sizeAt, markAt, runAt, paired, marked, stamped};
+ghost use Rattle.pivots.specs.Words.{indexWord, sizeWord, markWord, runWord, wordsOf};
+ghost use Rattle.pivots.specs.Words.{Sized, indexAt, sizeAt, markAt, runAt, paired, marked, stamped};
 ghost use Rattle.pivots.specs.Rule.{blockOf, faultOf, checked};
 use answer::Answer;
 
@@ -24,35 +25,35 @@ pub fn words(n: usize) -> usize
 }
 
 pub fn index(words: &[u32], row: usize) -> usize
-    requires { ⌜ 2 * row < length (now words) ⌝ }
+    requires { ⌜ indexWord row < length (now words) ⌝ }
     ensures { λ r. ⌜ r ≡ indexAt (now (words .entry)) row ⌝ }
 {
     wide(words[2 * row])
 }
 
 pub fn size(words: &[u32], row: usize) -> usize
-    requires { ⌜ 2 * row + 1 < length (now words) ⌝ }
+    requires { ⌜ sizeWord row < length (now words) ⌝ }
     ensures { λ r. ⌜ r ≡ sizeAt (now (words .entry)) row ⌝ }
 {
     wide(words[2 * row + 1])
 }
 
 pub fn mark(words: &[u32], n: usize) -> usize
-    requires { ⌜ 2 * n < length (now words) ⌝ }
+    requires { ⌜ markWord n < length (now words) ⌝ }
     ensures { λ r. ⌜ r ≡ markAt n (now (words .entry)) ⌝ }
 {
     wide(words[2 * n])
 }
 
 pub fn run(words: &[u32], n: usize) -> u32
-    requires { ⌜ 2 * n + 1 < length (now words) ⌝ }
+    requires { ⌜ runWord n < length (now words) ⌝ }
     ensures { λ r. ⌜ r ≡ runAt n (now (words .entry)) ⌝ }
 {
     words[2 * n + 1]
 }
 
 pub fn put_pair(words: &mut [u32], row: usize, index: u32, size: u32)
-    requires { ⌜ 2 * row + 1 < length (now words) ⌝ }
+    requires { ⌜ sizeWord row < length (now words) ⌝ }
     ensures { λ _. ⌜ now (words .exit) ≡ paired (now (words .entry)) row index size ⌝ }
 {
     words[2 * row] = index;
@@ -60,14 +61,14 @@ pub fn put_pair(words: &mut [u32], row: usize, index: u32, size: u32)
 }
 
 pub fn put_mark(words: &mut [u32], n: usize, mark: u32)
-    requires { ⌜ 2 * n < length (now words) ⌝ }
+    requires { ⌜ markWord n < length (now words) ⌝ }
     ensures { λ _. ⌜ now (words .exit) ≡ marked n (now (words .entry)) mark ⌝ }
 {
     words[2 * n] = mark;
 }
 
 pub fn put_run(words: &mut [u32], n: usize, run: u32)
-    requires { ⌜ 2 * n + 1 < length (now words) ⌝ }
+    requires { ⌜ runWord n < length (now words) ⌝ }
     ensures { λ _. ⌜ now (words .exit) ≡ stamped n (now (words .entry)) run ⌝ }
 {
     words[2 * n + 1] = run;

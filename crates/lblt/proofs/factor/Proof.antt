@@ -63,8 +63,15 @@ same-length-2 c = search needs
 returns-3 : tie.Need-returns-3
 returns-3 c =
     let given = c .before .before .before .before .before .before .before .before .before .before .before .before .before .before .before .before .before .before .before .before .before .before .before .args in
-    let fits = right-size (given .n) (now (given .a)) (c .before .before .before .before .before .before .before .before .before .before .before .before .before .before .before .before .before .before .before .check .result) (c .before .before .before .before .before .before .before .before .before .before .before .before .before .before .before .before .before .before .before .before .full .ensures) (c .before .before .before .before .before .before .before .before .before .before .before .before .before .before .before .before .before .before .before .check .ensures) (c .before .before .before .before .before .before .before .before .before .before .before .before .before .before .before .before .before .before .code .ensures) (c .before .before .before .before .before .before .before .before .before .before .before .before .before .before .before .before .before .if1 .left) in
-    finished (full (given .n)) _ _ fits (c .before .before .before .before .before .before .before .before .before .before .before .before .before .before .before .if2 .left ∙ c .before .before .before .before .before .before .before .before .before .before .before .before .before .before .before .before .words .ensures) (rw (c .before .before .before .before .before .before .before .before .before .before .before .before .before .before .before .before .before .before .before .before .full .ensures) at (c .before .before .before .before .before .before .before .before .before .before .before .before .steps .ensures)) (c .before .before .before .before .before .before .put-mark .ensures) (c .before .before .put-run .ensures)
+    let full-step = c .before .before .before .before .before .before .before .before .before .before .before .before .before .before .before .before .before .before .before .before .full in
+    let check = c .before .before .before .before .before .before .before .before .before .before .before .before .before .before .before .before .before .before .before .check in
+    let code = c .before .before .before .before .before .before .before .before .before .before .before .before .before .before .before .before .before .before .code in
+    let if1 = c .before .before .before .before .before .before .before .before .before .before .before .before .before .before .before .before .before .if1 in
+    let words = c .before .before .before .before .before .before .before .before .before .before .before .before .before .before .before .before .words in
+    let if2 = c .before .before .before .before .before .before .before .before .before .before .before .before .before .before .before .if2 in
+    let steps = c .before .before .before .before .before .before .before .before .before .before .before .before .steps in
+    let fits = right-size (given .n) (now (given .a)) (check .result) (full-step .ensures) (check .ensures) (code .ensures) (if1 .left) in
+    finished (full (given .n)) _ _ fits (if2 .left ∙ words .ensures) (rw (full-step .ensures) at (steps .ensures)) (c .before .before .before .before .before .before .put-mark .ensures) (c .before .before .put-run .ensures)
 
 pub factor-spec : {M : Type 1} → statement M
 factor-spec =

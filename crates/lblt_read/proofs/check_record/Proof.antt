@@ -32,8 +32,10 @@ code-requires-2 c κs = search needs
 returns-3 : tie.Need-returns-3
 returns-3 c =
     let args = c .before .before .before .before .before .before .before .before .args in
+    let passed = code-done (args .sizes) (c .before .before .before .before .before .before .code .ensures) (c .before .before .before .before .before .if1 .left) in
     let long = c .before .before .before .if2 .left ∙ c .before .before .before .before .words .ensures in
-    rw (code-done (args .sizes) (c .before .before .before .before .before .before .code .ensures) (c .before .before .before .before .before .if1 .left)) (record-broken (args .n) (args .run) (args .words .now) long (c .before .before .check .ensures) (code-refused (c .before .before .check .result) (c .before .code2 .ensures) (c .if3 .taken)))
+    let check = c .before .before .check in
+    rw passed (record-broken (args .n) (args .run) (args .words .now) long (check .ensures) (code-refused (check .result) (c .before .code2 .ensures) (c .if3 .taken)))
 
 run-requires : tie.Need-run-requires
 run-requires c κs = omega (arith, c .before .before .before .if2 .left ∙ c .before .before .before .before .words .ensures)
@@ -41,14 +43,20 @@ run-requires c κs = omega (arith, c .before .before .before .if2 .left ∙ c .b
 returns-4 : tie.Need-returns-4
 returns-4 c =
     let args = c .before .before .before .before .before .before .before .before .before .before .args in
+    let passed = code-done (args .sizes) (c .before .before .before .before .before .before .before .before .code .ensures) (c .before .before .before .before .before .before .before .if1 .left) in
     let long = c .before .before .before .before .before .if2 .left ∙ c .before .before .before .before .before .before .words .ensures in
-    rw (code-done (args .sizes) (c .before .before .before .before .before .before .before .before .code .ensures) (c .before .before .before .before .before .before .before .if1 .left)) (record-other (args .n) (args .run) (args .words .now) long (c .before .before .before .before .check .ensures) (code-done (c .before .before .before .before .check .result) (c .before .before .before .code2 .ensures) (c .before .before .if3 .left)) (λ e. c .if4 .taken (c .before .run .ensures ∙ e)))
+    let check = c .before .before .before .before .check in
+    let sound = code-done (check .result) (c .before .before .before .code2 .ensures) (c .before .before .if3 .left) in
+    rw passed (record-other (args .n) (args .run) (args .words .now) long (check .ensures) sound (λ e. c .if4 .taken (c .before .run .ensures ∙ e)))
 
 returns-5 : tie.Need-returns-5
 returns-5 c =
     let args = c .before .before .before .before .before .before .before .before .before .before .args in
+    let passed = code-done (args .sizes) (c .before .before .before .before .before .before .before .before .code .ensures) (c .before .before .before .before .before .before .before .if1 .left) in
     let long = c .before .before .before .before .before .if2 .left ∙ c .before .before .before .before .before .before .words .ensures in
-    rw (code-done (args .sizes) (c .before .before .before .before .before .before .before .before .code .ensures) (c .before .before .before .before .before .before .before .if1 .left)) (record-expected (args .n) (args .run) (args .words .now) long (c .before .before .before .before .check .ensures) (code-done (c .before .before .before .before .check .result) (c .before .before .before .code2 .ensures) (c .before .before .if3 .left)) (sym (c .before .run .ensures) ∙ c .if4 .left))
+    let check = c .before .before .before .before .check in
+    let sound = code-done (check .result) (c .before .before .before .code2 .ensures) (c .before .before .if3 .left) in
+    rw passed (record-expected (args .n) (args .run) (args .words .now) long (check .ensures) sound (sym (c .before .run .ensures) ∙ c .if4 .left))
 
 pub check-record-spec : {M : Type 1} → statement M
 check-record-spec =
