@@ -19,7 +19,8 @@ pub record SameButRun (n : ℕ) (r r' : Answer) (a a' : List Float) (words words
   pub matrix : a ≡ a'
   pub pivots : (p : ℕ) → p < runWord n → getD words p 0 ≡ getD words' p 0
 
-recorded-before : (n run run' : ℕ) (M : Matrix) (words : List ℕ) (p : ℕ) → p < runWord n → getD (recorded n run M words) p 0 ≡ getD (recorded n run' M words) p 0
+-- all words but the last
+pub recorded-before : (n run run' : ℕ) (M : Matrix) (words : List ℕ) (p : ℕ) → p < runWord n → getD (recorded n run M words) p 0 ≡ getD (recorded n run' M words) p 0
 unfolding recorded
 recorded-before n run run' M words p before = stamped-before n ended run p before ∙ sym (stamped-before n ended run' p before)
   where

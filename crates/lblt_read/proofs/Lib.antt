@@ -4,4 +4,5 @@ pub mod Squares
 pub mod Steps
 pub mod Admitted
 pub mod Runs
+pub mod Alike
 pub mod Once

@@ -5,3 +5,4 @@ pub mod Boundaries
 pub mod Written
 pub mod Walks
 pub mod WholeWalks
+pub mod Alike

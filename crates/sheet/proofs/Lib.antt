@@ -3,3 +3,4 @@ pub mod Twins
 pub mod Answers
 pub mod Once
 pub mod Cut
+pub mod AnyRun

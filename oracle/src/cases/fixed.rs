@@ -269,7 +269,7 @@ pub fn marks() -> impl Iterator<Item = Case> {
     pairs_from(0, 3).into_iter().flat_map(|pairs| (0..5).flat_map(move |mark| readers(3, [&pairs[..], &[mark, RUN]].concat(), RUN)))
 }
 
-/// Records of run numbers at the ends and between, read by the same number and by others: one bit or one unit beside it, and the ends. The records: sound,
+/// Records of run numbers at the ends and between, read by the same number and by others, by a solve of no columns too: one bit or one unit beside it, and the ends. The records: sound,
 /// marked, broken in a row and at the mark, of no rows.
 pub fn runs() -> Vec<Case> {
     let records: [(usize, &[u32]); 5] =
@@ -278,7 +278,9 @@ pub fn runs() -> Vec<Case> {
     for (n, words) in records {
         for run in [0, 20_261_116, u32::MAX] {
             for expected in [run, run ^ 1, run ^ 1 << 16, run ^ 1 << 31, run.wrapping_add(1), run.wrapping_sub(1), 0, u32::MAX] {
-                out.extend(readers(n, [words, &[run]].concat(), expected));
+                let cases = readers(n, [words, &[run]].concat(), expected);
+                out.push(Case { x: 0, b: vec![], ..cases[0].clone() });
+                out.extend(cases);
             }
         }
     }
