@@ -8,24 +8,31 @@ use native.Mathlib.Omega.{arith}
 use borrow.Author.Tests.{eq-eqb}
 use lib.Ieee.{Float}
 use lib.ListN.{length}
+use Rattle.answer.specs.declared.Answer.{Answer}
 use Rattle.answer.specs.declared.Answer.the-variants.{Done, OtherRun}
 use Rattle.answer.specs.Number.{codeOf, isDone, numberOf}
 use Rattle.answer.specs.Refusals.{tested}
 use Rattle.matrix.specs.Layouts.{full}
+use Rattle.matrix.specs.Matrix.{Matrix}
 use Rattle.matrix.specs.Sizes.{Fits}
 use Rattle.matrix.specs.Rounded.{plusZero}
 use Rattle.matrix.proofs.Sizes.{full-fits}
 use Rattle.pivots.specs.Words.{markAt, runAt}
 use Rattle.pivots.specs.Rule.{Accepted}
 use Rattle.lblt.proofs.Accepted.{factor-accepted, factor-run}
-use Rattle.lblt_read.specs.Calls.{columnTests}
+use Rattle.lblt_read.specs.Calls.{columnTests, LbltFilled}
 use Rattle.lblt_read.proofs.Runs.{reader-expected, reader-other, columns-expected, columns-other}
 use Rattle.lblt_solve.proofs.Marked.{solve-refused, solve-done, solve-marked}
 use Rattle.urgyelpat.specs.declared.Determined.{Determined}
+use Rattle.urgyelpat.specs.Passed.{Passed}
 use Rattle.urgyelpat.specs.Calls.{LbltFactor, LbltSolve, LbltDeterminant, LbltD, LbltLPermuted}
 
 abbrev pub refusedByRun : ℕ
 refusedByRun = 13 * 4096
+
+-- `d` or `l_permuted`, by the matrix M that is filled in
+abbrev Filled : ℕ → ℕ → List Float → List ℕ → Matrix → List Float → ℕ → List Float → Type 0
+Filled n run m words M f r f' = Passed numberOf (λ (answer : Answer). LbltFilled (full n) run m words M f answer f') r
 
 -- a and the words are what the factor call was given; the number 0 is its answer
 module _ {n run : ℕ} {a a' : List Float} {words words' : List ℕ} (made : LbltFactor n run a words 0 a' words') where
@@ -50,15 +57,17 @@ module _ {n run : ℕ} {a a' : List Float} {words words' : List ℕ} (made : Lbl
         ap (λ (d : Determined). d .answer) (c .result)
         ∙ ap numberOf (c .given .answer ∙ sym (reader-expected (full n) run m words' fits accepted stamp))
 
-    module _ (d : List Float) (long : length d ≡ n * n) where
-      read : Done ≡ tested (columnTests (full n) n run m words' d) Done
-      read = columns-expected (full n) run m words' fits accepted n (accepted .sized .order) d long stamp
+    -- f is the matrix to fill
+    module _ (f : List Float) (long : length f ≡ n * n) {r : ℕ} {f' : List Float} where
+      filled-accepts : {M : Matrix} → Filled n run m words' M f r f' → r ≡ 0
+      filled-accepts c =
+          c .result ∙ ap numberOf (c .given .answer ∙ sym (columns-expected (full n) run m words' fits accepted n (accepted .sized .order) f long stamp))
 
-      pub d-accepts : {r : ℕ} {d' : List Float} → LbltD n run m words' d r d' → r ≡ 0
-      d-accepts c = c .result ∙ ap numberOf (c .given .answer ∙ sym read)
+      pub d-accepts : LbltD n run m words' f r f' → r ≡ 0
+      d-accepts c = filled-accepts c
 
-      pub l-permuted-accepts : {r : ℕ} {d' : List Float} → LbltLPermuted n run m words' d r d' → r ≡ 0
-      l-permuted-accepts c = c .result ∙ ap numberOf (c .given .answer ∙ sym read)
+      pub l-permuted-accepts : LbltLPermuted n run m words' f r f' → r ≡ 0
+      l-permuted-accepts c = filled-accepts c
 
     module _ (columns : ℕ) (few : columns ≤ 1024) (b : List Float) (long : length b ≡ n * columns) {r : ℕ} {b' : List Float} (c : LbltSolve n columns run m words' b r b') where
       solve-read : Done ≡ tested (columnTests (full n) columns run m words' b) Done
@@ -82,19 +91,17 @@ module _ {n run : ℕ} {a a' : List Float} {words words' : List ℕ} (made : Lbl
           let is : c .below .answer ≡ OtherRun = c .given .answer ∙ sym (reader-other (full n) expected m words' fits accepted not-stamped) in
           (ap (λ (d : Determined). d .answer) (c .result) ∙ ap numberOf is, ap (λ (d : Determined). d .value) (c .result) ∙ c .given .value ∙ rw is)
 
-      module _ (d : List Float) (long : length d ≡ n * n) where
-        other-read : OtherRun ≡ tested (columnTests (full n) n expected m words' d) Done
-        other-read = columns-other (full n) expected m words' fits accepted n (accepted .sized .order) d long not-stamped
-
-        pub d-refuses : {r : ℕ} {d' : List Float} → LbltD n expected m words' d r d' → (r ≡ refusedByRun) × (d' ≡ d)
-        d-refuses c =
-            let is : c .below ≡ OtherRun = c .given .answer ∙ sym other-read in
+      module _ (f : List Float) (long : length f ≡ n * n) {r : ℕ} {f' : List Float} where
+        filled-refuses : {M : Matrix} → Filled n expected m words' M f r f' → (r ≡ refusedByRun) × (f' ≡ f)
+        filled-refuses c =
+            let is : c .below ≡ OtherRun = c .given .answer ∙ sym (columns-other (full n) expected m words' fits accepted n (accepted .sized .order) f long not-stamped) in
             (c .result ∙ ap numberOf is, c .given .left .refused (ap isDone is))
 
-        pub l-permuted-refuses : {r : ℕ} {d' : List Float} → LbltLPermuted n expected m words' d r d' → (r ≡ refusedByRun) × (d' ≡ d)
-        l-permuted-refuses c =
-            let is : c .below ≡ OtherRun = c .given .answer ∙ sym other-read in
-            (c .result ∙ ap numberOf is, c .given .left .refused (ap isDone is))
+        pub d-refuses : LbltD n expected m words' f r f' → (r ≡ refusedByRun) × (f' ≡ f)
+        d-refuses c = filled-refuses c
+
+        pub l-permuted-refuses : LbltLPermuted n expected m words' f r f' → (r ≡ refusedByRun) × (f' ≡ f)
+        l-permuted-refuses c = filled-refuses c
 
       -- a marked record too
       pub solve-refuses : (columns : ℕ) → columns ≤ 1024 → (b : List Float) → length b ≡ n * columns → {r : ℕ} {b' : List Float} → LbltSolve n columns expected m words' b r b' → (r ≡ refusedByRun) × (b' ≡ b)

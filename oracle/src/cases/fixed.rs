@@ -269,8 +269,8 @@ pub fn marks() -> impl Iterator<Item = Case> {
     pairs_from(0, 3).into_iter().flat_map(|pairs| (0..5).flat_map(move |mark| readers(3, [&pairs[..], &[mark, RUN]].concat(), RUN)))
 }
 
-/// Records of run numbers at the ends and between, read by the same number and by others, by a solve of no columns too: one bit or one unit beside it, and the ends. The records: sound,
-/// marked, broken in a row and at the mark, of no rows.
+/// Records with run numbers at the ends and between: sound, marked, broken in a row and at the mark, of no rows. Each is read by its own number and
+/// by others, one bit or one unit beside it and at the ends, by each call and by a solve of no columns.
 pub fn runs() -> Vec<Case> {
     let records: [(usize, &[u32]); 5] =
         [(0, &[0]), (2, &[1, 2, 1, 2, 0]), (2, &[1, 1, 1, 1, 2]), (2, &[1, 1, 0, 1, 2]), (2, &[1, 1, 1, 1, 1])];
