@@ -37,7 +37,7 @@ table =
     ∷ (lbltReaders 2 7 (1 ∷ 2 ∷ 1 ∷ 2 ∷ 2 ∷ 7 ∷ []) ⇒ refused 5 2 ∷ refused 5 2 ∷ refused 5 2 ∷ refused 5 2 ∷ [])
     ∷ (lbltReaders 2 7 (1 ∷ 1 ∷ 1 ∷ 1 ∷ 2 ∷ 7 ∷ []) ⇒ refused 6 1 ∷ done ∷ done ∷ done ∷ [])
     -- made with run 7 and asked for run 8: code 13, the right-hand side as given, the determinant +0. A marked record gets it from every reader,
-    -- one that breaks the rule gets code 5. Of order 0, made with the largest number
+    -- one that breaks the rule gets code 5. A record of order 0 with the largest number, asked for run 0 and for that number
     ∷ (lbltSolve 2 7 8 (bits.zero ∷ bits.one ∷ stray ∷ bits.zero ∷ []) (bits.three ∷ bits.five ∷ []) ⇒ refused 13 0 ∷ (bits.three ∷ bits.five ∷ []) ∷ [])
     ∷ (lbltDeterminant 2 7 8 (bits.zero ∷ bits.one ∷ stray ∷ bits.zero ∷ []) ⇒ refused 13 0 ∷ (bits.zero ∷ []) ∷ [])
     ∷ (lbltReaders 2 8 (1 ∷ 1 ∷ 1 ∷ 1 ∷ 2 ∷ 7 ∷ []) ⇒ refused 13 0 ∷ refused 13 0 ∷ refused 13 0 ∷ refused 13 0 ∷ [])

@@ -64,8 +64,8 @@ fn steps(y: Layout, a: &mut [f64], words: &mut [u32]) -> u32
     s.mark
 }
 
-// Factors the lower triangle of a matrix of order n in n·n numbers, column by column, and writes its pivot record, with the caller's run number at its end.
-// An order above 1,024, then a wrong length of the matrix, then of the record, is refused, and nothing is written.
+// Factors the lower triangle of a matrix of order n in n·n numbers, column by column, and writes its pivot record, which ends with
+// the caller's run number. An order above 1,024, then a wrong length of the matrix, then of the record, is refused, and nothing is written.
 pub fn factor(a: &mut [f64], words: &mut [u32], n: usize, run: u32) -> Answer
     ensures { λ r. ⌜ Factored (full n) run (now (a .entry)) (now (words .entry)) r (now (a .exit)) (now (words .exit)) ⌝ }
 {
