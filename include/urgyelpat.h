@@ -101,12 +101,12 @@ typedef struct urgyelpat_determined {
  * pair at k + 1. The mark is 0, or names a row of size 1 whose index is that row: where there is no pivot, nothing is exchanged.
  * A record that breaks the rule is refused by 5, at its first row that does, or at n if its mark alone does.
  *
- * The run number is the caller's: any uint32_t, and no number means "unchecked". A factor call that is done writes the one that
- * it is given, as its last argument; a refused one leaves the record that stood there, with its number. A call that reads the
- * factor is given the number that it expects, as its last argument, and refuses by 13 a record that keeps the rule but has
- * another. Give each run (a day, a patient, a sheet) a number of its own, and yesterday's record is refused today. A record that
- * keeps the rule and has the expected number is accepted, even if it is damaged or of another matrix: keep a factor and its
- * record together.
+ * The run number is the caller's: any uint32_t, and none of them stands for "unchecked". A factor call that is done writes the
+ * one that it is given, as its last argument; a refused one leaves the record that stood there, with its number. A call that
+ * reads the factor is given the number that it expects, as its last argument, and refuses by 13 a record that keeps the rule
+ * but has another. Give each run (a day, a patient, a sheet) a number of its own, and yesterday's record is refused today. A
+ * record that keeps the rule and has the expected number is accepted, even if it is damaged or of another matrix: keep a factor
+ * and its record together.
  *
  * The rows of the factor are not in the order in which they came: for a block of size s from row k on, the row that the index
  * names was exchanged with row k + s - 1. */

@@ -186,7 +186,7 @@ impl Case {
         }
     }
 
-    pub fn run(&self, calls: &dyn Calls) -> Outcome {
+    pub fn outcome(&self, calls: &dyn Calls) -> Outcome {
         let mut after = self.clone();
         let (answer, value) = after.run_in_place(calls);
         Outcome { answer, value: value.map(word), a: words(&after.a), b: words(&after.b), c: words(&after.c), record: after.record }

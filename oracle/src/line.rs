@@ -64,13 +64,12 @@ pub fn parse_case(line: &str) -> Result<Case, String> {
     let mut case = Case::new(form.call, 0, vec![]);
     for &which in form.numbers {
         let field = head.next().ok_or("a number is missing")?;
-        let none = |_| format!("{field} is no number");
-        let number = field.parse().map_err(none)?;
+        let number = field.parse().map_err(|_| format!("{field} is no number"))?;
         match which {
             Number::N => case.n = number,
             Number::X => case.x = number,
             Number::Y => case.y = number,
-            Number::Run => case.run = field.parse().map_err(none)?,
+            Number::Run => case.run = number.try_into().map_err(|_| format!("{field} is above 32 bits"))?,
         }
     }
     if head.next().is_some() {

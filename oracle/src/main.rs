@@ -30,7 +30,7 @@ fn answer(calls: &dyn Calls) -> Result<(), Box<dyn std::error::Error>> {
     let mut out = BufWriter::new(io::stdout().lock());
     for (at, line) in io::stdin().lock().lines().enumerate() {
         let case = parse_case(&line?).map_err(|e| format!("line {}: {e}", at + 1))?;
-        writeln!(out, "{}", outcome_line(&case, &case.run(calls)))?;
+        writeln!(out, "{}", outcome_line(&case, &case.outcome(calls)))?;
     }
     Ok(out.flush()?)
 }

@@ -1,5 +1,5 @@
 //! The calls, written from document 01's steps and without the text: a matrix is read and written by `a[(i, j)]`, the loops run entry by entry.
-//! Cholesky's solve, the codes of a diagonal that is turned down and the row that a mark may name are written from document 02.
+//! Cholesky's solve, the codes of a diagonal that is turned down, the row that a mark may name and the run number are written from document 02.
 //! The calls for rows that came twice are written from what twin rows are: all pairs are compared, one after the other.
 
 // sums and quotients stand as the documents write them

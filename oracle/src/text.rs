@@ -81,6 +81,7 @@ mod checks {
         (!sound).then(|| refusal(5, n))
     }
 
+    /// The record's length by document 02.
     pub fn factored(a: &[f64], words: &[u32], n: usize) -> Option<u64> {
         counts(&[n]).or_else(|| first(a.len(), n * n)).or_else(|| another(words.len(), record_length(n)))
     }

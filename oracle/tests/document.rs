@@ -1,5 +1,5 @@
-//! Document 01's cases and document 02's codes of a diagonal, answered by the text and by the steps; Cholesky's solve and rows that came twice, by the
-//! steps.
+//! Document 01's cases and document 02's codes of a diagonal, rows of a mark and run numbers, answered by the text and by the steps; Cholesky's solve
+//! and rows that came twice, by the steps.
 
 use std::hint::black_box;
 

@@ -6,7 +6,7 @@
 //! k + 1..n and the same pair at k + 1. The mark is 0, or names a row of size 1 whose index is that row: where there is no
 //! pivot, nothing is exchanged. A record that breaks the rule is refused by [`BadRecord`](Refusal::BadRecord).
 //!
-//! The run number is the caller's: any `u32`, and no number means "unchecked". A [`factor`] call that is done writes the one
+//! The run number is the caller's: any `u32`, and none of them stands for "unchecked". A [`factor`] call that is done writes the one
 //! that it is given, as its last argument; a refused one leaves the record that stood there, with its number. A call that
 //! reads the factor is given the number that it expects, as its last argument, and refuses by
 //! [`OtherRun`](Refusal::OtherRun) a record that keeps the rule but has another. Give each run (a day, a patient, a sheet) a
@@ -177,8 +177,10 @@ pub fn callers_row(record: &[u32], n: usize, row: usize) -> usize {
     row
 }
 
-/// A factored symmetric matrix with its pivot record. Its calls expect its own run number: whether it is the factor of this
-/// run, [`run`](LBLT::run) tells.
+/// A factored symmetric matrix with its pivot record.
+///
+/// Its calls expect its own run number, so that none of them notices that a factor is yesterday's: that is for the calling
+/// program to ask, by [`run`](LBLT::run). The functions of [this module](crate::lblt) take the number that they expect.
 ///
 /// ```
 /// use urgyelpat::LBLT;

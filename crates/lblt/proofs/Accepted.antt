@@ -1,4 +1,4 @@
--- The record that `factor` writes is accepted by the check, its mark names a row of size 1 whose index is its own row, and its run number is the given one.
+-- The record that `factor` writes is accepted by the check, its mark is 0 or names a row of size 1 whose index is its own row, and its run number is the given one.
 -- Assumes nothing.
 use mathlib.Core.Path.{_≡_, refl, sym, _∙_, ap, subst}
 use mathlib.Core.Bool.{Bool, true, false, cond}

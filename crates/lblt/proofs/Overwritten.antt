@@ -85,7 +85,7 @@ step-over : (n : ℕ) (S : State) (words : List ℕ) → step n (over S words) �
 unfolding step
 step-over n S words = take-over n S words (choose n (S .matrix) (S .row))
 
--- what two runs over two records end with
+-- what the steps end with over two records
 record Ends (n : ℕ) (S S' : State) : Type 0 where
   pub mark : S .mark ≡ S' .mark
   pub words : Alike (markWord n) (S .words) (S' .words)

@@ -167,7 +167,7 @@ columns-done y columns run a words b done =
     }
 
 -- no test of a reader answers that all is done
-pub sides-refuse : (y : Layout) (columns : ℕ) (a b : List Float) → Refusals (sideTests y columns a b)
+sides-refuse : (y : Layout) (columns : ℕ) (a b : List Float) → Refusals (sideTests y columns a b)
 sides-refuse y columns a b = (refl, (refl, (refl, (refl, (refl, (refl, (refl, (refl, tt))))))))
 
 pub columns-refuse : (y : Layout) (columns run : ℕ) (a : List Float) (words : List ℕ) (b : List Float) → Refusals (columnTests y columns run a words b)

@@ -4,5 +4,5 @@ pub mod Squares
 pub mod Steps
 pub mod Admitted
 pub mod Runs
-pub mod Alike
+pub mod PairsAlone
 pub mod Once

@@ -1,3 +1,4 @@
+pub mod SamePairs
 pub mod Blocks
 pub mod Faults
 pub mod Checked
@@ -5,4 +6,3 @@ pub mod Boundaries
 pub mod Written
 pub mod Walks
 pub mod WholeWalks
-pub mod Alike

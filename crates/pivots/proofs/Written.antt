@@ -2,12 +2,12 @@
 --     Written n words k m     the blocks up to row k are written and sound; m is the first mark: 0, or a row before k, of size 1 and with its own index, plus 1
 --     written-none            nothing written
 --     written-one, written-two, written-zero     one more block: of size 1, of size 2, and a zero column that sets the mark
---     stamped-before          what the run number leaves
+--     stamped-other, stamped-length     what the run number leaves
 --     written-all, written-run     the mark and a run number are put at the end: the record is accepted, and the number stands in it
 use mathlib.Core.List.{List}
 use mathlib.Core.Logic.{_⊎_, inl, inr}
 use mathlib.Core.Path.{_≡_, refl, sym, ap, subst, _∙_}
-use Prim.Native.Nat.{ℕ, _+_, _-_, _*_, _<_, _≤_}
+use Prim.Native.Nat.{ℕ, _+_, _-_, _<_, _≤_}
 use native.Mathlib.Omega.{arith}
 use lib.ListN.{length, getD, set, length-set}
 use lib.Seq.{getD-set-same, getD-set-other}
@@ -15,6 +15,7 @@ use Rattle.answer.specs.declared.Answer.the-variants.{Done}
 use Rattle.answer.specs.Number.{isDone}
 use Rattle.pivots.specs.Words.{indexWord, sizeWord, markWord, runWord, indexAt, sizeAt, markAt, runAt, Sized, paired, marked, stamped}
 use Rattle.pivots.specs.Rule.{faultOf, checked, Accepted}
+use Rattle.pivots.proofs.SamePairs.{SamePairs}
 use Rattle.pivots.proofs.Blocks.{one-rows, two-rows}
 use Rattle.pivots.proofs.Faults.{Going, going-none, going-more, going-all}
 use Rattle.pivots.proofs.Checked.{unmarked, mark-sound}
@@ -28,10 +29,9 @@ pub record Written (n : ℕ) (words : List ℕ) (k m : ℕ) : Type 0 where
 
 -- ---- what a write leaves
 
--- the pairs of the rows before k are the same
-record Kept (words words' : List ℕ) (k : ℕ) : Type 0 where
-  pub index : (r : ℕ) → r < k → indexAt words' r ≡ indexAt words r
-  pub size : (r : ℕ) → r < k → sizeAt words' r ≡ sizeAt words r
+-- the pairs of the rows before k are those that stood there
+abbrev Kept : List ℕ → List ℕ → ℕ → Type 0
+Kept words words' k = SamePairs k words' words
 
 kept-less : {words words' : List ℕ} {j k : ℕ} → j ≤ k → Kept words words' k → Kept words words' j
 kept-less below s = record { index = λ r h. s .index r (omega arith); size = λ r h. s .size r (omega arith) }
@@ -98,10 +98,13 @@ ended-kept n words mark run = record {
   size = λ r h. below (set words (markWord n) mark) (runWord n) (sizeWord r) run (omega arith) ∙ below words (markWord n) (sizeWord r) mark (omega arith);
 }
 
--- the run number is written after all other words
-pub stamped-before : (n : ℕ) (words : List ℕ) (run p : ℕ) → p < runWord n → getD (stamped n words run) p 0 ≡ getD words p 0
+pub stamped-other : (n : ℕ) (words : List ℕ) (run p : ℕ) → (p ≡ runWord n → ⊥) → getD (stamped n words run) p 0 ≡ getD words p 0
 unfolding stamped
-stamped-before n words run p before = below words (runWord n) p run before
+stamped-other n words run p other = getD-set-other words (runWord n) p run 0 other
+
+pub stamped-length : (n : ℕ) (words : List ℕ) (run : ℕ) → length (stamped n words run) ≡ length words
+unfolding stamped
+stamped-length n words run = length-set words (runWord n) run
 
 paired-sized : {n : ℕ} {words : List ℕ} (row index size : ℕ) → Sized n words → Sized n (paired words row index size)
 paired-sized {n} {words} row index size s = record { order = s .order; total = paired-length words row index size ∙ s .total }

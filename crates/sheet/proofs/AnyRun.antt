@@ -1,16 +1,16 @@
 -- The page does not show the run number: with any other it would be the same, byte for byte. Assumes nothing.
-use mathlib.Core.List.{List, [], _∷_}
+use mathlib.Core.List.{List, _∷_}
 use mathlib.Core.Path.{_≡_, refl, ap, _∙_}
 use Prim.Native.Nat.{ℕ, zero, suc, _+_, _≤_}
 use native.Mathlib.Omega.{arith}
 use lib.Ieee.{Float}
 use Rattle.matrix.specs.Matrix.{Matrix}
 use Rattle.pivots.specs.Words.{indexWord, sizeWord, markWord, indexAt, sizeAt, markAt}
-use Rattle.pivots.proofs.Alike.{SamePairs}
+use Rattle.pivots.proofs.SamePairs.{SamePairs}
 use Rattle.lblt.specs.Factor.{finalState, recorded}
-use Rattle.lblt.proofs.Runs.{recorded-before}
+use Rattle.lblt.proofs.Runs.{recorded-apart}
 use Rattle.lblt_read.specs.Diagonal.{determinantOf}
-use Rattle.lblt_read.proofs.Alike.{determinant-alike}
+use Rattle.lblt_read.proofs.PairsAlone.{determinant-alike}
 use Rattle.sheet_page.specs.Page.{pivotLine, pivotLines, pageLines, pageOf}
 use Rattle.sheet.specs.Respond.{sheetRun, pageFrom}
 
@@ -30,10 +30,11 @@ pub any-run : (n run : ℕ) (M : Matrix) (words : List ℕ)
     → pageOf n (recorded n run M words) (finalState n M words .matrix) (determinantOf n (finalState n M words .matrix) (recorded n run M words)) ≡ pageFrom n M words
 unfolding pageFrom
 any-run n run M words =
+    let apart = recorded-apart n run sheetRun M words in
     let pairs : SamePairs n (recorded n run M words) (recorded n sheetRun M words) = record {
-      index = λ row below. recorded-before n run sheetRun M words (indexWord row) (omega arith);
-      size = λ row below. recorded-before n run sheetRun M words (sizeWord row) (omega arith);
+      index = λ row below. apart .elsewhere (indexWord row) (λ e. omega arith);
+      size = λ row below. apart .elsewhere (sizeWord row) (λ e. omega arith);
     } in
     let factor : Matrix = finalState n M words .matrix in
     ap (pageOf n (recorded n run M words) factor) (determinant-alike pairs factor)
-    ∙ page-alike pairs (recorded-before n run sheetRun M words (markWord n) (omega arith)) factor (determinantOf n factor (recorded n sheetRun M words))
+    ∙ page-alike pairs (apart .elsewhere (markWord n) (λ e. omega arith)) factor (determinantOf n factor (recorded n sheetRun M words))

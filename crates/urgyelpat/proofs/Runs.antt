@@ -1,5 +1,5 @@
 -- A record that a factor call made with a run number, in a later call whose slices fit, whatever numbers they hold: one that expects this number accepts
--- it, one that expects another answers 13, place 0, and writes nothing. Assumes nothing.
+-- it (solve then goes on to the mark), one that expects another answers 13, place 0, and writes nothing. Assumes nothing.
 use mathlib.Core.Bool.{true}
 use mathlib.Core.List.{List}
 use mathlib.Core.Path.{_≡_, refl, sym, ap, _∙_}

@@ -96,8 +96,8 @@ impl<'a> Tally<'a> {
         if self.steps && case.call.by_steps_alone() {
             return;
         }
-        let text = case.run(&Text);
-        let other = case.run(self.other);
+        let text = case.outcome(&Text);
+        let other = case.outcome(self.other);
         *self.per_call.entry(case.call).or_default() += 1;
         match text.answer / 4096 {
             code if code < 4096 => *self.per_code.entry(code).or_default() += 1,

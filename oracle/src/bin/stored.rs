@@ -106,7 +106,7 @@ fn refusals(w: &mut Writer, calls: &[Call]) {
     let all: Vec<Case> = cases::refusals().into_iter().filter(|c| calls.contains(&c.call) && fits(c)).collect();
     for &call in calls {
         for code in (1..=6).chain([13]) {
-            let of_code = |c: &&Case| c.call == call && c.run(&Text).answer / 4096 == code;
+            let of_code = |c: &&Case| c.call == call && c.outcome(&Text).answer / 4096 == code;
             let some: Vec<&Case> = all.iter().filter(of_code).collect();
             for at in 0..some.len().min(4) {
                 emit_all(w, [some[(2 * at + 1) * some.len() / 8]]);

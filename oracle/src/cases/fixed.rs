@@ -277,7 +277,10 @@ pub fn runs() -> Vec<Case> {
     let mut out = vec![];
     for (n, words) in records {
         for run in [0, 20_261_116, u32::MAX] {
-            for expected in [run, run ^ 1, run ^ 1 << 16, run ^ 1 << 31, run.wrapping_add(1), run.wrapping_sub(1), 0, u32::MAX] {
+            let mut asked = vec![run, run ^ 1, run ^ 1 << 16, run ^ 1 << 31, run.wrapping_add(1), run.wrapping_sub(1), 0, u32::MAX];
+            asked.sort_unstable();
+            asked.dedup();
+            for expected in asked {
                 let cases = readers(n, [words, &[run]].concat(), expected);
                 out.push(Case { x: 0, b: vec![], ..cases[0].clone() });
                 out.extend(cases);

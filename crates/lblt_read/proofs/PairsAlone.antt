@@ -5,7 +5,7 @@ use Prim.Native.Nat.{ℕ}
 use lib.Ieee.{Float}
 use Rattle.matrix.specs.Matrix.{Matrix}
 use Rattle.matrix.specs.Rounded.{_⊗_, one}
-use Rattle.pivots.proofs.Alike.{SamePairs, size-alike, forwards-alike}
+use Rattle.pivots.proofs.SamePairs.{SamePairs, size-alike, forwards-alike}
 use Rattle.lblt_solve_one.specs.Column.{blockDeterminant}
 use Rattle.lblt_read.specs.Diagonal.{timesBlock, determinantOf}
 

@@ -1,4 +1,4 @@
--- Two records with the same pairs are gone through alike, whatever stands after the pairs.
+-- Two records with the same pairs are gone through alike from the first row on, whatever stands after the pairs.
 use mathlib.Core.Bool.{Bool, true, false, cond}
 use mathlib.Core.List.{List}
 use mathlib.Core.Path.{_≡_, refl, ap, _∙_}
@@ -8,6 +8,7 @@ use borrow.Author.Tests.{ltb-true}
 use Rattle.pivots.specs.Words.{indexAt, sizeAt}
 use Rattle.pivots.specs.Blocks.{bySize, rowsOf, blocksFrom, forwards}
 
+-- of the rows before n
 pub record SamePairs (n : ℕ) (words words' : List ℕ) : Type 0 where
   pub index : (row : ℕ) → row < n → indexAt words row ≡ indexAt words' row
   pub size : (row : ℕ) → row < n → sizeAt words row ≡ sizeAt words' row
