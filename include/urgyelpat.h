@@ -121,7 +121,7 @@ typedef struct urgyelpat_determined {
 URGYELPAT_MUST_USE uint64_t urgyelpat_lblt_factor(double *a, size_t a_length, uint32_t *record, size_t record_length, size_t n,
                                                   uint32_t run);
 
-/* Solves A X = B in b (n*columns numbers, column by column) by a factor and its record.
+/* Solves A X = B in b (n*columns numbers, column by column) by a factor and its record, which is expected to be of run `run`.
  * After 6 look first for NaN or infinite numbers in all rows of A.
  * Answers 0, 1, 3 (a), 4 (record or b), 5, 13, 6 (its place is a row of the factor; urgyelpat_callers_row gives yours). */
 URGYELPAT_MUST_USE uint64_t urgyelpat_lblt_solve(const double *a, size_t a_length, const uint32_t *record, size_t record_length,
@@ -141,17 +141,19 @@ static inline size_t urgyelpat_callers_row(const uint32_t *record, size_t n, siz
     return row;
 }
 
-/* The determinant by a factor and its record; 1 for order 0. A marked record is accepted.
+/* The determinant by a factor and its record, which is expected to be of run `run`; 1 for order 0. A marked record is accepted.
  * Answers 0, 1, 3 (a), 4 (record), 5, 13. */
 URGYELPAT_MUST_USE urgyelpat_determined urgyelpat_lblt_determinant(const double *a, size_t a_length, const uint32_t *record,
                                                                    size_t record_length, size_t n, uint32_t run);
 
-/* Fills d (n*n numbers) with the block diagonal matrix of a factor, zeros beside the blocks. A marked record is accepted.
+/* Fills d (n*n numbers) with the block diagonal matrix of a factor, zeros beside the blocks. The record is expected to be of run
+ * `run`. A marked record is accepted.
  * Answers 0, 1, 3 (a), 4 (record or d), 5, 13. */
 URGYELPAT_MUST_USE uint64_t urgyelpat_lblt_d(const double *a, size_t a_length, const uint32_t *record, size_t record_length,
                                              double *d, size_t d_length, size_t n, uint32_t run);
 
-/* Fills l (n*n numbers) with P^T L; on paper the factored matrix is l d l^T. A marked record is accepted.
+/* Fills l (n*n numbers) with P^T L; on paper the factored matrix is l d l^T. The record is expected to be of run `run`. A marked
+ * record is accepted.
  * Answers 0, 1, 3 (a), 4 (record or l), 5, 13. */
 URGYELPAT_MUST_USE uint64_t urgyelpat_lblt_l_permuted(const double *a, size_t a_length, const uint32_t *record,
                                                       size_t record_length, double *l, size_t l_length, size_t n, uint32_t run);
