@@ -14,6 +14,7 @@ use Rattle.pivots.specs.Words.{runWord, marked}
 use Rattle.pivots.proofs.Written.{stamped-other, stamped-length}
 use Rattle.lblt.specs.Factor.{finalState, recorded, Factored}
 
+-- of one length, with the same words wherever the run number does not stand
 pub record SameButRun (n : ℕ) (words words' : List ℕ) : Type 0 where
   pub long : length words ≡ length words'
   pub elsewhere : (p : ℕ) → (p ≡ runWord n → ⊥) → getD words p 0 ≡ getD words' p 0
@@ -31,6 +32,7 @@ recorded-apart n run run' M words = record {
 same-but-run : {n : ℕ} {words₁ words₂ words₁' words₂' : List ℕ} → words₁ ≡ words₁' → words₂ ≡ words₂' → SameButRun n words₁' words₂' → SameButRun n words₁ words₂
 same-but-run e f s = rw (e, f) s
 
+-- what two calls answer and leave
 pub record RunsApart (n : ℕ) (r r' : Answer) (a a' : List Float) (words words' : List ℕ) : Type 0 where
   pub answer : r ≡ r'
   pub matrix : a ≡ a'
