@@ -1,49 +1,48 @@
 -- A digit and the byte that stands for it.
-use mathlib.Core.Path.{_≡_, sym, _∙_}
-use mathlib.Core.List.{List, [], _∷_}
+use mathlib.Core.Path.{_≡_, _∙_}
 use mathlib.Core.Logic.{_⊎_, inl, inr}
-use Prim.Native.Nat.{ℕ, _-_, _<_, _≤_}
+use Prim.Native.Nat.{ℕ, _+_, _-_, _<_, _≤_}
 use native.Mathlib.Omega.{arith}
 use borrow.Author.Tests.{lt-ltb, le-ltb, le-leb, lt-leb}
 use Rattle.answer.proofs.Tests.{lt-or-ge}
 use Rattle.sheet_text.specs.Text.{digit}
 use Rattle.sheet_text.specs.inner.Digit.{digitOf}
-use Rattle.sheet_text.proofs.Table.{table-entry}
 
-sixteen : List ℕ
-sixteen = 0 ∷ 1 ∷ 2 ∷ 3 ∷ 4 ∷ 5 ∷ 6 ∷ 7 ∷ 8 ∷ 9 ∷ 10 ∷ 11 ∷ 12 ∷ 13 ∷ 14 ∷ 15 ∷ []
-
--- the digit of d reads as d
-pub digit-value : (d : ℕ) → d < 16 → digitOf (digit d) ≡ d
-unfolding sixteen digit digitOf
-digit-value d h = sym (table-entry (λ k. digitOf (digit k)) sixteen tt d h) ∙ table-entry (λ k. k) sixteen tt d h
-
-is-decimal : (b : ℕ) → 48 ≤ b → b ≤ 57 → digitOf b ≡ b - 48
+pub is-decimal : (b : ℕ) → 48 ≤ b → b ≤ 57 → digitOf b ≡ b - 48
 unfolding digitOf
 is-decimal b h k = rw (le-leb 48 b h, le-leb b 57 k)
 
-is-letter : (b : ℕ) → 97 ≤ b → b ≤ 102 → digitOf b ≡ b - 87
+pub is-letter : (b : ℕ) → 97 ≤ b → b ≤ 102 → digitOf b ≡ b - 87
 unfolding digitOf
 is-letter b h k =
     let past : 57 < b = omega arith in
     let from : 48 ≤ b = omega arith in
     rw (le-leb 48 b from, lt-leb b 57 past, le-leb 97 b h, le-leb b 102 k)
 
-is-low : (b : ℕ) → b < 48 → digitOf b ≡ 255
+pub is-low : (b : ℕ) → b < 48 → digitOf b ≡ 255
 unfolding digitOf
 is-low b h = let below : b < 97 = omega arith in rw (lt-leb 48 b h, lt-leb 97 b below)
 
-is-middle : (b : ℕ) → 57 < b → b < 97 → digitOf b ≡ 255
+pub is-middle : (b : ℕ) → 57 < b → b < 97 → digitOf b ≡ 255
 unfolding digitOf
 is-middle b h k = let from : 48 ≤ b = omega arith in rw (le-leb 48 b from, lt-leb b 57 h, lt-leb 97 b k)
 
-is-high : (b : ℕ) → 102 < b → digitOf b ≡ 255
+pub is-high : (b : ℕ) → 102 < b → digitOf b ≡ 255
 unfolding digitOf
 is-high b h =
     let from : 48 ≤ b = omega arith in
     let past : 57 < b = omega arith in
     let letters : 97 ≤ b = omega arith in
     rw (le-leb 48 b from, lt-leb b 57 past, le-leb 97 b letters, lt-leb b 102 h)
+
+-- the digit of d reads as d
+pub digit-value : (d : ℕ) → d < 16 → digitOf (digit d) ≡ d
+unfolding digit
+digit-value d h = by-range (lt-or-ge d 10)
+  where
+    by-range : (d < 10) ⊎ (10 ≤ d) → digitOf (digit d) ≡ d
+    by-range (inl k) = rw (lt-ltb d 10 k) (is-decimal (48 + d) (omega arith) (omega arith) ∙ omega arith)
+    by-range (inr k) = rw (le-ltb d 10 k) (is-letter (87 + d) (omega arith) (omega arith) ∙ omega arith)
 
 decimal-back : (b d : ℕ) → d ≡ b - 48 → 48 ≤ b → b ≤ 57 → digit d ≡ b
 unfolding digit
