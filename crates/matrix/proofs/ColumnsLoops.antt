@@ -33,7 +33,7 @@ pub for-uniform : (lo hi : ℕ) → Uniform (rising lo hi)
 for-uniform lo hi S T R f g step s t h = for-related R lo hi f g h (λ i s t from upto is. step i s t is)
 
 pub falling-uniform : (n : ℕ) → Uniform (sinking n)
-falling-uniform n S T R f g step s t h = falling-related R n f g s t h (λ i s t below is. step i s t is)
+falling-uniform n S T R f g step s t h = falling-related (λ (i : ℕ). R) n f g s t h (λ i s t below is. step i s t is)
 
 pub loop-keeps : {A : Type 0} (loop : Loop) → Uniform loop → (f : ℕ → List A → List A) (l : List A) → Keeps f → length (loop (List A) f l) ≡ length l
 loop-keeps {A} loop uniform f l k = uniform (List A) (List A) (λ s t. length s ≡ length l) f f (λ i s t e. k i s ∙ e) l l refl

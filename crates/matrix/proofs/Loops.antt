@@ -64,6 +64,17 @@ for-at lo hi j f s from upto = sym (for-join lo (j + 1) hi f s (omega arith) (om
 pub for-first : {S : Type 0} (lo hi : ℕ) (f : ℕ → S → S) (s : S) → lo < hi → for lo hi f s ≡ for (lo + 1) hi f (f lo s)
 for-first {S} lo hi f s some = for-at lo hi lo f s (omega arith) some ∙ ap (λ (x : S). for (lo + 1) hi f (f lo x)) (for-none lo f s)
 
+-- counted from m on
+pub for-shift : {S : Type 0} (m lo hi : ℕ) (f : ℕ → S → S) (s : S) → for lo hi (λ (i : ℕ). f (m + i)) s ≡ for (m + lo) (m + hi) f s
+unfolding for turns
+for-shift {S} m lo hi f s =
+    let count : hi - lo ≡ (m + hi) - (m + lo) = omega arith in
+    go (hi - lo) ∙ ap (turns (m + lo) f s) count
+  where
+    go : (c : ℕ) → turns lo (λ (i : ℕ). f (m + i)) s c ≡ turns (m + lo) f s c
+    go zero = refl
+    go (suc c) = let place : m + (lo + c) ≡ m + lo + c = omega arith in ap (f (m + (lo + c))) (go c) ∙ ap (λ (k : ℕ). f k (turns (m + lo) f s c)) place
+
 -- ---- what holds through a loop
 
 -- two loops that stay related, turn by turn
@@ -133,13 +144,25 @@ ran-on {lo = lo} {f = f} {s₀ = s₀} {i = i} c r below e =
 
 -- ---- loops that fall
 
--- two loops that stay related, turn by turn
-pub falling-related : {S X : Type 0} (R : S → X → Type 0) (n : ℕ) (f : ℕ → S → S) (g : ℕ → X → X) (s : S) (x : X)
-    → R s x → ((i : ℕ) (t : S) (y : X) → i < n → R t y → R (f i t) (g i y)) → R (falling n f s) (falling n g x)
+-- two loops that stay related, turn by turn, by how many turns are left
+pub falling-related : {S X : Type 0} (R : ℕ → S → X → Type 0) (n : ℕ) (f : ℕ → S → S) (g : ℕ → X → X) (s : S) (x : X)
+    → R n s x → ((i : ℕ) (t : S) (y : X) → i < n → R (suc i) t y → R i (f i t) (g i y)) → R 0 (falling n f s) (falling n g x)
 unfolding falling
 falling-related R zero f g s x start each = start
 falling-related R (suc i) f g s x start each =
     falling-related R i f g (f i s) (g i x) (each i s x (omega arith) start) (λ j t y below is. each j t y (omega arith) is)
+
+-- what each turn keeps
+pub falling-keeps : {S : Type 0} (P : ℕ → S → Type 0) (n : ℕ) (f : ℕ → S → S) (s : S) → P n s → ((i : ℕ) (x : S) → i < n → P (suc i) x → P i (f i x)) → P 0 (falling n f s)
+falling-keeps {S} P n f s start each = falling-related {X = S} (λ i x y. P i x) n f f s s start (λ i x y below is. each i x below is)
+
+-- the first turns, and the rest
+pub falling-join : {S : Type 0} (m w : ℕ) (f : ℕ → S → S) (s : S) → falling m f (falling w (λ (i : ℕ). f (m + i)) s) ≡ falling (m + w) f s
+unfolding falling
+falling-join m zero f s = let none : m ≡ m + 0 = omega arith in ap (λ (k : ℕ). falling k f s) none
+falling-join m (suc w) f s =
+    let next : suc (m + w) ≡ m + suc w = omega arith in
+    falling-join m w f (f (m + w) s) ∙ ap (λ (k : ℕ). falling k f s) next
 
 pub record Fell {S : Type 0} (n : ℕ) (f : ℕ → S → S) (s₀ : S) (i : ℕ) (s : S) : Type 0 where
   pub upto : i ≤ n

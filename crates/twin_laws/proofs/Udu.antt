@@ -8,7 +8,7 @@ use borrow.Author.Tests.{ne-eqb, le-leb, eqb-true}
 use lib.Ieee.{Float, eq}
 use Rattle.matrix.specs.Matrix.{Matrix}
 use Rattle.matrix.specs.Rounded.{_⊕_, _⊗_, plusZero}
-use Rattle.matrix.proofs.Loops.{for-same, falling-related}
+use Rattle.matrix.proofs.Loops.{for-same, falling-keeps}
 use Rattle.udu.specs.Columns.{Factors, nothing, plusCross, crossSum, uduDiagonal, lastEntry, furtherEntry, uduEntry, withDiagonal, withColumn, UduRun, accepted, refused, columnBy, uduColumn, uduColumns}
 use Rattle.udu.specs.Promise.{factorsOf}
 
@@ -49,5 +49,5 @@ module _ (P : Matrix) (n p q : ℕ) (apart : p < q) (twins : (c : ℕ) → q < c
   pub udu-twins : Same (factorsOf (uduColumns n P))
   unfolding uduColumns nothing
   udu-twins =
-      falling-related {X = UduRun} (λ R S. Same (factorsOf R)) n (uduColumn n P) (uduColumn n P) (accepted nothing) (accepted nothing)
-      (λ c after. refl) (λ j R S within same. same-column R same j within)
+      falling-keeps (λ i R. Same (factorsOf R)) n (uduColumn n P) (accepted nothing)
+      (λ c after. refl) (λ j R within same. same-column R same j within)

@@ -23,11 +23,13 @@ use Rattle.matrix.specs.Loop.{for, falling}
 use Rattle.matrix.specs.Grid.{load}
 use Rattle.matrix.specs.Layouts.{upper, square}
 use Rattle.matrix.specs.Rounded.{_⊕_, _⊖_, _⊗_, _⊘_, plusZero, one}
-use Rattle.matrix.proofs.Loops.{for-one, falling-related, Fell, fell-none, fell-more}
+use Rattle.matrix.proofs.Loops.{for-one, Fell, fell-none, fell-more}
 use Rattle.matrix.proofs.Places.{square-at}
 use Rattle.udu.specs.Columns.{Factors, nothing, plusSquare, squareSum, uduDiagonal, lastEntry, uduEntry, withDiagonal, withColumn, UduRun, accepted, refused, columnBy, uduColumn, uduColumns}
 use Rattle.udu.specs.Promise.{UduSized, uduOf, uduAnswer, factorsOf, Holding, UduFactored}
+use Rattle.udu.specs.Tail.{Past, done, before}
 use Rattle.udu.proofs.Holding.{cell}
+use Rattle.udu.proofs.Past.{not-from, past-more}
 use Rattle.udu.proofs.Reached.{refused-stays}
 use Rattle.udu.proofs.Sizes.{columned}
 use Rattle.twins.specs.Twins.{Twins}
@@ -49,11 +51,6 @@ unfoldable pub rest : Float → Float
 unfolding side
 rest x = x ⊖ (plusZero ⊕ x ⊗ (side x ⊗ side x))
 
--- the call goes past column j: done, or refused at a column before it
-pub data Past (j : ℕ) : Answer → Type 0 where
-  done : Past j Done
-  before : {k : ℕ} → k < j → Past j (ZeroDiagonal k)
-
 -- by x alone: refused at the second twin, at the first, or at neither
 pub record Decided (n : ℕ) (x : Float) (r : Answer) : Type 0 where
   pub second : eq x plusZero ≡ true → r ≡ ZeroDiagonal (n - 1)
@@ -67,27 +64,6 @@ pub record LeftAtFirst (n : ℕ) (p : List Float) (x : Float) (u d : List Float)
   pub before : (k : ℕ) → k < n - 2 → getD d k nan ≡ plusZero
   pub column : (i : ℕ) → i < n → load (square n) u i (n - 1) ≡ (one ⊘ x) ⊗ load (upper n) p i (n - 1)
   pub clear : (i k : ℕ) → i < n → k < n - 1 → load (square n) u i k ≡ plusZero
-
--- ---- past a column
-
--- refused neither at j nor at a column behind it
-pub not-from : {j k : ℕ} {r : Answer} → Past j r → j ≤ k → r ≡ ZeroDiagonal k → ⊥
-not-from done from e = let z : _≡_ {A = ℕ} 0 1 = cc in omega arith
-not-from {j} {k} (before {k = i} less) from e = let same : i ≡ k = cc in omega arith
-
-past-column : (n : ℕ) (P : Matrix) (R : UduRun) (i j : ℕ) → i < j → Past j (uduAnswer R) → Past j (uduAnswer (uduColumn n P i R))
-unfolding uduColumn
-past-column n P (accepted F) i j left past = by (uduDiagonal n P F i) (eq (uduDiagonal n P F i) plusZero)
-  where
-    by : (y : Float) (b : Bool) → Past j (uduAnswer (columnBy n P F i y b))
-    by y true = before left
-    by y false = done
-past-column n P (refused k F) i j left past = past
-
--- past column j, and so it is after the columns before it
-past-more : (n : ℕ) (P : Matrix) (R : UduRun) (j : ℕ) → Past j (uduAnswer R) → Past j (uduAnswer (falling j (uduColumn n P) R))
-past-more n P R j past =
-    falling-related {X = UduRun} (λ S T. Past j (uduAnswer S)) j (uduColumn n P) (uduColumn n P) R R past (λ i S T left is. past-column n P S i j left is)
 
 -- ---- the columns of a matrix with such rows
 
@@ -172,7 +148,7 @@ module _ (n : ℕ) (p : List Float) (x : Float) (twins : LastTwins n p x) where
   unfolding uduOf uduColumns
   past-both e f =
       subst (λ (R : UduRun). Past (n - 2) (uduAnswer R)) (two-done .left)
-      (past-more n P lastTwo (n - 2) (subst (λ (R : UduRun). Past (n - 2) (uduAnswer R)) (sym (by-both false e f)) done))
+      (past-more n P (n - 2) lastTwo (subst (λ (R : UduRun). Past (n - 2) (uduAnswer R)) (sym (by-both false e f)) done))
 
   left-by : {u d : List Float} → Holding n (withDiagonal lastFound (n - 2) (rest x)) u d → LeftAtFirst n p x u d
   unfolding lastFound withDiagonal withColumn nothing uduEntry lastEntry

@@ -1,3 +1,4 @@
 pub mod Columns
 pub mod Promise
+pub mod Tail
 pub mod inner

@@ -13,7 +13,7 @@ use Rattle.matrix.specs.Matrix.{Matrix}
 use Rattle.matrix.specs.Grid.{load}
 use Rattle.matrix.specs.Layouts.{upper}
 use Rattle.matrix.specs.Rounded.{plusZero}
-use Rattle.matrix.proofs.Loops.{falling-related}
+use Rattle.matrix.proofs.Loops.{falling-keeps}
 use Rattle.udu.specs.Columns.{Factors, UduRun, accepted, refused, nothing, uduDiagonal, columnBy, uduColumn, uduColumns}
 use Rattle.udu.specs.Promise.{uduTests, uduOf, uduAnswer, UduFactored}
 
@@ -32,8 +32,8 @@ column-within n P j (refused k F) low h = h
 columns-within : (n : ℕ) (P : Matrix) → Within n (uduAnswer (uduColumns n P))
 unfolding uduColumns
 columns-within n P =
-    falling-related {X = UduRun} (λ R S. Within n (uduAnswer R)) n (uduColumn n P) (uduColumn n P) (accepted nothing) (accepted nothing)
-    (omega arith) (λ j R S low h. column-within n P j R low h)
+    falling-keeps (λ i R. Within n (uduAnswer R)) n (uduColumn n P) (accepted nothing)
+    (omega arith) (λ j R low h. column-within n P j R low h)
 
 pub factored-within : {p u₀ d₀ u d : List Float} {n : ℕ} {r : Answer} → UduFactored p u₀ d₀ n r u d → Within 1024 r
 unfolding uduOf
