@@ -50,6 +50,9 @@ eight = 0x4020_0000_0000_0000
 abbrev pub eleven : ℕ
 eleven = 0x4026_0000_0000_0000
 
+abbrev pub twelve : ℕ
+twelve = 0x4028_0000_0000_0000
+
 abbrev pub fortyNine : ℕ
 fortyNine = 0x4048_8000_0000_0000
 

@@ -1,4 +1,4 @@
--- Document 01's starred cases, those of Cholesky's solve, of the codes of a diagonal, of the row that a mark names and of the run number, and one of a mark after an interchange.
+-- Document 01's starred cases, those of Cholesky's solve, of the codes of a diagonal, of the row that a mark names, of the run number and of UDU's tail, and one of a mark after an interchange.
 use mathlib.Core.List.{List, [], _∷_}
 use Prim.Native.Nat.{ℕ}
 use Rattle.cases.specs.Bits as bits
@@ -81,6 +81,24 @@ table =
     ∷ (uduFactor 1 (bits.fortyNine ∷ []) ⇒ done ∷ (bits.belowOne ∷ []) ∷ (bits.fortyNine ∷ []) ∷ [])
     -- UDU [0]: code 8 at 0
     ∷ (uduFactor 1 (bits.zero ∷ []) ⇒ refused 8 0 ∷ (bits.zero ∷ []) ∷ (bits.zero ∷ []) ∷ [])
+    -- UDU keeps its tail: [12 / 7 5 / 4 2 2], and the block of rows 1 and 2, [5 / 2 2]
+    ∷ (uduFactor 3 (bits.twelve ∷ stray ∷ stray ∷ bits.seven ∷ bits.five ∷ stray ∷ bits.four ∷ bits.two ∷ bits.two ∷ [])
+    ⇒ done ∷ (bits.one ∷ bits.zero ∷ bits.zero ∷ bits.one ∷ bits.one ∷ bits.zero ∷ bits.two ∷ bits.one ∷ bits.one ∷ []) ∷ (bits.one ∷ bits.three ∷ bits.two ∷ []) ∷ [])
+    ∷ (uduFactor 2 (bits.five ∷ stray ∷ bits.two ∷ bits.two ∷ [])
+    ⇒ done ∷ (bits.one ∷ bits.zero ∷ bits.one ∷ bits.one ∷ []) ∷ (bits.three ∷ bits.two ∷ []) ∷ [])
+    -- with 11 at (0,0): code 8 at 0, before the block, which is the same
+    ∷ (uduFactor 3 (bits.eleven ∷ stray ∷ stray ∷ bits.seven ∷ bits.five ∷ stray ∷ bits.four ∷ bits.two ∷ bits.two ∷ [])
+    ⇒ refused 8 0 ∷ (bits.zero ∷ bits.zero ∷ bits.zero ∷ bits.one ∷ bits.one ∷ bits.zero ∷ bits.two ∷ bits.one ∷ bits.one ∷ []) ∷ (bits.zero ∷ bits.three ∷ bits.two ∷ []) ∷ [])
+    -- with 2 at (1,1): code 8 at 1, and at 0 of the block
+    ∷ (uduFactor 3 (bits.twelve ∷ stray ∷ stray ∷ bits.seven ∷ bits.two ∷ stray ∷ bits.four ∷ bits.two ∷ bits.two ∷ [])
+    ⇒ refused 8 1 ∷ (bits.zero ∷ bits.zero ∷ bits.zero ∷ bits.zero ∷ bits.zero ∷ bits.zero ∷ bits.two ∷ bits.one ∷ bits.one ∷ []) ∷ (bits.zero ∷ bits.zero ∷ bits.two ∷ []) ∷ [])
+    ∷ (uduFactor 2 (bits.two ∷ stray ∷ bits.two ∷ bits.two ∷ [])
+    ⇒ refused 8 0 ∷ (bits.zero ∷ bits.zero ∷ bits.one ∷ bits.one ∷ []) ∷ (bits.zero ∷ bits.two ∷ []) ∷ [])
+    -- with −0 at (2,2): code 8 at the last column of both; all of u is +0
+    ∷ (uduFactor 3 (bits.twelve ∷ stray ∷ stray ∷ bits.seven ∷ bits.five ∷ stray ∷ bits.four ∷ bits.two ∷ bits.minusZero ∷ [])
+    ⇒ refused 8 2 ∷ (bits.zero ∷ bits.zero ∷ bits.zero ∷ bits.zero ∷ bits.zero ∷ bits.zero ∷ bits.zero ∷ bits.zero ∷ bits.zero ∷ []) ∷ (bits.zero ∷ bits.zero ∷ bits.minusZero ∷ []) ∷ [])
+    ∷ (uduFactor 2 (bits.five ∷ stray ∷ bits.two ∷ bits.minusZero ∷ [])
+    ⇒ refused 8 1 ∷ (bits.zero ∷ bits.zero ∷ bits.zero ∷ bits.zero ∷ []) ∷ (bits.zero ∷ bits.minusZero ∷ []) ∷ [])
     -- root of 2, and of 2^−1074
     ∷ (root bits.two ⇒ (0x3ff6_a09e_667f_3bcd ∷ []) ∷ [])
     ∷ (root bits.smallest ⇒ (0x1e60_0000_0000_0000 ∷ []) ∷ [])
