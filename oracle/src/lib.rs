@@ -48,6 +48,7 @@ pub mod cases;
 pub mod line;
 pub mod list;
 pub mod paper;
+pub mod tail;
 pub mod text;
 
 /// The text.

@@ -1,12 +1,13 @@
-//! Document 01's cases and document 02's codes of a diagonal, rows of a mark and run numbers, answered by the text and by the steps; Cholesky's solve
-//! and rows that came twice, by the steps.
+//! Document 01's cases and document 02's codes of a diagonal, rows of a mark, run numbers and tails of UDU, answered by the text and by the steps;
+//! Cholesky's solve and rows that came twice, by the steps.
 
 use std::hint::black_box;
 
 use oracle::RealField;
-use oracle::call::{Calls, word, words};
-use oracle::cases::fill;
+use oracle::call::{Call, Calls, Case, word, words};
+use oracle::cases::{fill, filled};
 use oracle::paper::Paper;
+use oracle::tail::{block, tail};
 use oracle::text::Text;
 
 const BOTH: [&dyn Calls; 2] = [&Text, &Paper];
@@ -232,6 +233,35 @@ fn udu() {
         assert_eq!(calls.udu_factor(&[0.0], &mut u, &mut d, 1), 8 * 4096);
         assert_eq!((u, d), ([0.0], [0.0]));
         assert_eq!(calls.udu_factor(&[], &mut [], &mut [], 0), 4096);
+    }
+}
+
+/// [12 / 7 5 / 4 2 2], and with one entry changed, so that it is refused at each column: the answers to it and to rows 1 and 2 alone, u, d.
+#[test]
+fn udu_tails() {
+    const AT: u64 = 8 * 4096;
+    let cases = [
+        ([12.0, 7.0, 5.0, 4.0, 2.0, 2.0], [0, 0], [1.0, 0.0, 0.0, 1.0, 1.0, 0.0, 2.0, 1.0, 1.0], [1.0, 3.0, 2.0]),
+        ([11.0, 7.0, 5.0, 4.0, 2.0, 2.0], [AT, 0], [0.0, 0.0, 0.0, 1.0, 1.0, 0.0, 2.0, 1.0, 1.0], [0.0, 3.0, 2.0]),
+        ([12.0, 7.0, 2.0, 4.0, 2.0, 2.0], [AT + 1, AT], [0.0, 0.0, 0.0, 0.0, 0.0, 0.0, 2.0, 1.0, 1.0], [0.0, 0.0, 2.0]),
+        ([12.0, 7.0, 5.0, 4.0, 2.0, -0.0], [AT + 2, AT + 1], [0.0; 9], [0.0, 0.0, -0.0]),
+    ];
+    for (rows, [answer, from_one], u, d) in cases {
+        let mut p = filled(9);
+        for (at, x) in [0, 3, 4, 6, 7, 8].into_iter().zip(rows) {
+            p[at] = x;
+        }
+        let whole = Case { b: filled(9), c: filled(3), ..Case::new(Call::UduFactor, 3, p) };
+        for calls in BOTH {
+            let left = whole.outcome(calls);
+            assert_eq!((left.answer, &left.b, &left.c), (answer, &words(&u), &words(&d)));
+            let found = block(&whole, 1).outcome(calls);
+            assert_eq!((found.answer, found.b, found.c), (from_one, words(&[u[4], u[5], u[7], u[8]]), words(&d[1..])));
+            for m in 0..3 {
+                let block = block(&whole, m);
+                assert_eq!(block.outcome(calls), tail(&block, m, &left));
+            }
+        }
     }
 }
 

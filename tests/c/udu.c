@@ -22,6 +22,51 @@ static void refused(const char *about, size_t n, numbers p, numbers u, numbers d
     factor(about, n, p, u, d, answer, u, d);
 }
 
+#define BLOCK_ORDER 20
+
+/* The calls on the blocks of rows and columns m to n - 1, for every m, by what the call on the whole answers and leaves. */
+static void blocks(const char *about, size_t n, numbers p, uint64_t answer, numbers u_left, numbers d_left)
+{
+    static double block[BLOCK_ORDER * BLOCK_ORDER], tail[BLOCK_ORDER * BLOCK_ORDER], lent_upper[BLOCK_ORDER * BLOCK_ORDER];
+    for (size_t m = 0; m < n; m++) {
+        size_t order = n - m, place = answer % 4096;
+        for (size_t j = 0; j < order; j++)
+            for (size_t i = 0; i < order; i++) {
+                block[i + j * order] = i <= j ? p.at[m + i + (m + j) * n] : KEPT;
+                tail[i + j * order] = u_left.at[m + i + (m + j) * n];
+                lent_upper[i + j * order] = KEPT;
+            }
+        numbers u = {lent_upper, order * order}, d = {lent_upper, order};
+        numbers u_tail = {tail, order * order}, d_tail = {d_left.at + m, order};
+        factor(about, order, (numbers){block, order * order}, u, d, answer != 0 && place >= m ? ANSWER(8, place - m) : 0,
+               u_tail, d_tail);
+    }
+}
+
+static void factor_and_blocks(const char *about, size_t n, numbers p, numbers u, numbers d, uint64_t answer, numbers u_left,
+                              numbers d_left)
+{
+    factor(about, n, p, u, d, answer, u_left, d_left);
+    blocks(about, n, p, answer, u_left, d_left);
+}
+
+/* Matrices by chance, and others of whole numbers from -2 to 2, of which some are refused. */
+static void blocks_by_chance(void)
+{
+    static double p[BLOCK_ORDER * BLOCK_ORDER], u[BLOCK_ORDER * BLOCK_ORDER], d[BLOCK_ORDER];
+    uint32_t state = 11;
+    for (size_t n = 1; n <= BLOCK_ORDER; n++)
+        for (int whole = 0; whole < 2; whole++) {
+            for (size_t at = 0; at < n * n; at++) {
+                double x = by_chance(&state);
+                p[at] = whole ? (double)(int)(6 * x) : x;
+            }
+            uint64_t answer = urgyelpat_udu_factor(p, n * n, u, n * n, d, n, n);
+            blocks(whole ? "a block of whole numbers" : "a block", n, (numbers){p, n * n}, answer, (numbers){u, n * n},
+                   (numbers){d, n});
+        }
+}
+
 static double zeros[1024 * 1024], ones[1024 * 1024];
 
 void udu_cases(void)
@@ -35,21 +80,24 @@ void udu_cases(void)
     factor("minus zero", 1, NUMBERS(-0.0), u1, d1, ANSWER(8, 0), NUMBERS(0), NUMBERS(-0.0));
 
     numbers u2 = NUMBERS(KEPT, 1, 2, 3), d2 = NUMBERS(KEPT, 7);
-    factor("order 2", 2, NUMBERS(5, KEPT, 2, 1), u2, d2, 0, NUMBERS(1, 0, 2, 1), NUMBERS(1, 1));
-    factor("order 2, zero at column 0", 2, NUMBERS(4, KEPT, 2, 1), u2, d2, ANSWER(8, 0), NUMBERS(0, 0, 2, 1),
-           NUMBERS(0, 1));
-    factor("order 2, zero at column 1", 2, NUMBERS(4, KEPT, 2, 0), u2, d2, ANSWER(8, 1), NUMBERS(0, 0, 0, 0),
-           NUMBERS(0, 0));
+    factor_and_blocks("order 2", 2, NUMBERS(5, KEPT, 2, 1), u2, d2, 0, NUMBERS(1, 0, 2, 1), NUMBERS(1, 1));
+    factor_and_blocks("order 2, zero at column 0", 2, NUMBERS(4, KEPT, 2, 1), u2, d2, ANSWER(8, 0), NUMBERS(0, 0, 2, 1),
+                      NUMBERS(0, 1));
+    factor_and_blocks("order 2, zero at column 1", 2, NUMBERS(4, KEPT, 2, 0), u2, d2, ANSWER(8, 1), NUMBERS(0, 0, 0, 0),
+                      NUMBERS(0, 0));
 
     numbers u3 = NUMBERS(KEPT, 1, 2, 3, 4, 5, 6, 7, 8), d3 = NUMBERS(KEPT, 7, 7);
-    factor("order 3", 3, NUMBERS(20, KEPT, KEPT, 10, 6, KEPT, 4, 2, 2), u3, d3, 0, NUMBERS(1, 0, 0, 1.5, 1, 0, 2, 1, 1),
-           NUMBERS(3, 4, 2));
-    factor("order 3, zero at column 0", 3, NUMBERS(17, KEPT, KEPT, 10, 6, KEPT, 4, 2, 2), u3, d3, ANSWER(8, 0),
-           NUMBERS(0, 0, 0, 1.5, 1, 0, 2, 1, 1), NUMBERS(0, 4, 2));
-    factor("order 3, zero at column 1", 3, NUMBERS(17, KEPT, KEPT, 10, 2, KEPT, 4, 2, 2), u3, d3, ANSWER(8, 1),
-           NUMBERS(0, 0, 0, 0, 0, 0, 2, 1, 1), NUMBERS(0, 0, 2));
-    factor("order 3, zero at column 2", 3, NUMBERS(17, KEPT, KEPT, 10, 2, KEPT, 4, 2, 0), u3, d3, ANSWER(8, 2),
-           NUMBERS(0, 0, 0, 0, 0, 0, 0, 0, 0), NUMBERS(0, 0, 0));
+    factor_and_blocks("order 3", 3, NUMBERS(20, KEPT, KEPT, 10, 6, KEPT, 4, 2, 2), u3, d3, 0,
+                      NUMBERS(1, 0, 0, 1.5, 1, 0, 2, 1, 1), NUMBERS(3, 4, 2));
+    factor_and_blocks("order 3, zero at column 0", 3, NUMBERS(17, KEPT, KEPT, 10, 6, KEPT, 4, 2, 2), u3, d3, ANSWER(8, 0),
+                      NUMBERS(0, 0, 0, 1.5, 1, 0, 2, 1, 1), NUMBERS(0, 4, 2));
+    factor_and_blocks("order 3, zero at column 1", 3, NUMBERS(17, KEPT, KEPT, 10, 2, KEPT, 4, 2, 2), u3, d3, ANSWER(8, 1),
+                      NUMBERS(0, 0, 0, 0, 0, 0, 2, 1, 1), NUMBERS(0, 0, 2));
+    factor_and_blocks("order 3, zero at column 2", 3, NUMBERS(17, KEPT, KEPT, 10, 2, KEPT, 4, 2, 0), u3, d3, ANSWER(8, 2),
+                      NUMBERS(0, 0, 0, 0, 0, 0, 0, 0, 0), NUMBERS(0, 0, 0));
+    factor_and_blocks("order 3, minus zero at column 2", 3, NUMBERS(17, KEPT, KEPT, 10, 2, KEPT, 4, 2, -0.0), u3, d3,
+                      ANSWER(8, 2), NUMBERS(0, 0, 0, 0, 0, 0, 0, 0, 0), NUMBERS(0, 0, -0.0));
+    blocks_by_chance();
 
     numbers p2 = NUMBERS(5, KEPT, 2, 1);
     refused("order 0", 0, NO_NUMBERS, NO_NUMBERS, NO_NUMBERS, ANSWER(1, 0));

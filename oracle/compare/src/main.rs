@@ -1,6 +1,7 @@
 //! compare paper|port FIRST SEEDS: the text against document 01's steps, or against the port, on the cases that need no chance and on the
 //! families, solves by Cholesky's factor and twin rows of the seeds FIRST, FIRST + 1, .. Every word of every slice is compared, all NaNs being
-//! one. The calls that the steps alone answer are compared with the port.
+//! one. The calls that the steps alone answer are compared with the port. UDU of every block of rows and columns m to n − 1 is held against those
+//! rows and columns of UDU of the whole.
 
 use std::collections::BTreeMap;
 use std::process::ExitCode;
@@ -9,6 +10,7 @@ use oracle::call::{Call, Calls, Case, Outcome, mark, pairs, word};
 use oracle::cases::{self, Chain};
 use oracle::line::{case_line, outcome_line};
 use oracle::paper::Paper;
+use oracle::tail;
 use oracle::text::Text;
 
 fn main() -> ExitCode {
@@ -68,8 +70,17 @@ struct Tally<'a> {
     marks: u64,
     pairs: u64,
     chains: u64,
+    tails: Tails,
     differences: u64,
     smallest: Option<(usize, String)>,
+}
+
+/// Blocks of matrices that UDU accepts, refuses before the block, and refuses in it.
+#[derive(Default)]
+struct Tails {
+    accepted: u64,
+    before: u64,
+    within: u64,
 }
 
 impl<'a> Tally<'a> {
@@ -83,6 +94,7 @@ impl<'a> Tally<'a> {
             marks: 0,
             pairs: 0,
             chains: 0,
+            tails: Tails::default(),
             differences: 0,
             smallest: None,
         }
@@ -110,6 +122,38 @@ impl<'a> Tally<'a> {
         if text != other {
             let said = format!("{}\ntext  {}\nother {}", case_line(case), outcome_line(case, &text), outcome_line(case, &other));
             self.differ(case.size(), said);
+        }
+        if case.call == Call::UduFactor && matches!(text.answer / 4096, 0 | 8) {
+            self.hold_tails(case, &text, &other);
+        }
+    }
+
+    /// The blocks of every m, by the text and by the other implementation, each against its own whole. Above order 130 some blocks alone.
+    fn hold_tails(&mut self, whole: &Case, text: &Outcome, other: &Outcome) {
+        let n = whole.n;
+        let some = [0, 1, 15, 16, n / 2, n.saturating_sub(17), n.saturating_sub(2), n - 1];
+        for m in (0..n).filter(|m| n <= 130 || some.contains(m)) {
+            match (text.answer / 4096, text.answer % 4096) {
+                (0, _) => self.tails.accepted += 1,
+                (_, j) if j < m as u64 => self.tails.before += 1,
+                _ => self.tails.within += 1,
+            }
+            let block = tail::block(whole, m);
+            for (calls, outcome, name) in [(&Text as &dyn Calls, text, "text"), (self.other, other, "other")] {
+                let (wanted, found) = (tail::tail(&block, m, outcome), block.outcome(calls));
+                if wanted != found {
+                    let lines = [outcome_line(&block, &wanted), outcome_line(&block, &found)];
+                    self.differ(
+                        whole.size(),
+                        format!(
+                            "{}\nrows and columns from {m} on, by the {name}\nkept  {}\nblock {}",
+                            case_line(whole),
+                            lines[0],
+                            lines[1]
+                        ),
+                    );
+                }
+            }
         }
     }
 
@@ -159,7 +203,17 @@ impl<'a> Tally<'a> {
             "  blocks of size 2 in factors: {}; factors with a mark: {}; chains of batches: {}; pairs of twin rows: {}",
             self.size_two, self.marks, self.chains, self.pairs
         );
-        println!("text against {against}: {} calls, {} chains, {} differ", self.calls(), self.chains, self.differences);
+        println!(
+            "  blocks of UDU from a row on: {} of accepted matrices, {} of matrices refused before them, {} of matrices refused in them",
+            self.tails.accepted, self.tails.before, self.tails.within
+        );
+        println!(
+            "text against {against}: {} calls, {} chains, {} blocks, {} differ",
+            self.calls(),
+            self.chains,
+            self.tails.accepted + self.tails.before + self.tails.within,
+            self.differences
+        );
         if let Some((_, said)) = &self.smallest {
             println!("the smallest that differs:\n{said}");
         }
