@@ -1,15 +1,21 @@
 -- By the two ways of a test. Assumes nothing.
-use mathlib.Core.Path.{_≡_, refl}
+use mathlib.Core.Path.{_≡_, refl, sym}
 use mathlib.Core.Bool.{Bool, true, false, cond}
 use mathlib.Core.Logic.{_⊎_, inl, inr}
-use Prim.Native.Nat.{ℕ, _≤_, _<_}
-use lib.Dec.{eqb, ltb}
-use borrow.Author.Tests.{eqb-true, eqb-false, ltb-true, ltb-false}
+use Prim.Native.Nat.{ℕ, _+_, _≤_, _<_}
+use native.Mathlib.Omega.{arith}
+use lib.Dec.{eqb, leb, ltb}
+use borrow.Author.Tests.{eqb-true, eqb-false, leb-true, leb-false, ltb-true, ltb-false, eq-eqb, ne-eqb, le-leb, lt-leb}
 
 -- what is chosen by it
 pub either : {A : Type 0} (P : A → Type 0) (b : Bool) {x y : A} → (b ≡ true → P x) → (b ≡ false → P y) → P (cond b x y)
 either P true f g = f refl
 either P false f g = g refl
+
+-- x and y need to agree only where the test holds
+pub where-tested : {A : Type 0} (b : Bool) {x y : A} (z : A) → (b ≡ true → x ≡ y) → cond b x z ≡ cond b y z
+where-tested true z same = same refl
+where-tested false z same = refl
 
 pub eq-or-ne : (a b : ℕ) → (a ≡ b) ⊎ (a ≡ b → ⊥)
 eq-or-ne a b = go (eqb a b) refl
@@ -24,3 +30,18 @@ lt-or-ge a b = go (ltb a b) refl
     go : (t : Bool) → ltb a b ≡ t → (a < b) ⊎ (b ≤ a)
     go true e = inl (ltb-true a b e)
     go false e = inr (ltb-false a b e)
+
+-- both numbers counted from m on
+pub eqb-shift : (m a b : ℕ) → eqb a b ≡ eqb (m + a) (m + b)
+eqb-shift m a b = at (eqb a b) refl
+  where
+    at : (t : Bool) → eqb a b ≡ t → t ≡ eqb (m + a) (m + b)
+    at true e = sym (eq-eqb (m + a) (m + b) (let same : a ≡ b = eqb-true a b e in omega arith))
+    at false e = sym (ne-eqb (m + a) (m + b) (λ same. eqb-false a b e (omega arith)))
+
+pub leb-shift : (m a b : ℕ) → leb a b ≡ leb (m + a) (m + b)
+leb-shift m a b = at (leb a b) refl
+  where
+    at : (t : Bool) → leb a b ≡ t → t ≡ leb (m + a) (m + b)
+    at true e = sym (le-leb (m + a) (m + b) (let within : a ≤ b = leb-true a b e in omega arith))
+    at false e = sym (lt-leb (m + a) (m + b) (let beyond : b < a = leb-false a b e in omega arith))

@@ -1,10 +1,11 @@
 -- Two records with the same pairs are gone through alike from the first row on, whatever stands after the pairs.
-use mathlib.Core.Bool.{Bool, true, false, cond}
+use mathlib.Core.Bool.{cond}
 use mathlib.Core.List.{List}
 use mathlib.Core.Path.{_≡_, refl, ap, _∙_}
 use Prim.Native.Nat.{ℕ, zero, suc, _+_, _<_}
 use lib.Dec.{eqb, ltb}
 use borrow.Author.Tests.{ltb-true}
+use Rattle.answer.proofs.Tests.{where-tested}
 use Rattle.pivots.specs.Words.{indexAt, sizeAt}
 use Rattle.pivots.specs.Blocks.{bySize, rowsOf, blocksFrom, forwards}
 
@@ -12,10 +13,6 @@ use Rattle.pivots.specs.Blocks.{bySize, rowsOf, blocksFrom, forwards}
 pub record SamePairs (n : ℕ) (words words' : List ℕ) : Type 0 where
   pub index : (row : ℕ) → row < n → indexAt words row ≡ indexAt words' row
   pub size : (row : ℕ) → row < n → sizeAt words row ≡ sizeAt words' row
-
-where-tested : {S : Type 0} (b : Bool) {x y : S} (s : S) → (b ≡ true → x ≡ y) → cond b x s ≡ cond b y s
-where-tested true s h = h refl
-where-tested false s h = refl
 
 module _ {n : ℕ} {words words' : List ℕ} (same : SamePairs n words words') where
   pub size-alike : {S : Type 0} (row : ℕ) → row < n → (one two : S) → bySize words row one two ≡ bySize words' row one two

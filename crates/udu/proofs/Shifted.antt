@@ -4,10 +4,12 @@ use mathlib.Core.Bool.{Bool, true, false, cond, _&&_}
 use mathlib.Core.Path.{_≡_, refl, sym, _∙_, ap, ap₂, subst, fun-ext}
 use Prim.Native.Nat.{ℕ, _+_, _-_, _≤_, _<_}
 use native.Mathlib.Omega.{arith}
-use borrow.Author.Tests.{eq-eqb, ne-eqb, eqb-true, eqb-false, le-leb, lt-leb, leb-true, leb-false}
-use lib.Dec.{leb, eqb}
+use borrow.Author.Tests.{ne-eqb}
+use lib.Dec.{T, leb, leb→le, eqb}
 use lib.Ieee.{Float, eq}
+use lib.Ieee.Fits.{and-r}
 use Rattle.answer.specs.declared.Answer.the-variants.{ZeroDiagonal}
+use Rattle.answer.proofs.Tests.{where-tested, eqb-shift, leb-shift}
 use Rattle.matrix.specs.Matrix.{Matrix}
 use Rattle.matrix.specs.Loop.{for, falling}
 use Rattle.matrix.specs.Rounded.{_⊖_, _⊘_, plusZero, one}
@@ -17,22 +19,6 @@ use Rattle.udu.specs.Promise.{uduAnswer, factorsOf}
 use Rattle.udu.specs.Tail.{done, Beside, blockDone, blockRefused}
 use Rattle.udu.proofs.Reached.{refused-stays}
 use Rattle.udu.proofs.Past.{past-more}
-
--- ---- tests on numbers counted from m on
-
-eqb-shift : (m a b : ℕ) → eqb a b ≡ eqb (m + a) (m + b)
-eqb-shift m a b = at (eqb a b) refl
-  where
-    at : (t : Bool) → eqb a b ≡ t → t ≡ eqb (m + a) (m + b)
-    at true e = sym (eq-eqb (m + a) (m + b) (let same : a ≡ b = eqb-true a b e in omega arith))
-    at false e = sym (ne-eqb (m + a) (m + b) (λ same. eqb-false a b e (omega arith)))
-
-leb-shift : (m a b : ℕ) → leb a b ≡ leb (m + a) (m + b)
-leb-shift m a b = at (leb a b) refl
-  where
-    at : (t : Bool) → leb a b ≡ t → t ≡ leb (m + a) (m + b)
-    at true e = sym (le-leb (m + a) (m + b) (let within : a ≤ b = leb-true a b e in omega arith))
-    at false e = sym (lt-leb (m + a) (m + b) (let beyond : b < a = leb-false a b e in omega arith))
 
 -- the block's rows and columns of what was found
 unfoldable pub tail : ℕ → Factors → Factors
@@ -64,8 +50,8 @@ module _ (n : ℕ) (P : Matrix) (m : ℕ) where
 module _ (m w n : ℕ) (sum : m + w ≡ n) (P Q : Matrix) (same : (i j : ℕ) → i ≤ j → j < w → Q i j ≡ P (m + i) (m + j)) where
   -- the run on the block, and the run on the whole over its columns
   data Shifted : UduRun → UduRun → Type 0 where
-    both : (F : Factors) → Shifted (accepted (tail m F)) (accepted F)
-    neither : (j : ℕ) (F : Factors) → Shifted (refused j (tail m F)) (refused (m + j) F)
+    bothAccepted : (F : Factors) → Shifted (accepted (tail m F)) (accepted F)
+    bothRefused : (j : ℕ) (F : Factors) → Shifted (refused j (tail m F)) (refused (m + j) F)
 
   is-last : (j : ℕ) → eqb (j + 1) w ≡ eqb (m + j + 1) n
   is-last j = let place : m + (j + 1) ≡ m + j + 1 = omega arith in eqb-shift m (j + 1) w ∙ ap₂ eqb place sum
@@ -99,56 +85,47 @@ module _ (m w n : ℕ) (sum : m + w ≡ n) (P Q : Matrix) (same : (i j : ℕ) �
   with-column-shift F j v v' alike =
       ap (λ (u : Matrix). record { u = u; d = λ k. F .d (m + k) })
       (fun-ext (λ i. fun-ext (λ k.
-      at i k (leb i j) refl
+      where-tested (eqb k j && leb i j) (F .u (m + i) (m + k)) (λ here. alike i (leb→le i j (and-r (eqb k j) (leb i j) (subst T (sym here) tt))))
       ∙ ap₂ (λ (a b : Bool). cond (a && b) (v' (m + i)) (F .u (m + i) (m + k))) (eqb-shift m k j) (leb-shift m i j))))
-    where
-      at : (i k : ℕ) (b : Bool) → leb i j ≡ b
-          → cond (eqb k j && leb i j) (v i) (F .u (m + i) (m + k)) ≡ cond (eqb k j && leb i j) (v' (m + i)) (F .u (m + i) (m + k))
-      at i k true e = ap (λ (y : Float). cond (eqb k j && leb i j) y (F .u (m + i) (m + k))) (alike i (leb-true i j e))
-      at i k false e = rw e (off (eqb k j))
-        where
-          off : (a : Bool) → cond (a && false) (v i) (F .u (m + i) (m + k)) ≡ cond (a && false) (v' (m + i)) (F .u (m + i) (m + k))
-          off true = refl
-          off false = refl
 
   by-shift : (F : Factors) (j : ℕ) → j < w → (x : Float) (b : Bool) → Shifted (columnBy w Q (tail m F) j x b) (columnBy n P F (m + j) x b)
   by-shift F j below x true =
       subst (λ (G : Factors). Shifted (refused j G) (refused (m + j) (withDiagonal F (m + j) x))) (sym (with-diagonal-shift F j x))
-      (neither j (withDiagonal F (m + j) x))
+      (bothRefused j (withDiagonal F (m + j) x))
   by-shift F j below x false =
       let G = withDiagonal F (m + j) x in
       subst (λ (H : Factors). Shifted (accepted H) (accepted (withColumn G (m + j) (uduEntry n P F x (m + j)))))
       (sym (ap (λ (H : Factors). withColumn H j (uduEntry w Q (tail m F) x j)) (with-diagonal-shift F j x)
       ∙ with-column-shift G j (uduEntry w Q (tail m F) x j) (uduEntry n P F x (m + j)) (λ i row. entry-shift F x j i row below)))
-      (both (withColumn G (m + j) (uduEntry n P F x (m + j))))
+      (bothAccepted (withColumn G (m + j) (uduEntry n P F x (m + j))))
 
   column-shift : (j : ℕ) (R S : UduRun) → j < w → Shifted R S → Shifted (uduColumn w Q j R) (uduColumn n P (m + j) S)
   unfolding uduColumn
-  column-shift j R S below (both F) =
+  column-shift j R S below (bothAccepted F) =
       subst (λ (x : Float). Shifted (columnBy w Q (tail m F) j x (eq x plusZero)) (columnBy n P F (m + j) (uduDiagonal n P F (m + j)) (eq (uduDiagonal n P F (m + j)) plusZero)))
       (sym (diagonal-shift F j below))
       (by-shift F j below (uduDiagonal n P F (m + j)) (eq (uduDiagonal n P F (m + j)) plusZero))
-  column-shift j R S below (neither k F) = neither k F
+  column-shift j R S below (bothRefused k F) = bothRefused k F
 
   -- the run on the whole once its columns from m on are done
-  abbrev fromM : UduRun
-  fromM = falling w (λ (j : ℕ). uduColumn n P (m + j)) (accepted nothing)
+  abbrev reachedM : UduRun
+  reachedM = falling w (λ (j : ℕ). uduColumn n P (m + j)) (accepted nothing)
 
-  block-shifted : Shifted (uduColumns w Q) fromM
+  block-shifted : Shifted (uduColumns w Q) reachedM
   unfolding uduColumns nothing tail
   block-shifted =
       falling-related (λ (i : ℕ). Shifted) w (uduColumn w Q) (λ (j : ℕ). uduColumn n P (m + j)) (accepted nothing) (accepted nothing)
-      (both nothing) (λ j R S below is. column-shift j R S below is)
+      (bothAccepted nothing) (λ j R S below is. column-shift j R S below is)
 
-  whole-is : uduColumns n P ≡ falling m (uduColumn n P) fromM
+  whole-is : uduColumns n P ≡ falling m (uduColumn n P) reachedM
   unfolding uduColumns
   whole-is = ap (λ (k : ℕ). falling k (uduColumn n P) (accepted nothing)) (sym sum) ∙ sym (falling-join m w (uduColumn n P) (accepted nothing))
 
   -- what the whole finds and answers, once its columns before m are done
   block-by : (B S : UduRun) → Shifted B S
       → (factorsOf B ≡ tail m (factorsOf (falling m (uduColumn n P) S))) × Beside m (uduAnswer (falling m (uduColumn n P) S)) (uduAnswer B)
-  block-by B S (both F) = (sym (tail-stays n P m (accepted F)), blockDone (past-more n P m (accepted F) done))
-  block-by B S (neither j F) =
+  block-by B S (bothAccepted F) = (sym (tail-stays n P m (accepted F)), blockDone (past-more n P m (accepted F) done))
+  block-by B S (bothRefused j F) =
       let place : m + j - m ≡ j = omega arith in
       subst (λ (R : UduRun). (tail m F ≡ tail m (factorsOf R)) × Beside m (uduAnswer R) (ZeroDiagonal j)) (sym (refused-stays n P m (m + j) F))
       (refl, subst (λ (k : ℕ). Beside m (ZeroDiagonal (m + j)) (ZeroDiagonal k)) place (blockRefused (omega arith)))
@@ -156,4 +133,4 @@ module _ (m w n : ℕ) (sum : m + w ≡ n) (P Q : Matrix) (same : (i j : ℕ) �
   pub block-run : (factorsOf (uduColumns w Q) ≡ tail m (factorsOf (uduColumns n P))) × Beside m (uduAnswer (uduColumns n P)) (uduAnswer (uduColumns w Q))
   block-run =
       subst (λ (R : UduRun). (factorsOf (uduColumns w Q) ≡ tail m (factorsOf R)) × Beside m (uduAnswer R) (uduAnswer (uduColumns w Q))) (sym whole-is)
-      (block-by (uduColumns w Q) fromM block-shifted)
+      (block-by (uduColumns w Q) reachedM block-shifted)

@@ -11,9 +11,9 @@ use Rattle.answer.specs.declared.Answer.the-variants.{ZeroDiagonal}
 use Rattle.matrix.specs.Grid.{load}
 use Rattle.matrix.specs.Layouts.{upper}
 use Rattle.matrix.proofs.Places.{square-at}
-use Rattle.udu.specs.Columns.{Factors, uduColumns}
+use Rattle.udu.specs.Columns.{Factors}
 use Rattle.udu.specs.Promise.{UduSized, uduOf, uduAnswer, factorsOf, Holding, UduFactored}
-use Rattle.udu.specs.Tail.{Block, Beside, blockDone, blockRefused, tailIn, Zeroed, KeepsTail}
+use Rattle.udu.specs.Tail.{Block, Beside, blockDone, blockRefused, tailIn, KeepsTail}
 use Rattle.udu.proofs.Holding.{cell, holding-as}
 use Rattle.udu.proofs.Past.{not-from}
 use Rattle.udu.proofs.Shifted.{tail, block-run}
@@ -30,6 +30,7 @@ beside-once (blockDone past) (blockDone past') = refl
 beside-once (blockDone past) (blockRefused from) = absurd (not-from past from refl)
 beside-once (blockRefused from) other = sym (beside-refused other from refl)
 
+-- both calls pass the tests of size: n is from 1 to 1,024, and m below n
 module _ {p u₀ d₀ q v₀ e₀ u d : List Float} {n m : ℕ} {r : Answer}
     (whole : UduSized n p u₀ d₀) (block : UduSized (n - m) q v₀ e₀) (cut : Block n m p q) (call : UduFactored p u₀ d₀ n r u d) where
   run : (factorsOf (uduOf (n - m) q) ≡ tail m (factorsOf (uduOf n p))) × Beside m (uduAnswer (uduOf n p)) (uduAnswer (uduOf (n - m) q))
