@@ -199,6 +199,8 @@ URGYELPAT_MUST_USE urgyelpat_determined urgyelpat_cholesky_determinant(const dou
 /* Fills u (n*n numbers) and d (n numbers) with the factors of p (n*n numbers), of which the upper part is read.
  * After 8 at column j: d has the zero that was found at j and zeros before it, the columns up to j of u are zero, and what
  * comes after j in both is finished. (At j = n - 1 all of u is zero.)
+ * After 0 and 8 alike, rows and columns m to n - 1 of u and d are what the call on that block of p leaves, for every m below n:
+ * to drop the first m, keep the others. That call answers 8 at j - m if this one answered 8 at a j >= m, and else 0.
  * Answers 0, 1, 3 (p), 4 (u or d), 8. */
 URGYELPAT_MUST_USE uint64_t urgyelpat_udu_factor(const double *p, size_t p_length, double *u, size_t u_length, double *d,
                                                  size_t d_length, size_t n);
