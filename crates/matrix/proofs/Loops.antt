@@ -2,9 +2,12 @@
 --   for-none for-one for-two for-four    no turn, one, two, four
 --   for-more for-first for-at            the last turn, the first, one in between
 --   for-join                             one loop after another
+--   for-shift                            turns counted from m on
 --   for-related                          two loops that stay related, turn by turn; of it:
 --   for-keeps for-still for-same for-past   what all turns keep or leave; loops whose turns agree; a change that no turn sees
 --   for-fused                            two loops one after the other as one
+--   falling-related falling-keeps        the same of loops that fall, by how many turns are left
+--   falling-join                         the first turns, and the rest
 --   Ran    from lo on, up to i, f has turned s₀ into s: the invariant of a loop that rises
 --   Fell   the turns below i make of s what all n make of s₀: that of a loop that falls
 -- Assumes nothing.
@@ -64,7 +67,7 @@ for-at lo hi j f s from upto = sym (for-join lo (j + 1) hi f s (omega arith) (om
 pub for-first : {S : Type 0} (lo hi : ℕ) (f : ℕ → S → S) (s : S) → lo < hi → for lo hi f s ≡ for (lo + 1) hi f (f lo s)
 for-first {S} lo hi f s some = for-at lo hi lo f s (omega arith) some ∙ ap (λ (x : S). for (lo + 1) hi f (f lo x)) (for-none lo f s)
 
--- counted from m on
+-- turns counted from m on
 pub for-shift : {S : Type 0} (m lo hi : ℕ) (f : ℕ → S → S) (s : S) → for lo hi (λ (i : ℕ). f (m + i)) s ≡ for (m + lo) (m + hi) f s
 unfolding for turns
 for-shift {S} m lo hi f s =
@@ -156,7 +159,7 @@ falling-related R (suc i) f g s x start each =
 pub falling-keeps : {S : Type 0} (P : ℕ → S → Type 0) (n : ℕ) (f : ℕ → S → S) (s : S) → P n s → ((i : ℕ) (x : S) → i < n → P (suc i) x → P i (f i x)) → P 0 (falling n f s)
 falling-keeps {S} P n f s start each = falling-related {X = S} (λ i x y. P i x) n f f s s start (λ i x y below is. each i x below is)
 
--- the first turns, and the rest
+-- the first w turns, which are counted from m on, and the other m
 pub falling-join : {S : Type 0} (m w : ℕ) (f : ℕ → S → S) (s : S) → falling m f (falling w (λ (i : ℕ). f (m + i)) s) ≡ falling (m + w) f s
 unfolding falling
 falling-join m zero f s = let none : m ≡ m + 0 = omega arith in ap (λ (k : ℕ). falling k f s) none
