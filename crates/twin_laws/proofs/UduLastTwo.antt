@@ -27,11 +27,11 @@ use Rattle.matrix.proofs.Loops.{for-one, Fell, fell-none, fell-more}
 use Rattle.matrix.proofs.Places.{square-at}
 use Rattle.udu.specs.Columns.{Factors, nothing, plusSquare, squareSum, uduDiagonal, lastEntry, uduEntry, withDiagonal, withColumn, UduRun, accepted, refused, columnBy, uduColumn, uduColumns}
 use Rattle.udu.specs.Promise.{UduSized, uduOf, uduAnswer, factorsOf, Holding, UduFactored}
-use Rattle.udu.specs.Tail.{Past, done, before}
 use Rattle.udu.proofs.Holding.{cell}
-use Rattle.udu.proofs.Past.{not-from, past-more}
 use Rattle.udu.proofs.Reached.{refused-stays}
 use Rattle.udu.proofs.Sizes.{columned}
+use Rattle.udu_tail.specs.Tail.{Past, done, before}
+use Rattle.udu_tail.proofs.Past.{not-from, past-more}
 use Rattle.twins.specs.Twins.{Twins}
 use Rattle.twins.proofs.Clauses.{Lower, lower-of-twins}
 use Rattle.twin_laws.proofs.Exact.{times-one, zero-plus, less-itself}

@@ -1,6 +1,5 @@
 -- Two slices that hold what was found, and one more column. Assumes nothing.
 --     cell                                 an entry
---     holding-as                           what was found, under another name
 --     holding-none                         slices that are cleared
 --     holding-diagonal, holding-column     d(j) stored; column j written
 use mathlib.Core.Bool.{Bool, true, false, cond, _&&_}
@@ -18,7 +17,7 @@ use Rattle.matrix.specs.Grid.{load, mask}
 use Rattle.matrix.specs.Layouts.{square, Fills}
 use Rattle.matrix.proofs.Grids.{mask-in}
 use Rattle.matrix.proofs.Places.{square-at, square-place, in-square}
-use Rattle.matrix.proofs.Squares.{square-sound, fills-holds, fills-each}
+use Rattle.matrix.proofs.Squares.{square-sound, fills-holds}
 use Rattle.strips.specs.inner.Strip.{rowAt, Strip, zeroAt}
 use Rattle.strips.proofs.Strips.{strip-holds, cleared, cleared-square}
 use Rattle.udu.specs.Columns.{Factors, nothing, withDiagonal, withColumn}
@@ -27,13 +26,6 @@ use Rattle.udu.specs.Promise.{Holding}
 pub cell : {n : ℕ} {u : List Float} (M : Matrix) → Fills n u (mask (square n) M) → (i k : ℕ) → i < n → k < n → rowAt u (k * n) i ≡ M i k
 cell {n} {u} M fills i k row column =
     sym (square-at n u i k row column) ∙ ap (λ (N : Matrix). N i k) (fills .cells) ∙ mask-in (square n) M i k (in-square n i k row column)
-
-pub holding-as : {n : ℕ} {F G : Factors} {u d : List Float} → Holding n F u d
-    → ((i k : ℕ) → i < n → k < n → F .u i k ≡ G .u i k) → ((k : ℕ) → k < n → F .d k ≡ G .d k) → Holding n G u d
-holding-as {n} {F} {G} {u} h upper diagonal = record {
-  upper = fills-each n u (G .u) (h .upper .long) (λ i k row column. cell (F .u) (h .upper) i k row column ∙ upper i k row column);
-  diagonal = record { long = h .diagonal .long; cells = λ k row. h .diagonal .cells k row ∙ diagonal k row };
-}
 
 pub holding-none : {n : ℕ} {u₀ d₀ u d : List Float} → length u₀ ≡ n * n → length d₀ ≡ n → Strip 0 0 (n * n) zeroAt u₀ u → Strip 0 0 n zeroAt d₀ d → Holding n nothing u d
 unfolding nothing

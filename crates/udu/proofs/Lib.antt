@@ -4,7 +4,3 @@ pub mod Holding
 pub mod Reached
 pub mod Sizes
 pub mod Unique
-pub mod Past
-pub mod Shifted
-pub mod Zeroed
-pub mod Tail

@@ -1,4 +1,3 @@
 pub mod Columns
 pub mod Promise
-pub mod Tail
 pub mod inner

@@ -10,9 +10,9 @@ use Rattle.matrix.specs.Matrix.{Matrix}
 use Rattle.matrix.specs.Loop.{falling}
 use Rattle.matrix.specs.Rounded.{plusZero}
 use Rattle.matrix.proofs.Loops.{falling-keeps}
 use Rattle.udu.specs.Columns.{uduDiagonal, UduRun, accepted, refused, columnBy, uduColumn}
 use Rattle.udu.specs.Promise.{uduAnswer}
-use Rattle.udu.specs.Tail.{Past, done, before}
+use Rattle.udu_tail.specs.Tail.{Past, done, before}
 
 -- refused neither at m nor at a column behind it
 pub not-from : {m j : ℕ} {r : Answer} → Past m r → m ≤ j → r ≡ ZeroDiagonal j → ⊥

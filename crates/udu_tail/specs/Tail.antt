@@ -1,4 +1,4 @@
--- UDU of a block beside UDU of the whole, as the promise of `factor` gives them. The block is rows and columns m to n − 1: its entry (i, k) is
+-- UDU of a block beside UDU of the whole, as the promise of `udu::factor` gives them. The block is rows and columns m to n − 1: its entry (i, k) is
 -- the whole's (m + i, m + k).
 use mathlib.Core.Bool.{true}
 use mathlib.Core.List.{List}

@@ -1,4 +1,4 @@
--- UDU of the block of rows and columns m to n − 1 beside UDU of the whole, for calls that meet the promise of `factor`. Assumes nothing.
+-- UDU of the block of rows and columns m to n − 1 beside UDU of the whole, for calls that meet the promise of `udu::factor`. Assumes nothing.
 --     keeps-tail        what the call on the block answers and leaves
 --     tail-suffices     what is kept of the whole meets the promise of the call on the block
 use mathlib.Core.List.{List}
@@ -11,14 +11,23 @@ use Rattle.answer.specs.declared.Answer.the-variants.{ZeroDiagonal}
 use Rattle.matrix.specs.Grid.{load}
 use Rattle.matrix.specs.Layouts.{upper}
 use Rattle.matrix.proofs.Places.{square-at}
+use Rattle.matrix.proofs.Squares.{fills-each}
 use Rattle.udu.specs.Columns.{Factors}
 use Rattle.udu.specs.Promise.{UduSized, uduOf, uduAnswer, factorsOf, Holding, UduFactored}
-use Rattle.udu.specs.Tail.{Block, Beside, blockDone, blockRefused, tailIn, KeepsTail}
-use Rattle.udu.proofs.Holding.{cell, holding-as}
-use Rattle.udu.proofs.Past.{not-from}
-use Rattle.udu.proofs.Shifted.{tail, block-run}
+use Rattle.udu_tail.specs.Tail.{Block, Beside, blockDone, blockRefused, tailIn, KeepsTail}
+use Rattle.udu.proofs.Holding.{cell}
+use Rattle.udu_tail.proofs.Past.{not-from}
+use Rattle.udu_tail.proofs.Shifted.{tail, block-run}
 use Rattle.udu.proofs.Sizes.{factored, columned}
-use Rattle.udu.proofs.Zeroed.{zeroed}
+use Rattle.udu_tail.proofs.Zeroed.{zeroed}
+
+-- what was found, under another name
+holding-as : {n : ℕ} {F G : Factors} {u d : List Float} → Holding n F u d
+    → ((i k : ℕ) → i < n → k < n → F .u i k ≡ G .u i k) → ((k : ℕ) → k < n → F .d k ≡ G .d k) → Holding n G u d
+holding-as {n} {F} {G} {u} h upper diagonal = record {
+  upper = fills-each n u (G .u) (h .upper .long) (λ i k row column. cell (F .u) (h .upper) i k row column ∙ upper i k row column);
+  diagonal = record { long = h .diagonal .long; cells = λ k row. h .diagonal .cells k row ∙ diagonal k row };
+}
 
 -- the answer to the whole fixes the answer to the block
 beside-refused : {m j : ℕ} {r s : Answer} → Beside m r s → m ≤ j → r ≡ ZeroDiagonal j → s ≡ ZeroDiagonal (j - m)

@@ -1,0 +1,4 @@
+pub mod Past
+pub mod Shifted
+pub mod Zeroed
+pub mod Tail
