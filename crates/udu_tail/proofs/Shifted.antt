@@ -1,5 +1,5 @@
 -- The run on the block of rows and columns m to n − 1, and the run on the whole. Assumes nothing.
---     block-run     the block's factors are those rows and columns of the whole's, and so are the answers
+--     block-run     the block's factors are those rows and columns of the whole's; the two answers
 use mathlib.Core.Bool.{Bool, true, false, cond, _&&_}
 use mathlib.Core.Path.{_≡_, refl, sym, _∙_, ap, ap₂, subst, fun-ext}
 use Prim.Native.Nat.{ℕ, _+_, _-_, _≤_, _<_}
