@@ -30,7 +30,7 @@ use Rattle.udu.specs.Promise.{UduSized, uduOf, uduAnswer, factorsOf, Holding, U
 use Rattle.udu.proofs.Holding.{cell}
 use Rattle.udu.proofs.Reached.{refused-stays}
 use Rattle.udu.proofs.Sizes.{columned}
-use Rattle.udu_tail.specs.Tail.{Past, done, before}
+use Rattle.udu_tail.specs.Tail.{Past, finished, refusedBefore}
 use Rattle.udu_tail.proofs.Past.{not-from, past-more}
 use Rattle.twins.specs.Twins.{Twins}
 use Rattle.twins.proofs.Clauses.{Lower, lower-of-twins}
@@ -148,7 +148,7 @@ module _ (n : ℕ) (p : List Float) (x : Float) (twins : LastTwins n p x) where
   unfolding uduOf uduColumns
   past-both e f =
       subst (λ (R : UduRun). Past (n - 2) (uduAnswer R)) (two-done .left)
-      (past-more n P (n - 2) lastTwo (subst (λ (R : UduRun). Past (n - 2) (uduAnswer R)) (sym (by-both false e f)) done))
+      (past-more n P (n - 2) lastTwo (subst (λ (R : UduRun). Past (n - 2) (uduAnswer R)) (sym (by-both false e f)) finished))
 
   left-by : {u d : List Float} → Holding n (withDiagonal lastFound (n - 2) (rest x)) u d → LeftAtFirst n p x u d
   unfolding lastFound withDiagonal withColumn nothing uduEntry lastEntry
@@ -224,8 +224,8 @@ udu-two {x = x} {r = r} allowed twins call = by (eq x plusZero) (eq (rest x) plu
     decided = udu-last-two allowed twins call
 
     past-all : {a : Answer} → Past 0 a → a ≡ Done
-    past-all done = refl
-    past-all (before less) = absurd (omega arith)
+    past-all finished = refl
+    past-all (refusedBefore less) = absurd (omega arith)
 
     by : (b c : Bool) → eq x plusZero ≡ b → eq (rest x) plusZero ≡ c → r ≡ cond b (ZeroDiagonal 1) (cond c (ZeroDiagonal 0) Done)
     by true c e f = decided .second e

@@ -12,12 +12,12 @@ use Rattle.matrix.specs.Rounded.{plusZero}
 use Rattle.matrix.proofs.Loops.{falling-keeps}
 use Rattle.udu.specs.Columns.{uduDiagonal, UduRun, accepted, refused, columnBy, uduColumn}
 use Rattle.udu.specs.Promise.{uduAnswer}
-use Rattle.udu_tail.specs.Tail.{Past, done, before}
+use Rattle.udu_tail.specs.Tail.{Past, finished, refusedBefore}
 
 -- refused neither at m nor at a column behind it
 pub not-from : {m j : ℕ} {r : Answer} → Past m r → m ≤ j → r ≡ ZeroDiagonal j → ⊥
-not-from done from e = let z : _≡_ {A = ℕ} 0 1 = cc in omega arith
-not-from {m} {j} (before {j = i} less) from e = let same : i ≡ j = cc in omega arith
+not-from finished from e = let z : _≡_ {A = ℕ} 0 1 = cc in omega arith
+not-from {m} {j} (refusedBefore {j = i} less) from e = let same : i ≡ j = cc in omega arith
 
 module _ (n : ℕ) (P : Matrix) (m : ℕ) where
   past-column : (R : UduRun) (j : ℕ) → j < m → Past m (uduAnswer R) → Past m (uduAnswer (uduColumn n P j R))
@@ -25,8 +25,8 @@ module _ (n : ℕ) (P : Matrix) (m : ℕ) where
   past-column (accepted F) j less past = by (uduDiagonal n P F j) (eq (uduDiagonal n P F j) plusZero)
     where
       by : (x : Float) (b : Bool) → Past m (uduAnswer (columnBy n P F j x b))
-      by x true = before less
-      by x false = done
+      by x true = refusedBefore less
+      by x false = finished
   past-column (refused k F) j less past = past
 
   pub past-more : (R : UduRun) → Past m (uduAnswer R) → Past m (uduAnswer (falling m (uduColumn n P) R))

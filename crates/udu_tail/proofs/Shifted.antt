@@ -16,7 +16,7 @@ use Rattle.matrix.specs.Rounded.{_⊖_, _⊘_, plusZero, one}
 use Rattle.matrix.proofs.Loops.{for-shift, falling-related, falling-keeps, falling-join}
 use Rattle.udu.specs.Columns.{Factors, nothing, plusSquare, plusCross, squareSum, crossSum, uduDiagonal, lastEntry, furtherEntry, uduEntry, withDiagonal, withColumn, UduRun, accepted, refused, columnBy, uduColumn, uduColumns}
 use Rattle.udu.specs.Promise.{uduAnswer, factorsOf}
-use Rattle.udu_tail.specs.Tail.{done, Beside, blockDone, blockRefused}
+use Rattle.udu_tail.specs.Tail.{finished, Beside, blockDone, blockRefused}
 use Rattle.udu.proofs.Reached.{refused-stays}
 use Rattle.udu_tail.proofs.Past.{past-more}
 
@@ -124,7 +124,7 @@ module _ (m w n : ℕ) (sum : m + w ≡ n) (P Q : Matrix) (same : (i j : ℕ) �
   -- what the whole finds and answers, once its columns before m are done
   block-by : (B S : UduRun) → Shifted B S
       → (factorsOf B ≡ tail m (factorsOf (falling m (uduColumn n P) S))) × Beside m (uduAnswer (falling m (uduColumn n P) S)) (uduAnswer B)
-  block-by B S (bothAccepted F) = (sym (tail-stays n P m (accepted F)), blockDone (past-more n P m (accepted F) done))
+  block-by B S (bothAccepted F) = (sym (tail-stays n P m (accepted F)), blockDone (past-more n P m (accepted F) finished))
   block-by B S (bothRefused j F) =
       let place : m + j - m ≡ j = omega arith in
       subst (λ (R : UduRun). (tail m F ≡ tail m (factorsOf R)) × Beside m (uduAnswer R) (ZeroDiagonal j)) (sym (refused-stays n P m (m + j) F))

@@ -14,7 +14,7 @@ use Rattle.matrix.proofs.Places.{square-at}
 use Rattle.matrix.proofs.Squares.{fills-each}
 use Rattle.udu.specs.Columns.{Factors}
 use Rattle.udu.specs.Promise.{UduSized, uduOf, uduAnswer, factorsOf, Holding, UduFactored}
-use Rattle.udu_tail.specs.Tail.{Block, Beside, blockDone, blockRefused, tailIn, KeepsTail}
+use Rattle.udu_tail.specs.Tail.{BlockOf, Beside, blockDone, blockRefused, tailIn, KeepsTail}
 use Rattle.udu.proofs.Holding.{cell}
 use Rattle.udu_tail.proofs.Past.{not-from}
 use Rattle.udu_tail.proofs.Shifted.{tail, block-run}
@@ -41,7 +41,7 @@ beside-once (blockRefused from) other = sym (beside-refused other from refl)
 
 -- both calls pass the tests of size: n is from 1 to 1,024, and m below n
 module _ {p u₀ d₀ q v₀ e₀ u d : List Float} {n m : ℕ} {r : Answer}
-    (whole : UduSized n p u₀ d₀) (block : UduSized (n - m) q v₀ e₀) (cut : Block n m p q) (call : UduFactored p u₀ d₀ n r u d) where
+    (whole : UduSized n p u₀ d₀) (block : UduSized (n - m) q v₀ e₀) (cut : BlockOf n m p q) (call : UduFactored p u₀ d₀ n r u d) where
   run : (factorsOf (uduOf (n - m) q) ≡ tail m (factorsOf (uduOf n p))) × Beside m (uduAnswer (uduOf n p)) (uduAnswer (uduOf (n - m) q))
   unfolding uduOf
   run = block-run m (n - m) n (let sum : m + (n - m) ≡ n = omega (arith, block .low) in sum) (load (upper n) p) (load (upper (n - m)) q) (λ i j row below. cut .entries i j row below)

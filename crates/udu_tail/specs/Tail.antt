@@ -15,13 +15,13 @@ use Rattle.udu.specs.Columns.{Factors}
 use Rattle.udu.specs.Promise.{Holding}
 
 -- the upper part of q is the block of the upper part of p
-pub record Block (n m : ℕ) (p q : List Float) : Type 0 where
+pub record BlockOf (n m : ℕ) (p q : List Float) : Type 0 where
   pub entries : (i j : ℕ) → i ≤ j → j < n - m → load (upper (n - m)) q i j ≡ load (upper n) p (m + i) (m + j)
 
 -- the call goes past column m: it is done, or refused at a column before m
 pub data Past (m : ℕ) : Answer → Type 0 where
-  done : Past m Done
-  before : {j : ℕ} → j < m → Past m (ZeroDiagonal j)
+  finished : Past m Done
+  refusedBefore : {j : ℕ} → j < m → Past m (ZeroDiagonal j)
 
 -- the answer to the block beside the answer to the whole
 pub data Beside (m : ℕ) : Answer → Answer → Type 0 where
