@@ -131,27 +131,20 @@ impl<'a> Tally<'a> {
     /// The blocks of every m, by the text and by the other implementation, each against its own whole. Above order 130 some blocks alone.
     fn hold_tails(&mut self, whole: &Case, text: &Outcome, other: &Outcome) {
         let n = whole.n;
-        let some = [0, 1, 15, 16, n / 2, n.saturating_sub(17), n.saturating_sub(2), n - 1];
-        for m in (0..n).filter(|m| n <= 130 || some.contains(m)) {
+        let from = if n <= 130 { (0..n).collect() } else { vec![0, 1, 15, 16, n / 2, n - 17, n - 2, n - 1] };
+        for m in from {
             match (text.answer / 4096, text.answer % 4096) {
                 (0, _) => self.tails.accepted += 1,
                 (_, j) if j < m as u64 => self.tails.before += 1,
                 _ => self.tails.within += 1,
             }
             let block = tail::block(whole, m);
-            for (calls, outcome, name) in [(&Text as &dyn Calls, text, "text"), (self.other, other, "other")] {
-                let (wanted, found) = (tail::tail(&block, m, outcome), block.outcome(calls));
-                if wanted != found {
-                    let lines = [outcome_line(&block, &wanted), outcome_line(&block, &found)];
-                    self.differ(
-                        whole.size(),
-                        format!(
-                            "{}\nrows and columns from {m} on, by the {name}\nkept  {}\nblock {}",
-                            case_line(whole),
-                            lines[0],
-                            lines[1]
-                        ),
-                    );
+            for (calls, left, name) in [(&Text as &dyn Calls, text, "text"), (self.other, other, "other")] {
+                let (kept, found) = (tail::tail(&block, m, left), block.outcome(calls));
+                if kept != found {
+                    let [kept, found] = [kept, found].map(|outcome| outcome_line(&block, &outcome));
+                    let said = format!("{}\nrows and columns from {m} on, by the {name}\nkept  {kept}\nblock {found}", case_line(whole));
+                    self.differ(whole.size(), said);
                 }
             }
         }
