@@ -15,10 +15,14 @@ pub fn block(whole: &Case, m: usize) -> Case {
     Case { b: filled(order * order), c: filled(order), ..Case::new(Call::UduFactor, order, p) }
 }
 
+/// Rows and columns from m on of a matrix of order n.
+pub fn trailing<T: Copy>(a: &[T], n: usize, m: usize) -> Vec<T> {
+    (m..n).flat_map(|k| &a[m + k * n..n + k * n]).copied().collect()
+}
+
 /// What the block is to answer and leave.
 pub fn tail(block: &Case, m: usize, whole: &Outcome) -> Outcome {
-    let n = m + block.n;
-    let u = (m..n).flat_map(|k| &whole.b[m + k * n..n + k * n]).copied().collect();
+    let u = trailing(&whole.b, m + block.n, m);
     Outcome { answer: answer(m, whole.answer), value: None, a: words(&block.a), b: u, c: whole.c[m..].to_vec(), record: vec![] }
 }
 

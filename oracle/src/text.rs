@@ -11,6 +11,7 @@ use crate::linalg::cholesky::Cholesky;
 use crate::linalg::lblt::{LBLT, parts};
 use crate::linalg::udu::UDU;
 use crate::paper::Paper;
+use crate::tail::trailing;
 use crate::{Dyn, OMatrix};
 
 pub struct Text;
@@ -305,7 +306,7 @@ impl Calls for Text {
 /// What the text leaves behind when it answers `None` at j. Columns after j do not read p(j,j), so they are the text's own for the matrix with
 /// NaN there, which it does not refuse. Document 01: d holds the zero found at j, and zeros stand before it and in the columns of u up to j.
 fn refused_udu(p: &[f64], u: &mut [f64], d: &mut [f64], n: usize) -> u64 {
-    let j = (0..n).rev().find(|&j| UDU::new(trailing(p, n, j)).is_none()).expect("the text refuses the whole");
+    let j = (0..n).rev().find(|&j| UDU::new(square(n - j, trailing(p, n, j))).is_none()).expect("the text refuses the whole");
     let mut open = p.to_vec();
     open[j + j * n] = f64::NAN;
     let factor = UDU::new(square(n, open)).expect("nothing after NaN is zero");
@@ -325,13 +326,4 @@ fn refused_udu(p: &[f64], u: &mut [f64], d: &mut [f64], n: usize) -> u64 {
     d[j] = p[j + j * n] - sum;
     assert_eq!(d[j], 0.0, "the text refuses a diagonal that is not zero");
     refusal(8, j)
-}
-
-/// Rows and columns from m on.
-fn trailing(p: &[f64], n: usize, m: usize) -> Square {
-    let mut out = Vec::with_capacity((n - m) * (n - m));
-    for j in m..n {
-        out.extend_from_slice(&p[m + j * n..(j + 1) * n]);
-    }
-    square(n - m, out)
 }

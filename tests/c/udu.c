@@ -27,16 +27,16 @@ static void refused(const char *about, size_t n, numbers p, numbers u, numbers d
 /* The calls on the blocks of rows and columns m to n - 1, for every m, by what the call on the whole answers and leaves. */
 static void blocks(const char *about, size_t n, numbers p, uint64_t answer, numbers u_left, numbers d_left)
 {
-    static double block[BLOCK_ORDER * BLOCK_ORDER], tail[BLOCK_ORDER * BLOCK_ORDER], lent_upper[BLOCK_ORDER * BLOCK_ORDER];
+    static double block[BLOCK_ORDER * BLOCK_ORDER], tail[BLOCK_ORDER * BLOCK_ORDER], unwritten[BLOCK_ORDER * BLOCK_ORDER];
     for (size_t m = 0; m < n; m++) {
         size_t order = n - m, place = answer % 4096;
         for (size_t j = 0; j < order; j++)
             for (size_t i = 0; i < order; i++) {
                 block[i + j * order] = i <= j ? p.at[m + i + (m + j) * n] : KEPT;
                 tail[i + j * order] = u_left.at[m + i + (m + j) * n];
-                lent_upper[i + j * order] = KEPT;
+                unwritten[i + j * order] = KEPT;
             }
-        numbers u = {lent_upper, order * order}, d = {lent_upper, order};
+        numbers u = {unwritten, order * order}, d = {unwritten, order};
         numbers u_tail = {tail, order * order}, d_tail = {d_left.at + m, order};
         factor(about, order, (numbers){block, order * order}, u, d, answer != 0 && place >= m ? ANSWER(8, place - m) : 0,
                u_tail, d_tail);
@@ -56,13 +56,13 @@ static void blocks_by_chance(void)
     static double p[BLOCK_ORDER * BLOCK_ORDER], u[BLOCK_ORDER * BLOCK_ORDER], d[BLOCK_ORDER];
     uint32_t state = 11;
     for (size_t n = 1; n <= BLOCK_ORDER; n++)
-        for (int whole = 0; whole < 2; whole++) {
+        for (int integers = 0; integers < 2; integers++) {
             for (size_t at = 0; at < n * n; at++) {
                 double x = by_chance(&state);
-                p[at] = whole ? (double)(int)(6 * x) : x;
+                p[at] = integers ? (double)(int)(6 * x) : x;
             }
             uint64_t answer = urgyelpat_udu_factor(p, n * n, u, n * n, d, n, n);
-            blocks(whole ? "a block of whole numbers" : "a block", n, (numbers){p, n * n}, answer, (numbers){u, n * n},
+            blocks(integers ? "a block of whole numbers" : "a block", n, (numbers){p, n * n}, answer, (numbers){u, n * n},
                    (numbers){d, n});
         }
 }

@@ -31,17 +31,18 @@ lt-or-ge a b = go (ltb a b) refl
     go true e = inl (ltb-true a b e)
     go false e = inr (ltb-false a b e)
 
+-- two tests that answer alike
+alike : (s t : Bool) → (s ≡ true → t ≡ true) → (s ≡ false → t ≡ false) → s ≡ t
+alike true t both neither = sym (both refl)
+alike false t both neither = sym (neither refl)
+
 -- both numbers counted from m on
 pub eqb-shift : (m a b : ℕ) → eqb a b ≡ eqb (m + a) (m + b)
-eqb-shift m a b = at (eqb a b) refl
-  where
-    at : (t : Bool) → eqb a b ≡ t → t ≡ eqb (m + a) (m + b)
-    at true e = sym (eq-eqb (m + a) (m + b) (let same : a ≡ b = eqb-true a b e in omega arith))
-    at false e = sym (ne-eqb (m + a) (m + b) (λ same. eqb-false a b e (omega arith)))
+eqb-shift m a b =
+    alike (eqb a b) (eqb (m + a) (m + b)) (λ e. eq-eqb (m + a) (m + b) (let same : a ≡ b = eqb-true a b e in omega arith))
+    (λ e. ne-eqb (m + a) (m + b) (λ same. eqb-false a b e (omega arith)))
 
 pub leb-shift : (m a b : ℕ) → leb a b ≡ leb (m + a) (m + b)
-leb-shift m a b = at (leb a b) refl
-  where
-    at : (t : Bool) → leb a b ≡ t → t ≡ leb (m + a) (m + b)
-    at true e = sym (le-leb (m + a) (m + b) (let within : a ≤ b = leb-true a b e in omega arith))
-    at false e = sym (lt-leb (m + a) (m + b) (let beyond : b < a = leb-false a b e in omega arith))
+leb-shift m a b =
+    alike (leb a b) (leb (m + a) (m + b)) (λ e. le-leb (m + a) (m + b) (let within : a ≤ b = leb-true a b e in omega arith))
+    (λ e. lt-leb (m + a) (m + b) (let beyond : b < a = leb-false a b e in omega arith))

@@ -16,8 +16,8 @@ use Rattle.matrix.specs.Rounded.{_⊖_, _⊘_, plusZero, one}
 use Rattle.matrix.proofs.Loops.{for-shift, falling-related, falling-keeps, falling-join}
 use Rattle.udu.specs.Columns.{Factors, nothing, plusSquare, plusCross, squareSum, crossSum, uduDiagonal, lastEntry, furtherEntry, uduEntry, withDiagonal, withColumn, UduRun, accepted, refused, columnBy, uduColumn, uduColumns}
 use Rattle.udu.specs.Promise.{uduAnswer, factorsOf}
-use Rattle.udu_tail.specs.Tail.{finished, Beside, blockDone, blockRefused}
 use Rattle.udu.proofs.Reached.{refused-stays}
+use Rattle.udu_tail.specs.Tail.{finished, Beside, blockDone, blockRefused}
 use Rattle.udu_tail.proofs.Past.{past-more}
 
 -- the block's rows and columns of what was found

@@ -14,11 +14,11 @@ use Rattle.matrix.proofs.Places.{square-at}
 use Rattle.matrix.proofs.Squares.{fills-each}
 use Rattle.udu.specs.Columns.{Factors}
 use Rattle.udu.specs.Promise.{UduSized, uduOf, uduAnswer, factorsOf, Holding, UduFactored}
-use Rattle.udu_tail.specs.Tail.{BlockOf, Beside, blockDone, blockRefused, tailIn, KeepsTail}
 use Rattle.udu.proofs.Holding.{cell}
+use Rattle.udu.proofs.Sizes.{factored, columned}
+use Rattle.udu_tail.specs.Tail.{BlockOf, Beside, blockDone, blockRefused, tailIn, KeepsTail}
 use Rattle.udu_tail.proofs.Past.{not-from}
 use Rattle.udu_tail.proofs.Shifted.{tail, block-run}
-use Rattle.udu.proofs.Sizes.{factored, columned}
 use Rattle.udu_tail.proofs.Zeroed.{zeroed}
 
 -- what was found, under another name

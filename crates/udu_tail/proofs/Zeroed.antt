@@ -16,9 +16,9 @@ use Rattle.matrix.proofs.Loops.{falling-keeps}
 use Rattle.matrix.proofs.Places.{square-at}
 use Rattle.udu.specs.Columns.{Factors, nothing, uduDiagonal, withDiagonal, withColumn, UduRun, accepted, refused, columnBy, uduColumn, uduColumns}
 use Rattle.udu.specs.Promise.{UduSized, uduOf, uduAnswer, factorsOf, Holding, UduFactored}
-use Rattle.udu_tail.specs.Tail.{Zeroed}
 use Rattle.udu.proofs.Holding.{cell}
 use Rattle.udu.proofs.Sizes.{columned}
+use Rattle.udu_tail.specs.Tail.{Zeroed}
 
 -- the first a numbers of d and the first c columns of u are +0
 record Clear (a c : ℕ) (F : Factors) : Type 0 where
