@@ -7,6 +7,7 @@
 --   tested-fixed refused: the answer does not hang on what comes after
 --   tested-first nor on further tests
 --   tested-then  the answer of further tests where the first are passed, else theirs: that of both lists
+--   then-done    done: the first are passed, and the further ones too
 -- Assumes nothing.
 use mathlib.Core.Path.{_≡_, refl, sym, _∙_, ap}
 use mathlib.Core.Bool.{Bool, true, false, cond, true≢false}
@@ -32,6 +33,10 @@ pub data Fails (a : Answer) : List Test → Type 0 where
 abbrev pub Each : (Answer → Type 0) → List Test → Type 0
 Each P [] = Unit {0}
 Each P (t ∷ tests) = P (t .refusal) × Each P tests
+
+pub each-join : (P : Answer → Type 0) (tests more : List Test) → Each P tests → Each P more → Each P (tests ++ more)
+each-join P [] more each rest = rest
+each-join P (t ∷ tests) more each rest = (each .0, each-join P tests more (each .1) rest)
 
 -- no test answers that all is done
 abbrev pub Refusals : List Test → Type 0
@@ -102,6 +107,12 @@ tested-then tests more real {s} {r} first then =
     (λ (done : isDone s ≡ true).
     then ∙ rw done (sym (tested-join tests more Done ∙ tested-all tests (tested more Done) (all-hold tests Done real (ap isDone (sym first) ∙ done) .0))))
     (λ (refused : isDone s ≡ false). then ∙ rw refused (first ∙ sym (tested-first tests more Done (ap isDone (sym first) ∙ refused))))
+
+pub then-done : (s t : Answer) {r : Answer} → r ≡ cond (isDone s) t s → isDone r ≡ true → (isDone s ≡ true) × (isDone t ≡ true)
+then-done s t {r} then done =
+    done-or-refused s
+    (λ (passed : isDone s ≡ true). let is : r ≡ t = rw passed at then in (passed, ap isDone (sym is) ∙ done))
+    (λ (refused : isDone s ≡ false). let is : r ≡ s = rw refused at then in absurd (true≢false (sym done ∙ ap isDone is ∙ refused)))
 
 -- ---- what is left behind
 

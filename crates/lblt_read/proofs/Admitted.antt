@@ -1,6 +1,6 @@
 -- What the tests of a reader answer, and what they tell where it goes on.
 --     record-short … columns-many      a law for each way out
---     read-done, columns-done          what is known where all tests hold
+--     words-accepted, read-done, columns-done   what is known where all tests hold
 --     factor-answers, columns-answers  the record's answer where the sizes are passed, else theirs: that of all tests
 use mathlib.Core.Bool.{true, false, cond}
 use mathlib.Core.List.{List, [], _∷_, _++_}
@@ -15,7 +15,7 @@ use Rattle.answer.specs.declared.Answer.{Answer}
 use Rattle.answer.specs.declared.Answer.the-variants.{Done, OutOfRange, SliceLength, OtherRun}
 use Rattle.answer.specs.Number.{isDone}
 use Rattle.answer.specs.Refusals.{Test, _otherwise_, tested}
-use Rattle.answer.proofs.Tested.{Refusals, tested-all, tested-join, tested-fixed, tested-then, all-hold}
+use Rattle.answer.proofs.Tested.{Refusals, each-join, tested-all, tested-join, tested-fixed, tested-then, all-hold}
 use Rattle.matrix.specs.declared.Layout.{Layout}
 use Rattle.matrix.specs.Sizes.{sizeTests, Fits}
 use Rattle.matrix.proofs.Sizes.{sizes-refuse, fits-pass, done-fits, laid-fits}
@@ -112,10 +112,13 @@ columns-many y columns a b h = sym (test-fails _ _ _ (lt-leb columns 1024 h))
 
 -- ---- what is known where all tests hold
 
-words-accepted : (n run : ℕ) (words : List ℕ) → n ≤ 1024 → isDone (tested (wordTests n run words) Done) ≡ true → Accepted n words
+pub words-refuse : (n run : ℕ) (words : List ℕ) → Refusals (wordTests n run words)
+words-refuse n run words = (refl, (refl, (refl, (refl, tt))))
+
+pub words-accepted : (n run : ℕ) (words : List ℕ) → n ≤ 1024 → isDone (tested (wordTests n run words) Done) ≡ true → Accepted n words
 unfolding checked
 words-accepted n run words small done =
-    let h = all-hold (wordTests n run words) Done (refl, (refl, (refl, (refl, tt)))) done .0 in
+    let h = all-hold (wordTests n run words) Done (words-refuse n run words) done .0 in
     record {
       sized = record { order = small; total = eqb-true (length words) (wordsOf n) (h .0) };
       done = ap isDone (tested-all (recordTests n words) Done (h .1 .0, (h .1 .1 .0, tt)));
@@ -167,11 +170,12 @@ columns-done y columns run a words b done =
     }
 
 -- no test of a reader answers that all is done
-sides-refuse : (y : Layout) (columns : ℕ) (a b : List Float) → Refusals (sideTests y columns a b)
+pub sides-refuse : (y : Layout) (columns : ℕ) (a b : List Float) → Refusals (sideTests y columns a b)
 sides-refuse y columns a b = (refl, (refl, (refl, (refl, (refl, (refl, (refl, (refl, tt))))))))
 
 pub columns-refuse : (y : Layout) (columns run : ℕ) (a : List Float) (words : List ℕ) (b : List Float) → Refusals (columnTests y columns run a words b)
-columns-refuse y columns run a words b = (refl, (refl, (refl, (refl, (refl, (refl, (refl, (refl, (refl, (refl, (refl, (refl, tt))))))))))))
+columns-refuse y columns run a words b =
+    each-join (λ r. isDone r ≡ false) (sideTests y columns a b) (wordTests (y .order) run words) (sides-refuse y columns a b) (words-refuse (y .order) run words)
 
 -- ---- the tests of a slice of columns, then the record's
 

@@ -18,10 +18,12 @@ use Rattle.pivots.specs.Words.{markAt}
 use Rattle.lblt_solve_one.specs.Column.{solveColumn}
 use Rattle.lblt_read.specs.Calls.{columnTests}
 
--- a zero mark refuses `solve_mut` alone, after all else
+-- a zero mark refuses a solve alone, after all else
+abbrev pub markTests : ℕ → List ℕ → List Test
+markTests n words = (eqb (markAt n words) 0 otherwise ZeroMark (markAt n words - 1)) ∷ []
+
 abbrev pub solveTests : Layout → ℕ → ℕ → List Float → List ℕ → List Float → List Test
-solveTests y columns run a words b =
-    columnTests y columns run a words b ++ ((eqb (markAt (y .order) words) 0 otherwise ZeroMark (markAt (y .order) words - 1)) ∷ [])
+solveTests y columns run a words b = columnTests y columns run a words b ++ markTests (y .order) words
 
 pub record LbltSolved (y : Layout) (columns run : ℕ) (a : List Float) (words : List ℕ) (b : List Float) (r : Answer) (b' : List Float) : Type 0 where
   pub answer : r ≡ tested (solveTests y columns run a words b) Done

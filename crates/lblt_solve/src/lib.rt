@@ -1,13 +1,31 @@
 // `solve_mut` by an LBLT factor.
-mod sides;
+pub mod sides;
 
+ghost use mathlib.Core.Bool.{true, cond};
 ghost use mathlib.Core.Path.{_≡_};
 ghost use Rattle.answer.specs.declared.Answer.the-variants.{Done};
+ghost use Rattle.answer.specs.Number.{isDone};
 ghost use Rattle.answer.specs.Refusals.{tested};
 ghost use Rattle.matrix.specs.Layouts.{full};
-ghost use Rattle.lblt_solve.specs.Solve.{solveTests, LbltSolved};
+ghost use Rattle.pivots.specs.Rule.{Accepted};
+ghost use Rattle.lblt_solve.specs.Solve.{markTests, solveTests, LbltSolved};
 use answer::Answer;
 use matrix::Layout;
+
+// The mark, where a reader's tests are passed: `read` is their answer.
+pub fn check_mark(read: Answer, words: &[u32], n: usize) -> Answer
+    requires { ⌜ (isDone read ≡ true → Accepted n (now words)) ⌝ }
+    ensures { λ r. ⌜ r ≡ cond (isDone read) (tested (markTests n (now (words .entry))) Done) read ⌝ }
+{
+    if read.code() != 0 {
+        return read;
+    }
+    let mark = pivots::mark(words, n);
+    if mark == 0 {
+        return read;
+    }
+    Answer::ZeroMark((mark - 1) as u32)
+}
 
 // What a reader of a factor refuses, then a zero mark.
 fn check(y: Layout, columns: usize, a: &[f64], words: &[u32], b: &[f64], run: u32) -> Answer
@@ -15,14 +33,7 @@ fn check(y: Layout, columns: usize, a: &[f64], words: &[u32], b: &[f64], run: u3
 {
     let sizes = lblt_read::check_sides(y, columns, a, b);
     let read = lblt_read::check_record(sizes, words, y.order, run);
-    if read.code() != 0 {
-        return read;
-    }
-    let mark = pivots::mark(words, y.order);
-    if mark == 0 {
-        return read;
-    }
-    Answer::ZeroMark((mark - 1) as u32)
+    check_mark(read, words, y.order)
 }
 
 // Solves A x = b for each of the columns of b, n numbers a column.

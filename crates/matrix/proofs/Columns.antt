@@ -1,12 +1,14 @@
 -- Going over the columns of a slice.
 --     column-within, column-length    a column lies within the slice and has n numbers
+--     chosen-column, chosen-long      after all that are chosen: column j is f of what it was if it is chosen, else as it was
+--     chosen-all, chosen-not          a stretch of columns that all are chosen; a column that is not
 --     each-column, each-long          after all of them: column j is f of what it was, and nothing else
 --     columns-same                    slices with the same columns are the same
 --     each-same, each-none            two steps that agree on a column; no step
 --     each-after, each-then           two steps one after the other
 --     each-loop                       the turns of a loop
 --     one-column                      a slice of one column
-use mathlib.Core.Bool.{Bool, true, false}
+use mathlib.Core.Bool.{Bool, true, false, cond}
 use mathlib.Core.List.{List, _++_}
 use mathlib.Core.Logic.{_⊎_, inl, inr, ⊎-elim}
 use mathlib.Core.Path.{_≡_, refl, sym, ap, fun-ext, subst, _∙_}
@@ -19,8 +21,9 @@ use lib.Dec.{ltb}
 use lib.ListN.{length, take, drop, length-append, length-drop, take-append-drop}
 use lib.Seq.{length-take-le, take-at, drop-at, take-add, take-all, take-append-le, drop-append-le, drop-append-add, drop-drop}
 use Rattle.matrix.specs.Loop.{for}
-use Rattle.matrix.specs.Columns.{column, atColumn, eachColumn}
-use Rattle.matrix.proofs.Loops.{for-none, for-one, for-more}
+use Rattle.answer.proofs.Tests.{either}
+use Rattle.matrix.specs.Columns.{column, atColumn, eachColumn, atChosen, eachChosen}
+use Rattle.matrix.proofs.Loops.{for-none, for-one, for-more, for-same}
 use Rattle.matrix.proofs.ColumnsLoops.{Keeping, Keeps, Loop, Uniform}
 
 -- ---- where a column stands
@@ -103,46 +106,81 @@ module _ {A : Type 0} (n : ℕ) (f : List A → List A) (keeps : Keeping f) wher
     column-there : (i : ℕ) → (i ≡ j → ⊥) → column n i (atColumn n f j b) ≡ column n i b
     column-there i other = ⊎-elim (earlier i) (later i) (apart i j other)
 
+  -- ---- the columns that are chosen
+
+  module _ (chosen : ℕ → Bool) where
+    -- the first c columns are gone through, the others as they were
+    record Columned (b : List A) (c : ℕ) (l : List A) : Type 0 where
+      pub long : length l ≡ length b
+      pub done : (i : ℕ) → i < c → column n i l ≡ cond (chosen i) (f (column n i b)) (column n i b)
+      pub left : (i : ℕ) → c ≤ i → column n i l ≡ column n i b
+
+    module _ (columns : ℕ) (b : List A) (lined : length b ≡ n * columns) where
+      -- column c is gone through: l becomes l'
+      columned-more
+          : (c : ℕ) (l l' : List A) → Columned b c l → length l' ≡ length l
+          → column n c l' ≡ cond (chosen c) (f (column n c l)) (column n c l)
+          → ((i : ℕ) → (i ≡ c → ⊥) → column n i l' ≡ column n i l)
+          → Columned b (c + 1) l'
+      columned-more c l l' h long here there =
+          record {
+            long = long ∙ h .long;
+            done = λ i less.
+                ⊎-elim
+                (λ (e : i ≡ c). rw e (here ∙ ap (λ (x : List A). cond (chosen c) (f x) x) (h .left c (omega arith))))
+                (λ (lower : i < c). there i (λ (e : i ≡ c). omega arith) ∙ h .done i lower)
+                (eq-or-lt-of-le (let less' : i ≤ c = omega arith in less'));
+            left = λ i past. there i (λ (e : i ≡ c). omega arith) ∙ h .left i (omega arith);
+          }
+
+      columned-at : (c : ℕ) (l : List A) → c < columns → Columned b c l → Columned b (c + 1) (atChosen n chosen f c l)
+      unfolding atChosen
+      columned-at c l below h =
+          either (Columned b (c + 1)) (chosen c)
+          (λ e. columned-more c l (atColumn n f c l) h (at-long c l within) (rw e (column-here c l within)) (column-there c l within))
+          (λ e. columned-more c l l h refl (rw e refl) (λ i other. refl))
+        where
+          within : c * n + n ≤ length l
+          within = omega (arith, column-within n columns c below, h .long, lined)
+
+      columned : (c : ℕ) → c ≤ columns → Columned b c (for 0 c (atChosen n chosen f) b)
+      columned zero h =
+          subst (Columned b 0) (sym (for-none 0 (atChosen n chosen f) b))
+          (record { long = refl; done = λ i less. absurd (omega arith); left = λ i past. refl })
+      columned (suc c) h =
+          subst (λ m. Columned b m (for 0 m (atChosen n chosen f) b)) (add-one c)
+          (subst (Columned b (c + 1)) (sym (for-more 0 c (atChosen n chosen f) b (omega arith)))
+          (columned-at c (for 0 c (atChosen n chosen f) b) (omega arith) (columned c (omega arith))))
+
+      pub chosen-column : (j : ℕ) → j < columns → column n j (eachChosen n columns chosen f b) ≡ cond (chosen j) (f (column n j b)) (column n j b)
+      unfolding eachChosen
+      chosen-column j below = columned columns (omega arith) .done j below
+
+      pub chosen-long : length (eachChosen n columns chosen f b) ≡ length b
+      unfolding eachChosen
+      chosen-long = columned columns (omega arith) .long
+
   -- ---- all columns
 
-  -- the first c columns are done, the others as they were
-  record Columned (columns : ℕ) (b : List A) (c : ℕ) (l : List A) : Type 0 where
-    pub long : length l ≡ length b
-    pub done : (i : ℕ) → i < c → column n i l ≡ f (column n i b)
-    pub left : (i : ℕ) → c ≤ i → column n i l ≡ column n i b
-
   module _ (columns : ℕ) (b : List A) (lined : length b ≡ n * columns) where
-    columned-more : (c : ℕ) (l : List A) → c < columns → Columned columns b c l → Columned columns b (c + 1) (atColumn n f c l)
-    columned-more c l below h =
-        record {
-          long = at-long c l here ∙ h .long;
-          done = λ i less.
-              ⊎-elim
-              (λ (e : i ≡ c). rw e (column-here c l here ∙ ap f (h .left c (omega arith))))
-              (λ (lower : i < c). column-there c l here i (λ (e : i ≡ c). omega arith) ∙ h .done i lower)
-              (eq-or-lt-of-le (let less' : i ≤ c = omega arith in less'));
-          left = λ i past. column-there c l here i (λ (e : i ≡ c). omega arith) ∙ h .left i (omega arith);
-        }
-      where
-        here : c * n + n ≤ length l
-        here = omega (arith, column-within n columns c below, h .long, lined)
-
-    columned : (c : ℕ) → c ≤ columns → Columned columns b c (for 0 c (atColumn n f) b)
-    columned zero h =
-        subst (Columned columns b 0) (sym (for-none 0 (atColumn n f) b))
-        (record { long = refl; done = λ i less. absurd (omega arith); left = λ i past. refl })
-    columned (suc c) h =
-        subst (λ m. Columned columns b m (for 0 m (atColumn n f) b)) (add-one c)
-        (subst (Columned columns b (c + 1)) (sym (for-more 0 c (atColumn n f) b (omega arith)))
-        (columned-more c (for 0 c (atColumn n f) b) (omega arith) (columned c (omega arith))))
-
     pub each-column : (j : ℕ) → j < columns → column n j (eachColumn n columns f b) ≡ f (column n j b)
-    unfolding eachColumn
-    each-column j below = columned columns (omega arith) .done j below
+    unfolding eachColumn eachChosen atChosen
+    each-column j below = chosen-column (λ i. true) columns b lined j below
 
     pub each-long : length (eachColumn n columns f b) ≡ length b
-    unfolding eachColumn
-    each-long = columned columns (omega arith) .long
+    unfolding eachColumn eachChosen atChosen
+    each-long = chosen-long (λ i. true) columns b lined
+
+-- ---- a loop over the columns that are chosen
+
+module _ {A : Type 0} (n : ℕ) (chosen : ℕ → Bool) (f : List A → List A) where
+  pub chosen-all : (lo hi : ℕ) (b : List A) → ((i : ℕ) → lo ≤ i → i < hi → chosen i ≡ true) → for lo hi (atColumn n f) b ≡ for lo hi (atChosen n chosen f) b
+  unfolding atChosen
+  chosen-all lo hi b all = for-same lo hi (atColumn n f) (atChosen n chosen f) b (λ i l from upto. rw (all i from upto) refl)
+
+  pub chosen-not : (j : ℕ) (b : List A) → chosen j ≡ false → b ≡ for j (j + 1) (atChosen n chosen f) b
+  unfolding atChosen
+  chosen-not j b other = sym (for-one j (atChosen n chosen f) b ∙ rw other refl)
 
 -- ---- again and again
 

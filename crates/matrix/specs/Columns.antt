@@ -1,4 +1,5 @@
 -- A slice of columns, n numbers each, one after the other; numbers of any type.
+use mathlib.Core.Bool.{Bool, cond}
 use mathlib.Core.List.{List, _++_}
 use mathlib.Core.Path.{_≡_}
 use Prim.Native.Nat.{ℕ, _*_, _≤_}
@@ -23,6 +24,14 @@ atColumn n f j b = take (j * n) b ++ (f (column n j b) ++ drop n (drop (j * n) b
 unfoldable pub eachColumn : {A : Type 0} → ℕ → ℕ → (List A → List A) → List A → List A
 unfolding atColumn
 eachColumn n columns f b = for 0 columns (atColumn n f) b
+
+-- f applied to column j, if it is chosen
+unfoldable pub atChosen : {A : Type 0} → ℕ → (ℕ → Bool) → (List A → List A) → ℕ → List A → List A
+atChosen n chosen f j b = cond (chosen j) (atColumn n f j b) b
+
+-- f applied to each of the columns that are chosen
+unfoldable pub eachChosen : {A : Type 0} → ℕ → ℕ → (ℕ → Bool) → (List A → List A) → List A → List A
+eachChosen n columns chosen f b = for 0 columns (atChosen n chosen f) b
 
 -- a slice of columns of n numbers
 pub record Lined {A : Type 0} (n columns : ℕ) (b : List A) : Type 0 where

@@ -1,0 +1,2 @@
+pub mod Bench
+pub mod inner
