@@ -1,2 +1,5 @@
 pub mod Listed
 pub mod Stretches
+pub mod Once
+pub mod Unfelt
+pub mod Both

@@ -2,6 +2,7 @@
 --     list-fits, list-wrong   the list's length
 --     bench-answers           each part's answer where those before it are passed, else theirs: that of all tests
 --     as-solve                a list that fits: the answer of `solve_mut`
+--     list-refused            one that does not: the other slices', or 4
 --     bench-admitted          what is known where all tests hold
 --     bench-solved            the promise, where they do and each own column is solved
 use mathlib.Core.Bool.{true, false, cond}
@@ -67,6 +68,11 @@ module _ (y : Layout) (columns run : ℕ) (a : List Float) (words : List ℕ) (b
       tested-join (sideTests y columns a b) (listTests columns benches ++ rest) Done
       ∙ ap (tested (sideTests y columns a b)) (tested-join (listTests columns benches) rest Done ∙ list-passed columns benches fits (tested rest Done))
       ∙ sym (tested-join (sideTests y columns a b) rest Done)
+
+  pub list-refused : (length benches ≡ columns → ⊥) → tested (benchTests y columns run a words b benches) Done ≡ tested (sideTests y columns a b) SliceLength
+  list-refused other =
+      tested-join (sideTests y columns a b) (listTests columns benches ++ rest) Done
+      ∙ ap (tested (sideTests y columns a b)) (tested-at (listTests columns benches ++ rest) Done (here (ne-eqb (length benches) columns other) refl))
 
   pub bench-admitted : {r : Answer} → r ≡ tested (benchTests y columns run a words b benches) Done → isDone r ≡ true → (length benches ≡ columns) × Columned y columns a words b
   bench-admitted is done =

@@ -13,7 +13,7 @@ use Rattle.twins.specs.declared.Twin.{Twin}
 use Rattle.twins.specs.declared.Twin.the-variants.{Nothing, Pair, Refused}
 use Rattle.twins.specs.Number.{twinNumber}
 use Rattle.urgyelpat.specs.declared.Determined.{Determined}
-use Rattle.urgyelpat.specs.Calls.{LbltFactor, LbltSolve, LbltDeterminant, LbltD, LbltLPermuted}
+use Rattle.urgyelpat.specs.Calls.{LbltFactor, LbltSolve, LbltSolveBench, LbltDeterminant, LbltD, LbltLPermuted}
 use Rattle.urgyelpat.specs.Calls.{CholeskyExtend, CholeskySolve, CholeskyL, CholeskyUnpack, CholeskyDeterminant}
 use Rattle.urgyelpat.specs.Calls.{UduFactor, FirstTwinPair}
 use Rattle.urgyelpat.proofs.FactorPlaces as lblt
@@ -39,6 +39,9 @@ module _ {n run : ℕ} {a : List Float} {words : List ℕ} where
 
   pub lblt-solve-back : {columns : ℕ} {b b' : List Float} {r : ℕ} (c : LbltSolve n columns run a words b r b') → Back (c .below) r
   lblt-solve-back c = number-back (c .result) (readers.solved-within (c .given))
+
+  pub lblt-solve-bench-back : {columns bench : ℕ} {b b' : List Float} {benches : List ℕ} {r : ℕ} (c : LbltSolveBench n columns bench run a words b benches r b') → Back (c .below) r
+  lblt-solve-bench-back c = number-back (c .result) (readers.bench-within (c .given))
 
   pub lblt-determinant-back : {r : Determined} (c : LbltDeterminant n run a words r) → Back (c .below .answer) (r .answer)
   lblt-determinant-back c = number-back (ap (λ (d : Determined). d .answer) (c .result)) (readers.determined-within (c .given))

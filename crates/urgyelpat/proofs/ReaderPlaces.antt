@@ -1,7 +1,8 @@
 -- The places that the readers of an LBLT factor answer. Assumes nothing.
 use mathlib.Core.Bool.{Bool, true, false}
 use mathlib.Core.List.{List, [], _∷_}
-use mathlib.Core.Path.{_≡_, refl, sym, subst}
+use mathlib.Core.Logic.{⊎-elim}
+use mathlib.Core.Path.{_≡_, refl, sym, subst, _∙_}
 use Prim.Native.Nat.{ℕ, _-_, _*_, _≤_, _<_}
 use native.Mathlib.Omega.{arith}
 use borrow.Author.Tests.{leb-false, eqb-false}
@@ -12,7 +13,8 @@ use Rattle.answer.specs.declared.Answer.{Answer}
 use Rattle.answer.specs.declared.Answer.the-variants.{Done, OutOfRange, SliceLength, BadRecord, ZeroMark, OtherRun}
 use Rattle.answer.specs.declared.Valued.{Valued}
 use Rattle.answer.specs.Number.{isDone}
-use Rattle.answer.specs.Refusals.{Test, _otherwise_, tested}
+use Rattle.answer.specs.Refusals.{_otherwise_, tested}
+use Rattle.answer.proofs.Tests.{eq-or-ne}
 use Rattle.answer.proofs.Tested.{tested-join, tested-all, tested-fixed, all-hold}
 use Rattle.answer.proofs.Within.{Within, within-none, within-test}
 use Rattle.matrix.specs.declared.Layout.{Layout}
@@ -22,9 +24,11 @@ use Rattle.matrix.proofs.Sizes.{sizes-within}
 use Rattle.pivots.specs.Words.{markAt, runAt, wordsOf}
 use Rattle.pivots.specs.Rule.{faultOf, soundMark}
 use Rattle.pivots.proofs.Boundaries.{mark-row}
-use Rattle.lblt_read.specs.Calls.{wordTests, readerTests, columnTests, LbltDetermined, LbltFilled}
+use Rattle.lblt_read.specs.Calls.{wordTests, readerTests, sideTests, columnTests, LbltDetermined, LbltFilled}
 use Rattle.lblt_read.proofs.Admitted.{columns-done, columns-refuse}
-use Rattle.lblt_solve.specs.Solve.{solveTests, LbltSolved}
+use Rattle.lblt_solve.specs.Solve.{markTests, solveTests, LbltSolved}
+use Rattle.lblt_bench.specs.Bench.{BenchSolved}
+use Rattle.lblt_bench.proofs.Listed.{as-solve, list-refused}
 
 -- the record's tests answer a row, or the order
 record-within : (n run : ℕ) (words : List ℕ) → Within n (tested (wordTests n run words) Done)
@@ -46,25 +50,23 @@ reader-within y run a words =
     (sizes-within y 0 (length a) (tested (wordTests (y .order) run words) Done) (record-within (y .order) run words))
 
 module _ (y : Layout) (columns run : ℕ) (a : List Float) (words : List ℕ) (b : List Float) where
-  sides-within : Within (y .order) (tested ((eqb (length b) (y .order * columns) otherwise SliceLength) ∷ wordTests (y .order) run words) Done)
+  -- r comes after the tests of size
+  sides-within : (r : Answer) → Within (y .order) r → Within 1024 (tested (sideTests y columns a b) r)
   unfolding tested
-  sides-within =
-      within-test (y .order) (eqb (length b) (y .order * columns)) _ SliceLength (λ e. record-within (y .order) run words) (λ e. within-none (y .order))
-
-  columns-within : Within 1024 (tested (columnTests y columns run a words b) Done)
-  unfolding tested
-  columns-within =
+  sides-within r within =
       within-test 1024 (leb columns 1024) _ OutOfRange
       (λ e.
-      subst (Within 1024) (sym (tested-join (sizeTests y 0 (length a)) ((eqb (length b) (y .order * columns) otherwise SliceLength) ∷ wordTests (y .order) run words) Done))
-      (sizes-within y 0 (length a) _ sides-within))
+      subst (Within 1024) (sym (tested-join (sizeTests y 0 (length a)) ((eqb (length b) (y .order * columns) otherwise SliceLength) ∷ []) r))
+      (sizes-within y 0 (length a) _ (within-test (y .order) (eqb (length b) (y .order * columns)) r SliceLength (λ e. within) (λ e. within-none (y .order)))))
       (λ e. within-none 1024)
 
-  mark : Test
-  mark = eqb (markAt (y .order) words) 0 otherwise ZeroMark (markAt (y .order) words - 1)
+  columns-within : Within 1024 (tested (columnTests y columns run a words b) Done)
+  columns-within =
+      subst (Within 1024) (sym (tested-join (sideTests y columns a b) (wordTests (y .order) run words) Done))
+      (sides-within (tested (wordTests (y .order) run words) Done) (record-within (y .order) run words))
 
-  mark-within : isDone (tested (columnTests y columns run a words b) Done) ≡ true → Within 1024 (tested (mark ∷ []) Done)
-  unfolding tested mark
+  mark-within : isDone (tested (columnTests y columns run a words b) Done) ≡ true → Within 1024 (tested (markTests (y .order) words) Done)
+  unfolding tested
   mark-within done =
       within-test 1024 (eqb (markAt (y .order) words) 0) Done (ZeroMark (markAt (y .order) words - 1)) (λ e. within-none 1024)
       (λ e.
@@ -74,18 +76,27 @@ module _ (y : Layout) (columns run : ℕ) (a : List Float) (words : List ℕ) (b
       omega (arith, row, small))
 
   solve-within : Within 1024 (tested (solveTests y columns run a words b) Done)
-  unfolding mark
-  solve-within = subst (Within 1024) (sym (tested-join (columnTests y columns run a words b) (mark ∷ []) Done)) (by (isDone (tested (columnTests y columns run a words b) Done)) refl)
+  solve-within = subst (Within 1024) (sym (tested-join (columnTests y columns run a words b) (markTests (y .order) words) Done)) (by (isDone (tested (columnTests y columns run a words b) Done)) refl)
     where
-      by : (t : Bool) → isDone (tested (columnTests y columns run a words b) Done) ≡ t → Within 1024 (tested (columnTests y columns run a words b) (tested (mark ∷ []) Done))
+      by : (t : Bool) → isDone (tested (columnTests y columns run a words b) Done) ≡ t → Within 1024 (tested (columnTests y columns run a words b) (tested (markTests (y .order) words) Done))
       by true e =
           subst (Within 1024)
-          (sym (tested-all (columnTests y columns run a words b) (tested (mark ∷ []) Done) (all-hold (columnTests y columns run a words b) Done (columns-refuse y columns run a words b) e .0)))
+          (sym (tested-all (columnTests y columns run a words b) (tested (markTests (y .order) words) Done) (all-hold (columnTests y columns run a words b) Done (columns-refuse y columns run a words b) e .0)))
           (mark-within e)
-      by false e = subst (Within 1024) (sym (tested-fixed (columnTests y columns run a words b) (tested (mark ∷ []) Done) e)) columns-within
+      by false e = subst (Within 1024) (sym (tested-fixed (columnTests y columns run a words b) (tested (markTests (y .order) words) Done) e)) columns-within
 
 pub solved-within : {y : Layout} {columns run : ℕ} {a : List Float} {words : List ℕ} {b b' : List Float} {r : Answer} → LbltSolved y columns run a words b r b' → Within 1024 r
 solved-within {y} {columns} {run} {a} {words} {b} x = subst (Within 1024) (sym (x .answer)) (solve-within y columns run a words b)
+
+-- a list that does not fit is refused by its length; with one that does the answer is that of a solve
+pub bench-within
+    : {y : Layout} {columns bench run : ℕ} {a : List Float} {words : List ℕ} {b b' : List Float} {benches : List ℕ} {r : Answer}
+    → BenchSolved y columns bench run a words b benches r b' → Within 1024 r
+bench-within {y} {columns} {bench} {run} {a} {words} {b} {benches = benches} x =
+    ⊎-elim
+    (λ (fits : length benches ≡ columns). subst (Within 1024) (sym (x .answer ∙ as-solve y columns run a words b benches fits)) (solve-within y columns run a words b))
+    (λ (other : length benches ≡ columns → ⊥). subst (Within 1024) (sym (x .answer ∙ list-refused y columns run a words b benches other)) (sides-within y columns run a words b SliceLength (within-none (y .order))))
+    (eq-or-ne (length benches) columns)
 
 pub determined-within : {y : Layout} {run : ℕ} {a : List Float} {words : List ℕ} {r : Valued} → LbltDetermined y run a words r → Within 1024 (r .answer)
 determined-within {y} {run} {a} {words} x = subst (Within 1024) (sym (x .answer)) (reader-within y run a words)

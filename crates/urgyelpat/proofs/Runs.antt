@@ -1,5 +1,5 @@
 -- A record that a factor call made with a run number, in a later call whose slices fit, whatever numbers they hold: one that expects this number accepts
--- it (solve then goes on to the mark), one that expects another answers 13, place 0, and writes nothing. Assumes nothing.
+-- it (a solve then goes on to the mark), one that expects another answers 13, place 0, and writes nothing. Assumes nothing.
 use mathlib.Core.Bool.{true}
 use mathlib.Core.List.{List}
 use mathlib.Core.Path.{_≡_, refl, sym, ap, _∙_}
@@ -9,7 +9,7 @@ use borrow.Author.Tests.{eq-eqb}
 use lib.Ieee.{Float}
 use lib.ListN.{length}
 use Rattle.answer.specs.declared.Answer.{Answer}
-use Rattle.answer.specs.declared.Answer.the-variants.{Done, OtherRun}
+use Rattle.answer.specs.declared.Answer.the-variants.{Done, ZeroMark, OtherRun}
 use Rattle.answer.specs.Number.{codeOf, isDone, numberOf}
 use Rattle.answer.specs.Refusals.{tested}
 use Rattle.matrix.specs.Layouts.{full}
@@ -22,10 +22,12 @@ use Rattle.pivots.specs.Rule.{Accepted}
 use Rattle.lblt.proofs.Accepted.{factor-accepted, factor-run}
 use Rattle.lblt_read.specs.Calls.{columnTests, LbltFilled}
 use Rattle.lblt_read.proofs.Runs.{reader-expected, reader-other, columns-expected, columns-other}
-use Rattle.lblt_solve.proofs.Marked.{solve-refused, solve-done, solve-marked}
+use Rattle.lblt_solve.specs.Solve.{solveTests}
+use Rattle.lblt_solve.proofs.Marked.{unmarked, marked, solve-answers}
+use Rattle.lblt_bench.proofs.Listed.{as-solve}
 use Rattle.urgyelpat.specs.declared.Determined.{Determined}
 use Rattle.urgyelpat.specs.Passed.{Passed}
-use Rattle.urgyelpat.specs.Calls.{LbltFactor, LbltSolve, LbltDeterminant, LbltD, LbltLPermuted}
+use Rattle.urgyelpat.specs.Calls.{LbltFactor, LbltSolve, LbltSolveBench, LbltDeterminant, LbltD, LbltLPermuted}
 
 abbrev pub refusedByRun : ℕ
 refusedByRun = 13 * 4096
@@ -69,16 +71,32 @@ module _ {n run : ℕ} {a a' : List Float} {words words' : List ℕ} (made : Lbl
       pub l-permuted-accepts : LbltLPermuted n run m words' f r f' → r ≡ 0
       l-permuted-accepts c = filled-accepts c
 
-    module _ (columns : ℕ) (few : columns ≤ 1024) (b : List Float) (long : length b ≡ n * columns) {r : ℕ} {b' : List Float} (c : LbltSolve n columns run m words' b r b') where
+    module _ (columns : ℕ) (few : columns ≤ 1024) (b : List Float) (long : length b ≡ n * columns) where
       solve-read : Done ≡ tested (columnTests (full n) columns run m words' b) Done
       solve-read = columns-expected (full n) run m words' fits accepted columns few b long stamp
 
-      -- solve goes on to the mark
-      pub solve-accepts : markAt n words' ≡ 0 → r ≡ 0
-      solve-accepts none = c .result ∙ ap numberOf (c .given .answer ∙ sym (solve-done (full n) columns run m words' b solve-read refl refl none))
+      -- a solve goes on to the mark
 
-      pub solve-finds-mark : (markAt n words' ≡ 0 → ⊥) → r ≡ 6 * 4096 + (markAt n words' - 1)
-      solve-finds-mark set = c .result ∙ ap numberOf (c .given .answer ∙ sym (solve-marked (full n) columns run m words' b solve-read refl refl set))
+      unmarked-done : markAt n words' ≡ 0 → Done ≡ tested (solveTests (full n) columns run m words' b) Done
+      unmarked-done none = solve-answers (full n) columns run m words' b solve-read (unmarked n words' refl none)
+
+      mark-found : (markAt n words' ≡ 0 → ⊥) → ZeroMark (markAt n words' - 1) ≡ tested (solveTests (full n) columns run m words' b) Done
+      mark-found set = solve-answers (full n) columns run m words' b solve-read (marked n words' refl set)
+
+      module _ {r : ℕ} {b' : List Float} (c : LbltSolve n columns run m words' b r b') where
+        pub solve-accepts : markAt n words' ≡ 0 → r ≡ 0
+        solve-accepts none = c .result ∙ ap numberOf (c .given .answer ∙ sym (unmarked-done none))
+
+        pub solve-finds-mark : (markAt n words' ≡ 0 → ⊥) → r ≡ 6 * 4096 + (markAt n words' - 1)
+        solve-finds-mark set = c .result ∙ ap numberOf (c .given .answer ∙ sym (mark-found set))
+
+      -- whichever columns are the bench's, if any
+      module _ (benches : List ℕ) (each : length benches ≡ columns) {bench r : ℕ} {b' : List Float} (c : LbltSolveBench n columns bench run m words' b benches r b') where
+        pub bench-accepts : markAt n words' ≡ 0 → r ≡ 0
+        bench-accepts none = c .result ∙ ap numberOf (c .given .answer ∙ as-solve (full n) columns run m words' b benches each ∙ sym (unmarked-done none))
+
+        pub bench-finds-mark : (markAt n words' ≡ 0 → ⊥) → r ≡ 6 * 4096 + (markAt n words' - 1)
+        bench-finds-mark set = c .result ∙ ap numberOf (c .given .answer ∙ as-solve (full n) columns run m words' b benches each ∙ sym (mark-found set))
 
     -- ---- another number
 
@@ -104,8 +122,16 @@ module _ {n run : ℕ} {a a' : List Float} {words words' : List ℕ} (made : Lbl
         l-permuted-refuses c = filled-refuses c
 
       -- a marked record too
-      pub solve-refuses : (columns : ℕ) → columns ≤ 1024 → (b : List Float) → length b ≡ n * columns → {r : ℕ} {b' : List Float} → LbltSolve n columns expected m words' b r b' → (r ≡ refusedByRun) × (b' ≡ b)
-      solve-refuses columns few b long c =
-          let read = columns-other (full n) expected m words' fits accepted columns few b long not-stamped in
-          let is : c .below ≡ OtherRun = c .given .answer ∙ sym (solve-refused (full n) columns expected m words' b read refl) in
-          (c .result ∙ ap numberOf is, c .given .sides ∙ rw is)
+      module _ (columns : ℕ) (few : columns ≤ 1024) (b : List Float) (long : length b ≡ n * columns) where
+        other-run : OtherRun ≡ tested (solveTests (full n) columns expected m words' b) Done
+        other-run = solve-answers (full n) columns expected m words' b (columns-other (full n) expected m words' fits accepted columns few b long not-stamped) refl
+
+        pub solve-refuses : {r : ℕ} {b' : List Float} → LbltSolve n columns expected m words' b r b' → (r ≡ refusedByRun) × (b' ≡ b)
+        solve-refuses c =
+            let is : c .below ≡ OtherRun = c .given .answer ∙ sym other-run in
+            (c .result ∙ ap numberOf is, c .given .sides ∙ rw is)
+
+        pub bench-refuses : (benches : List ℕ) → length benches ≡ columns → {bench r : ℕ} {b' : List Float} → LbltSolveBench n columns bench expected m words' b benches r b' → (r ≡ refusedByRun) × (b' ≡ b)
+        bench-refuses benches each c =
+            let is : c .below ≡ OtherRun = c .given .answer ∙ as-solve (full n) columns expected m words' b benches each ∙ sym other-run in
+            (c .result ∙ ap numberOf is, c .given .sides ∙ rw is)

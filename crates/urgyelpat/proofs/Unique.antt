@@ -8,6 +8,7 @@ use Rattle.answer.specs.declared.Valued.{Valued}
 use Rattle.lblt.proofs.Done as lblt
 use Rattle.lblt_read.proofs.Once.{determined-once, filled-once}
 use Rattle.lblt_solve.proofs.Once.{solved-once}
+use Rattle.lblt_bench.proofs.Once.{bench-once}
 use Rattle.cholesky.proofs.Promises.{extended-unique}
 use Rattle.cholesky.proofs.SolvePromises.{solved-unique}
 use Rattle.cholesky.proofs.ReaderPromises.{determined-unique, copied-unique, unpacked-unique}
@@ -15,7 +16,7 @@ use Rattle.udu.proofs.Unique as udu
 use Rattle.twins.proofs.Unique.{first-twin-since-unique}
 use Rattle.urgyelpat.specs.declared.Determined.{Determined}
 use Rattle.urgyelpat.specs.Passed.{Passed}
-use Rattle.urgyelpat.specs.Calls.{LbltFactor, LbltSolve, LbltDeterminant, LbltD, LbltLPermuted}
+use Rattle.urgyelpat.specs.Calls.{LbltFactor, LbltSolve, LbltSolveBench, LbltDeterminant, LbltD, LbltLPermuted}
 use Rattle.urgyelpat.specs.Calls.{CholeskyExtend, CholeskySolve, CholeskyL, CholeskyUnpack, CholeskyDeterminant}
 use Rattle.urgyelpat.specs.Calls.{UduFactor, FirstTwinPair}
 
@@ -40,6 +41,14 @@ module _ {n run : ℕ} {a : List Float} {words : List ℕ} where
   pub lblt-solve-unique : {columns : ℕ} {b b₁ b₂ : List Float} {r s : ℕ} → LbltSolve n columns run a words b r b₁ → LbltSolve n columns run a words b s b₂ → (r ≡ s) × (b₁ ≡ b₂)
   lblt-solve-unique p q =
       let same = solved-once (p .given) (q .given) in
+      (passed-same p q (same .0), same .1)
+
+  pub lblt-solve-bench-unique
+      : {columns bench : ℕ} {b b₁ b₂ : List Float} {benches : List ℕ} {r s : ℕ}
+      → LbltSolveBench n columns bench run a words b benches r b₁ → LbltSolveBench n columns bench run a words b benches s b₂
+      → (r ≡ s) × (b₁ ≡ b₂)
+  lblt-solve-bench-unique p q =
+      let same = bench-once (p .given) (q .given) in
       (passed-same p q (same .0), same .1)
 
   pub lblt-determinant-unique : {r s : Determined} → LbltDeterminant n run a words r → LbltDeterminant n run a words s → r ≡ s

@@ -11,6 +11,7 @@ use Rattle.lblt_read.specs.Calls.{LbltDetermined, LbltFilled}
 use Rattle.lblt_read.specs.Diagonal.{dOf}
 use Rattle.lblt_read.specs.Permuted.{lPermutedOf}
 use Rattle.lblt_solve.specs.Solve.{LbltSolved}
+use Rattle.lblt_bench.specs.Bench.{BenchSolved}
 use Rattle.cholesky.specs.Promise.{Extended}
 use Rattle.cholesky.specs.Readers.{Copied, Unpacked, CholeskyDetermined}
 use Rattle.cholesky.specs.Solve.{CholeskySolved}
@@ -27,6 +28,9 @@ LbltFactor n run a words r a' words' = Passed numberOf (λ (answer : Answer). lb
 
 abbrev pub LbltSolve : ℕ → ℕ → ℕ → List Float → List ℕ → List Float → ℕ → List Float → Type 0
 LbltSolve n columns run a words b r b' = Passed numberOf (λ (answer : Answer). LbltSolved (full n) columns run a words b answer b') r
+
+abbrev pub LbltSolveBench : ℕ → ℕ → ℕ → ℕ → List Float → List ℕ → List Float → List ℕ → ℕ → List Float → Type 0
+LbltSolveBench n columns bench run a words b benches r b' = Passed numberOf (λ (answer : Answer). BenchSolved (full n) columns bench run a words b benches answer b') r
 
 abbrev pub LbltDeterminant : ℕ → ℕ → List Float → List ℕ → Determined → Type 0
 LbltDeterminant n run a words r = Passed determinedOf (LbltDetermined (full n) run a words) r

@@ -1,7 +1,7 @@
 // The calls through the C convention: a slice is a pointer and then a length, an answer is one number, code·4,096 + place.
 ghost use mathlib.Core.Path.{_≡_};
 ghost use Rattle.urgyelpat.specs.Passed.{determinedOf};
-ghost use Rattle.urgyelpat.specs.Calls.{LbltFactor, LbltSolve, LbltDeterminant, LbltD, LbltLPermuted};
+ghost use Rattle.urgyelpat.specs.Calls.{LbltFactor, LbltSolve, LbltSolveBench, LbltDeterminant, LbltD, LbltLPermuted};
 ghost use Rattle.urgyelpat.specs.Calls.{CholeskyExtend, CholeskySolve, CholeskyL, CholeskyUnpack, CholeskyDeterminant};
 ghost use Rattle.urgyelpat.specs.Calls.{UduFactor, FirstTwinPair};
 use answer::Valued;
@@ -47,6 +47,23 @@ pub extern "C" fn urgyelpat_lblt_solve(
     ensures { λ r. ⌜ LbltSolve n columns run (now (a .entry)) (now («record» .entry)) (now (b .entry)) r (now (b .exit)) ⌝ }
 {
     lblt_solve::solve_mut(a, record, b, n, columns, run).number()
+}
+
+// The columns of b whose number in `benches` is `bench`.
+#[no_mangle]
+pub extern "C" fn urgyelpat_lblt_solve_bench(
+    a: &[f64],
+    record: &[u32],
+    b: &mut [f64],
+    benches: &[u32],
+    n: usize,
+    columns: usize,
+    bench: u32,
+    run: u32,
+) -> u64
+    ensures { λ r. ⌜ LbltSolveBench n columns bench run (now (a .entry)) (now («record» .entry)) (now (b .entry)) (now (benches .entry)) r (now (b .exit)) ⌝ }
+{
+    lblt_bench::solve_bench(a, record, b, benches, n, columns, bench, run).number()
 }
 
 #[no_mangle]
