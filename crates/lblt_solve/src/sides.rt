@@ -1,7 +1,7 @@
-// The columns of `solve_mut`: few of them one by one; else four at a time, or row by row where the order is small.
+// The columns of a solve: few of them one by one, else together.
 ghost use mathlib.Core.Path.{_≡_};
 ghost use Rattle.matrix.specs.Grid.{load};
-ghost use Rattle.matrix.specs.Layouts.{lower};
+ghost use Rattle.matrix.specs.Layouts.{full, lower};
 ghost use Rattle.matrix.specs.Columns.{eachColumn, Lined};
 ghost use Rattle.lblt_solve_one.specs.Column.{solveColumn};
 ghost use Rattle.lblt_solve_one.specs.inner.Engine.{Readable};
@@ -13,17 +13,30 @@ use matrix::Layout;
 pub fn solve(y: Layout, a: &[f64], words: &[u32], b: &mut [f64], columns: usize)
     requires { ⌜ Readable y (now a) (now words) ⌝ }
     requires { ⌜ Lined (y .order) columns (now b) ⌝ }
+    requires { ⌜ y ≡ full (y .order) ⌝ }
     ensures { λ _. ⌜ now (b .exit) ≡ eachColumn (y .order) columns (solveColumn (y .order) (load (lower y) (now (a .entry))) (now (words .entry))) (now (b .entry)) ⌝ }
 {
     if columns < 4 {
         solve_columns(y, a, words, b, columns);
         return;
     }
+    together(y, a, words, b, columns);
+}
+
+// Four at a time, or row by row where the order is small.
+pub fn together(y: Layout, a: &[f64], words: &[u32], b: &mut [f64], columns: usize)
+    requires { ⌜ Readable y (now a) (now words) ⌝ }
+    requires { ⌜ Lined (y .order) columns (now b) ⌝ }
+    requires { ⌜ y ≡ full (y .order) ⌝ }
+    ensures { λ _. ⌜ now (b .exit) ≡ eachColumn (y .order) columns (solveColumn (y .order) (load (lower y) (now (a .entry))) (now (words .entry))) (now (b .entry)) ⌝ }
+{
+    // the same layout, with its room known to the compiler
+    let z = Layout::full(y.order);
     // just four columns are one group of four, which pays from order 5 on
     let small = if columns == 4 { 5 } else { 8 };
-    if y.order < small {
-        solve_rows(y, a, words, b, columns);
+    if z.order < small {
+        solve_rows(z, a, words, b, columns);
         return;
     }
-    solve_fours(y, a, words, b, columns);
+    solve_fours(z, a, words, b, columns);
 }

@@ -1,7 +1,7 @@
 -- Going over the columns of a slice.
 --     column-within, column-length    a column lies within the slice and has n numbers
 --     chosen-column, chosen-long      after all that are chosen: column j is f of what it was if it is chosen, else as it was
---     chosen-all, chosen-not          a stretch of columns that all are chosen; a column that is not
+--     chosen-all, chosen-none         a stretch of columns that all are chosen, or none of them
 --     each-column, each-long          after all of them: column j is f of what it was, and nothing else
 --     columns-same                    slices with the same columns are the same
 --     each-same, each-none            two steps that agree on a column; no step
@@ -23,7 +23,7 @@ use lib.Seq.{length-take-le, take-at, drop-at, take-add, take-all, take-append-l
 use Rattle.matrix.specs.Loop.{for}
 use Rattle.answer.proofs.Tests.{either}
 use Rattle.matrix.specs.Columns.{column, atColumn, eachColumn, atChosen, eachChosen}
-use Rattle.matrix.proofs.Loops.{for-none, for-one, for-more, for-same}
+use Rattle.matrix.proofs.Loops.{for-none, for-one, for-more, for-still, for-same}
 use Rattle.matrix.proofs.ColumnsLoops.{Keeping, Keeps, Loop, Uniform}
 
 -- ---- where a column stands
@@ -178,9 +178,9 @@ module _ {A : Type 0} (n : ℕ) (chosen : ℕ → Bool) (f : List A → List A) 
   unfolding atChosen
   chosen-all lo hi b all = for-same lo hi (atColumn n f) (atChosen n chosen f) b (λ i l from upto. rw (all i from upto) refl)
 
-  pub chosen-not : (j : ℕ) (b : List A) → chosen j ≡ false → b ≡ for j (j + 1) (atChosen n chosen f) b
+  pub chosen-none : (lo hi : ℕ) (b : List A) → ((i : ℕ) → lo ≤ i → i < hi → chosen i ≡ false) → b ≡ for lo hi (atChosen n chosen f) b
   unfolding atChosen
-  chosen-not j b other = sym (for-one j (atChosen n chosen f) b ∙ rw other refl)
+  chosen-none lo hi b none = sym (for-still (λ (l : List A). l) lo hi (atChosen n chosen f) b (λ i l from upto. rw (none i from upto) refl))
 
 -- ---- again and again
 

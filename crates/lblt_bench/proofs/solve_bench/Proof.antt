@@ -1,4 +1,5 @@
 -- `solve_bench` solves the bench's columns where its checks admit it, and leaves all as it was where they do not.
+use mathlib.Core.Path.{refl}
 use Rattle.answer.proofs.Done.{code-done, code-refused}
 use Rattle.matrix.specs.Layouts.{full}
 use Rattle.lblt_bench.proofs.Listed.{bench-admitted, bench-solved}
@@ -26,7 +27,7 @@ solve-requires : tie.Need-solve-requires
 solve-requires c κs =
     let args = c .before .before .before .before .before .before .before .before .before .before .args in
     let known = bench-admitted (full (args .n)) (args .columns) (args .run) (args .a .now) (args .words .now) (args .b .now) (args .benches .now) (rw (c .before .before .before .before .before .full .ensures) at (c .before .before .before .check .ensures)) (code-done (c .before .before .before .check .result) (c .before .before .code .ensures) (c .before .if1 .left)) in
-    rw (c .before .before .before .before .before .full .ensures, known .0) (known .1 .readable, record { few = known .1 .few; long = known .1 .long })
+    rw (c .before .before .before .before .before .full .ensures, known .0) (known .1 .readable, (record { few = known .1 .few; long = known .1 .long }, refl))
 
 same-length-2 : tie.Need-same-length-2
 same-length-2 c = search needs

@@ -1,4 +1,5 @@
 -- `solve_mut` solves where its checks admit it, and leaves all as it was where they do not.
+use mathlib.Core.Path.{refl}
 use Rattle.answer.proofs.Done.{code-done, code-refused}
 use Rattle.matrix.specs.Layouts.{full}
 use Rattle.lblt_solve.proofs.Marked.{solver-admitted}
@@ -28,7 +29,7 @@ solve-requires c κs =
     let given = c .before .before .before .before .before .before .before .before .before in
     let full-step = c .before .before .before .before .before .full in
     let known = solver-admitted (full (given .args .n)) (given .args .columns) (given .args .run) (given .args .a .now) (given .args .words .now) (given .args .b .now) (rw (full-step .ensures) at (c .before .before .before .check .ensures)) (code-done (c .before .before .before .check .result) (c .before .before .code .ensures) (c .before .if1 .left)) in
-    rw (full-step .ensures) (known .readable, record { few = known .few; long = known .long })
+    rw (full-step .ensures) (known .readable, (record { few = known .few; long = known .long }, refl))
 
 same-length-2 : tie.Need-same-length-2
 same-length-2 c = search needs

@@ -24,7 +24,8 @@ loop-holds : tie.Need-loop-holds Inv-loop μ-loop
 loop-holds c = turning-none (omega arith)
 
 solve-from-requires : tie.Need-solve-from-requires Inv-loop μ-loop
-solve-from-requires c κs = (c .before .before .before .before .before .before .before .pre .0, (record { few = c .before .before .before .before .before .before .before .pre .1 .few; long = c .before .before .loop .inv .long ∙ c .before .before .before .before .before .before .before .pre .1 .long }, c .before .loop-test .taken))
+solve-from-requires c κs =
+    (c .before .before .before .before .before .before .before .pre .0, (record { few = c .before .before .before .before .before .before .before .pre .1 .0 .few; long = c .before .before .loop .inv .long ∙ c .before .before .before .before .before .before .before .pre .1 .0 .long }, (c .before .loop-test .taken, c .before .before .before .before .before .before .before .pre .1 .1)))
 
 loop-less : tie.Need-loop-less Inv-loop μ-loop
 loop-less c = omega (arith, c .before .before .solve-from .ensures .onward, c .before .before .before .before .loop-test .taken)

@@ -12,7 +12,7 @@ end-small : (c : tie.After-slice-known) → c .before .before .before .args .j *
 end-small c =
     let pre = c .before .before .before .pre in
     let args = c .before .before .before .args in
-    group-small (pre .1 .0) (args .j) (args .count) (pre .1 .1) (omega (arith, pre .0 .factor .roomy))
+    group-small (pre .1 .0) (args .j) (args .count) (pre .1 .1 .0) (omega (arith, pre .0 .factor .roomy))
 
 mul-at : tie.Need-mul-at
 mul-at c = omega (arith, end-small c)
@@ -23,27 +23,27 @@ mul-end c = omega (arith, end-small c)
 add-end : tie.Need-add-end
 add-end c = omega (arith, end-small c)
 
-mul-solve : tie.Need-mul-solve
-mul-solve c = omega (arith, end-small c)
+mul-together : tie.Need-mul-together
+mul-together c = omega (arith, end-small c)
 
-sub-solve : tie.Need-sub-solve
-sub-solve c = search needs
+sub-together : tie.Need-sub-together
+sub-together c = search needs
 
-part-solve-start : tie.Need-part-solve-start
-part-solve-start c = search needs
+part-together-start : tie.Need-part-together-start
+part-together-start c = search needs
 
-part-solve-end : tie.Need-part-solve-end
-part-solve-end c = group-within (c .before .before .before .pre .1 .0) (c .before .before .before .args .j) (c .before .before .before .args .count) (c .before .before .before .pre .1 .1)
+part-together-end : tie.Need-part-together-end
+part-together-end c = group-within (c .before .before .before .pre .1 .0) (c .before .before .before .args .j) (c .before .before .before .args .count) (c .before .before .before .pre .1 .1 .0)
 
-solve-requires : tie.Need-solve-requires
-solve-requires c κs =
-    (c .before .before .before .before .pre .0, record { few = omega (arith, c .before .before .before .before .pre .1 .1, c .before .before .before .before .pre .1 .0 .few); long = group-long (c .before .before .before .before .pre .1 .0) (c .before .before .before .before .args .j) (c .before .before .before .before .args .count) (c .before .before .before .before .pre .1 .1) })
+together-requires : tie.Need-together-requires
+together-requires c κs =
+    (c .before .before .before .before .pre .0, (record { few = omega (arith, c .before .before .before .before .pre .1 .1 .0, c .before .before .before .before .pre .1 .0 .few); long = group-long (c .before .before .before .before .pre .1 .0) (c .before .before .before .before .args .j) (c .before .before .before .before .args .count) (c .before .before .before .before .pre .1 .1 .0) }, c .before .before .before .before .pre .1 .1 .1))
 
 same-length : tie.Need-same-length
 same-length c = search needs
 
 returns : tie.Need-returns
-returns c = group-put _ _ (solve-keeps _ _ _) (c .before .before .before .before .before .before .before .pre .1 .0) _ _ (c .before .before .before .before .before .before .before .pre .1 .1) (c .before .before .solve .ensures)
+returns c = group-put _ _ (solve-keeps _ _ _) (c .before .before .before .before .before .before .before .pre .1 .0) _ _ (c .before .before .before .before .before .before .before .pre .1 .1 .0) (c .before .before .together .ensures)
 
 pub solve-stretch-spec : {M : Type 1} → statement M
 solve-stretch-spec =
@@ -52,10 +52,10 @@ solve-stretch-spec =
     mul-at
     mul-end
     add-end
-    mul-solve
-    sub-solve
-    part-solve-start
-    part-solve-end
-    solve-requires
+    mul-together
+    sub-together
+    part-together-start
+    part-together-end
+    together-requires
     same-length
     returns)
