@@ -21,7 +21,7 @@ use Rattle.lblt_pivot.specs.Pivot.{pivot1, pivot2}
 use Rattle.lblt.specs.Step.{stepped, step, take, firstMark}
 use Rattle.lblt_pivot.specs.Update.{rank1At, rank1, scaleAt, eliminate1, update1, blockBy, blockAt, multiplier, work1, work2, rank2At, rank2By, rank2, update2}
 use Rattle.pivots.specs.Blocks.{bySize, rowsOf, blocksFrom, forwards, blocksTo, backwards}
-use Rattle.matrix.specs.Columns.{eachColumn}
+use Rattle.matrix.specs.Columns.{eachColumn, eachChosen, atChosen, atColumn, column}
 use Rattle.substitution_one.specs.Steps.{lessOne, lessTwo, eliminateOne, eliminateTwo, divideOne, lessProduct, gatherRow}
 use Rattle.lblt_solve_one.specs.Column.{swapRows, forwardBlock, blockDeterminant, divideTwo, divideBlock, backwardBlock, solveColumn}
 use Rattle.lblt_read.specs.Diagonal.{timesBlock, determinantOf}
@@ -35,7 +35,7 @@ use Rattle.cases.specs.Calls.{floats, bitsOf, Gives, Case, Hold, none, m
 use Rattle.cases.specs.Table.{table}
 use Rattle.cases.specs.Twins.{twinTable}
 use Rattle.matrix.proofs.Slices.{listed, overlay, overlaid}
-use Rattle.cases.proofs.Found.{found, gives, lbltWords, lbltSlice, determinantNumbers, solveNumbers, choleskyAnswer, choleskySlice, choleskySolveNumbers, uduNumbers}
+use Rattle.cases.proofs.Found.{found, gives, lbltWords, lbltSlice, determinantNumbers, solveNumbers, benchNumbers, choleskyAnswer, choleskySlice, choleskySolveNumbers, uduNumbers}
 
 abbrev foundIn : Case → List (List ℕ)
 foundIn c = found (c .call)
@@ -48,7 +48,7 @@ hold [] e = none
 hold (c ∷ cs) e = more c cs (subst (Gives (c .call)) (ap (λ (l : List (List (List ℕ))). getD l 0 []) e) (gives (c .call))) (hold cs (ap (drop 1) e))
 
 computed : map foundIn (table ++ twinTable) ≡ map numbersIn (table ++ twinTable)
-unfolding tested sizeOf ofBits toBits le sub mul div isNan absOf maximumOf rootOf exchange for falling load mask lower upper square paired marked stamped blockOf faultFrom checked choose choiceBy contest rowMax alongRow downColumn columnMax greater firstState finalState recorded interchange brought1 brought2 stepped step take pivot1 pivot2 firstMark rank1At rank1 scaleAt eliminate1 update1 blockBy blockAt multiplier work1 work2 rank2At rank2By rank2 update2 bySize rowsOf blocksFrom forwards blocksTo backwards swapRows lessOne lessTwo eliminateOne eliminateTwo forwardBlock divideOne blockDeterminant divideTwo divideBlock lessProduct gatherRow backwardBlock solveColumn eachColumn timesBlock determinantOf answerTo factorColumns solveSides solveTriangles uduDiagonal uduEntry withDiagonal withColumn nothing uduOf floats bitsOf listed overlay overlaid lbltWords lbltSlice determinantNumbers solveNumbers choleskyAnswer choleskySlice choleskySolveNumbers uduNumbers
+unfolding tested sizeOf ofBits toBits le sub mul div isNan absOf maximumOf rootOf exchange for falling load mask lower upper square paired marked stamped blockOf faultFrom checked choose choiceBy contest rowMax alongRow downColumn columnMax greater firstState finalState recorded interchange brought1 brought2 stepped step take pivot1 pivot2 firstMark rank1At rank1 scaleAt eliminate1 update1 blockBy blockAt multiplier work1 work2 rank2At rank2By rank2 update2 bySize rowsOf blocksFrom forwards blocksTo backwards swapRows lessOne lessTwo eliminateOne eliminateTwo forwardBlock divideOne blockDeterminant divideTwo divideBlock lessProduct gatherRow backwardBlock solveColumn eachColumn eachChosen atChosen atColumn column timesBlock determinantOf answerTo factorColumns solveSides solveTriangles uduDiagonal uduEntry withDiagonal withColumn nothing uduOf floats bitsOf listed overlay overlaid lbltWords lbltSlice determinantNumbers solveNumbers benchNumbers choleskyAnswer choleskySlice choleskySolveNumbers uduNumbers
 computed = refl
 
 -- document 01's starred cases and those beside them, and twin rows

@@ -20,15 +20,16 @@ use Rattle.matrix.proofs.Sizes.{done-fits}
 use Rattle.lblt_choice.specs.Choice.{columnMax}
 use Rattle.lblt.specs.Factor.{factorTests, finalState, recorded, Factored}
 use Rattle.lblt.proofs.Done.{Same}
-use Rattle.matrix.specs.Columns.{eachColumn}
+use Rattle.matrix.specs.Columns.{eachColumn, eachChosen}
 use Rattle.lblt_solve_one.specs.Column.{solveColumn}
 use Rattle.lblt_read.specs.Diagonal.{determinantOf}
 use Rattle.lblt_read.specs.Calls.{readerTests, columnTests, LbltDetermined}
 use Rattle.lblt_solve.specs.Solve.{solveTests, LbltSolved}
+use Rattle.lblt_bench.specs.Bench.{owns, benchTests, BenchSolved}
 use Rattle.cholesky.specs.Promise.{batch, Extended}
 use Rattle.cholesky.specs.Solve.{sidesTests, solveSides, CholeskySolved}
 use Rattle.udu.specs.Promise.{uduTests, uduOf, uduAnswer, factorsOf, UduFactored}
-use Rattle.cases.specs.Calls.{stray, floats, bitsOf, answered, lentWords, lentFloats, Call, lbltFactor, lbltDeterminant, lbltSolve, lbltReaders, lbltLargest, choleskyFactor, choleskySolve, choleskySolveSizes, uduFactor, root, Gives}
+use Rattle.cases.specs.Calls.{stray, floats, bitsOf, answered, lentWords, lentFloats, Call, lbltFactor, lbltDeterminant, lbltSolve, lbltSolveBench, lbltReaders, lbltLargest, choleskyFactor, choleskySolve, choleskySolveSizes, uduFactor, root, Gives}
 use Rattle.matrix.proofs.Slices.{listed, is-listed, overlaid, holds-overlaid, fills-listed}
 use Rattle.matrix.specs.Rounded.{plusZero}
 
@@ -79,6 +80,17 @@ module _ (n run : ℕ) (a : List Float) (words : List ℕ) where
   pub solves : {b b' : List Float} {r : Answer} → LbltSolved (full n) 1 run a words b r b' → (answered r ∷ bitsOf b' ∷ []) ≡ solveNumbers b
   unfolding solveNumbers
   solves s = rw (s .sides, s .answer)
+
+  unfoldable pub benchNumbers : ℕ → ℕ → List ℕ → List Float → List (List ℕ)
+  benchNumbers columns bench benches b =
+      let r = tested (benchTests (full n) columns run a words b benches) Done in
+      answered r ∷ bitsOf (cond (isDone r) (eachChosen n columns (owns benches bench) (solveColumn n (load (lower (full n)) a) words) b) b) ∷ []
+
+  pub solves-bench
+      : {columns bench : ℕ} {benches : List ℕ} {b b' : List Float} {r : Answer} → BenchSolved (full n) columns bench run a words b benches r b'
+      → (answered r ∷ bitsOf b' ∷ []) ≡ benchNumbers columns bench benches b
+  unfolding benchNumbers
+  solves-bench s = rw (s .sides, s .answer)
 
 -- ---- Cholesky's factor, and its solve
 
@@ -144,6 +156,7 @@ abbrev pub found : Call → List (List ℕ)
 found (lbltFactor n run a) = answered (lbltAnswer n run (floats a) (lentWords n)) ∷ leftWords n run a ∷ bitsOf (leftSlice n run a) ∷ []
 found (lbltDeterminant n run expected a) = determinantNumbers n expected (leftSlice n run a) (leftWords n run a)
 found (lbltSolve n run expected a b) = solveNumbers n expected (leftSlice n run a) (leftWords n run a) (floats b)
+found (lbltSolveBench n run expected columns bench benches a b) = benchNumbers n expected (leftSlice n run a) (leftWords n run a) columns bench benches (floats b)
 found (lbltReaders n expected words) =
     let matrix = lentFloats (n * n) in
     let filled = answered (tested (columnTests (full n) n expected matrix words matrix) Done) in
@@ -165,6 +178,10 @@ gives (lbltSolve n run expected a b) = λ r s a' b' words f d.
     let g = factors n run (floats a) (lentWords n) f in
     let by : LbltSolved (full n) 1 expected (leftSlice n run a) (leftWords n run a) (floats b) s b' = rw (g .matrix, g .pivots) at d in
     solves n expected (leftSlice n run a) (leftWords n run a) by
+gives (lbltSolveBench n run expected columns bench benches a b) = λ r s a' b' words f d.
+    let g = factors n run (floats a) (lentWords n) f in
+    let by : BenchSolved (full n) columns bench expected (leftSlice n run a) (leftWords n run a) (floats b) benches s b' = rw (g .matrix, g .pivots) at d in
+    solves-bench n expected (leftSlice n run a) (leftWords n run a) by
 gives (lbltReaders n expected words) = λ r s t v a b b' d d' l l' long-a long-b long-d long-l solved determined d-filled l-filled.
     rw (solved .answer, determined .answer, d-filled .answer, l-filled .answer, long-a, long-b, long-d, long-l, length-replicate (n * n) (ofBits binary64 stray), length-replicate n (ofBits binary64 stray))
 gives (lbltLargest n a k) = λ r e. rw e

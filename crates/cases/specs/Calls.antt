@@ -19,6 +19,7 @@ use Rattle.lblt_read.specs.Calls.{LbltDetermined, LbltFilled}
 use Rattle.lblt_read.specs.Diagonal.{dOf}
 use Rattle.lblt_read.specs.Permuted.{lPermutedOf}
 use Rattle.lblt_solve.specs.Solve.{LbltSolved}
+use Rattle.lblt_bench.specs.Bench.{BenchSolved}
 use Rattle.cholesky.specs.Promise.{Extended}
 use Rattle.cholesky.specs.Solve.{CholeskySolved}
 use Rattle.udu.specs.Promise.{UduFactored}
@@ -45,11 +46,13 @@ lentWords n = replicate (wordsOf n) 99
 abbrev pub lentFloats : ℕ → List Float
 lentFloats count = replicate count (ofBits binary64 stray)
 
--- a is the slice that is factored, of order n, with the number `run`; b is one right-hand side; a reader of LBLT's factor expects the number `expected`
+-- a is the slice that is factored, of order n, with the number `run`; b is one right-hand side, or `columns` of them with a list of benches; a reader of
+-- LBLT's factor expects the number `expected`
 pub data Call : Type 0 where
   lbltFactor : (n run : ℕ) (a : List ℕ) → Call
   lbltDeterminant : (n run expected : ℕ) (a : List ℕ) → Call
   lbltSolve : (n run expected : ℕ) (a b : List ℕ) → Call
+  lbltSolveBench : (n run expected columns bench : ℕ) (benches a b : List ℕ) → Call
   lbltReaders : (n expected : ℕ) (words : List ℕ) → Call
   lbltLargest : (n : ℕ) (a : List ℕ) (k : ℕ) → Call
   choleskyFactor : (room n : ℕ) (a : List ℕ) → Call
@@ -70,6 +73,11 @@ Gives (lbltDeterminant n run expected a) numbers =
 -- by what the factor leaves: the answer, the right-hand side
 Gives (lbltSolve n run expected a b) numbers =
     (r s : Answer) (a' b' : List Float) (words : List ℕ) → Factored (full n) run (floats a) (lentWords n) r a' words → LbltSolved (full n) 1 expected a' words (floats b) s b'
+    → (answered s ∷ bitsOf b' ∷ []) ≡ numbers
+-- by what the factor leaves: the answer, the right-hand sides
+Gives (lbltSolveBench n run expected columns bench benches a b) numbers =
+    (r s : Answer) (a' b' : List Float) (words : List ℕ) → Factored (full n) run (floats a) (lentWords n) r a' words
+    → BenchSolved (full n) columns bench expected a' words (floats b) benches s b'
     → (answered s ∷ bitsOf b' ∷ []) ≡ numbers
 -- by these words as the record, whatever numbers are lent in slices that fit: what solve, determinant, d and l_permuted answer
 Gives (lbltReaders n expected words) numbers =

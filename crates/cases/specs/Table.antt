@@ -2,7 +2,7 @@
 use mathlib.Core.List.{List, [], _∷_}
 use Prim.Native.Nat.{ℕ}
 use Rattle.cases.specs.Bits as bits
-use Rattle.cases.specs.Calls.{stray, lbltFactor, lbltDeterminant, lbltSolve, lbltReaders, lbltLargest, choleskyFactor, choleskySolve, choleskySolveSizes, uduFactor, root, Case, _⇒_}
+use Rattle.cases.specs.Calls.{stray, lbltFactor, lbltDeterminant, lbltSolve, lbltSolveBench, lbltReaders, lbltLargest, choleskyFactor, choleskySolve, choleskySolveSizes, uduFactor, root, Case, _⇒_}
 
 -- ---- answers: a code and its place
 
@@ -44,6 +44,16 @@ table =
     ∷ (lbltReaders 2 8 (1 ∷ 1 ∷ 1 ∷ 1 ∷ 1 ∷ 7 ∷ []) ⇒ refused 5 2 ∷ refused 5 2 ∷ refused 5 2 ∷ refused 5 2 ∷ [])
     ∷ (lbltReaders 0 0 (0 ∷ 4294967295 ∷ []) ⇒ refused 13 0 ∷ refused 13 0 ∷ refused 13 0 ∷ refused 13 0 ∷ [])
     ∷ (lbltReaders 0 4294967295 (0 ∷ 4294967295 ∷ []) ⇒ done ∷ done ∷ done ∷ done ∷ [])
+    -- [0 / 1 0] and three columns, of benches 5, 6 and 5: bench 5 gets its two, bench 6 its one, and what another bench sent stays as given.
+    -- Bench 7 has no column: done, 13 for another run, 6 for a mark; a list of another length gets 4 before all of these
+    ∷ (lbltSolveBench 2 7 7 3 5 (5 ∷ 6 ∷ 5 ∷ []) (bits.zero ∷ bits.one ∷ stray ∷ bits.zero ∷ []) (bits.three ∷ bits.five ∷ bits.nan ∷ bits.four ∷ bits.one ∷ bits.two ∷ [])
+    ⇒ done ∷ (bits.five ∷ bits.three ∷ bits.nan ∷ bits.four ∷ bits.two ∷ bits.one ∷ []) ∷ [])
+    ∷ (lbltSolveBench 2 7 7 3 6 (5 ∷ 6 ∷ 5 ∷ []) (bits.zero ∷ bits.one ∷ stray ∷ bits.zero ∷ []) (bits.three ∷ bits.nan ∷ bits.one ∷ bits.four ∷ bits.minusZero ∷ bits.two ∷ [])
+    ⇒ done ∷ (bits.three ∷ bits.nan ∷ bits.four ∷ bits.one ∷ bits.minusZero ∷ bits.two ∷ []) ∷ [])
+    ∷ (lbltSolveBench 2 7 7 1 7 (5 ∷ []) (bits.zero ∷ bits.one ∷ stray ∷ bits.zero ∷ []) (bits.three ∷ bits.five ∷ []) ⇒ done ∷ (bits.three ∷ bits.five ∷ []) ∷ [])
+    ∷ (lbltSolveBench 2 7 8 1 7 (5 ∷ []) (bits.zero ∷ bits.one ∷ stray ∷ bits.zero ∷ []) (bits.three ∷ bits.five ∷ []) ⇒ refused 13 0 ∷ (bits.three ∷ bits.five ∷ []) ∷ [])
+    ∷ (lbltSolveBench 2 7 7 1 7 (5 ∷ []) (bits.one ∷ bits.two ∷ stray ∷ bits.four ∷ []) (bits.three ∷ bits.five ∷ []) ⇒ refused 6 1 ∷ (bits.three ∷ bits.five ∷ []) ∷ [])
+    ∷ (lbltSolveBench 2 7 8 1 5 (5 ∷ 5 ∷ []) (bits.one ∷ bits.two ∷ stray ∷ bits.four ∷ []) (bits.three ∷ bits.five ∷ []) ⇒ refused 4 0 ∷ (bits.three ∷ bits.five ∷ []) ∷ [])
     -- column 0, 3, −3: imax is 1, and so is the first pivot's index
     ∷ (lbltLargest 3 (bits.zero ∷ bits.three ∷ bits.minusThree ∷ stray ∷ bits.zero ∷ bits.zero ∷ stray ∷ stray ∷ bits.zero ∷ []) 0 ⇒ (1 ∷ []) ∷ [])
     ∷ (lbltFactor 3 7 (bits.zero ∷ bits.three ∷ bits.minusThree ∷ stray ∷ bits.zero ∷ bits.zero ∷ stray ∷ stray ∷ bits.zero ∷ [])

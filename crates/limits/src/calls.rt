@@ -6,6 +6,7 @@ use twins::Twin;
 pub enum Call {
     LbltFactor,
     LbltSolve,
+    LbltSolveBench,
     LbltDeterminant,
     LbltD,
     LbltLPermuted,
@@ -26,6 +27,7 @@ impl Call {
         match self {
             Call::LbltFactor => io::write_all(1, b"lblt_factor"),
             Call::LbltSolve => io::write_all(1, b"lblt_solve"),
+            Call::LbltSolveBench => io::write_all(1, b"lblt_solve_bench"),
             Call::LbltDeterminant => io::write_all(1, b"lblt_determinant"),
             Call::LbltD => io::write_all(1, b"lblt_d"),
             Call::LbltLPermuted => io::write_all(1, b"lblt_l_permuted"),
@@ -49,9 +51,20 @@ impl Call {
         let mut d = [0.0];
         // A sound record of order 1, with the run number 7.
         let mut record = [0u32, 1, 0, 7];
+        let benches = [5u32; 1024];
         match self {
             Call::LbltFactor => plain(lblt::factor(&mut a, &mut record, n, 7)),
             Call::LbltSolve => plain(lblt_solve::solve_mut(&a, &record, &mut b, n, columns, 7)),
+            Call::LbltSolveBench => plain(lblt_bench::solve_bench(
+                &a,
+                &record,
+                &mut b,
+                &benches,
+                n,
+                columns,
+                5,
+                7,
+            )),
             Call::LbltDeterminant => valued(lblt_read::determinant(&a, &record, n, 7)),
             Call::LbltD => plain(lblt_read::d(&a, &record, &mut u, n, 7)),
             Call::LbltLPermuted => plain(lblt_read::l_permuted(&a, &record, &mut u, n, 7)),

@@ -15,6 +15,8 @@ fn lblt() {
     order(Call::LbltFactor);
     order(Call::LbltSolve);
     columns(Call::LbltSolve);
+    order(Call::LbltSolveBench);
+    columns(Call::LbltSolveBench);
     order(Call::LbltDeterminant);
     order(Call::LbltD);
     order(Call::LbltLPermuted);
