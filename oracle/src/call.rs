@@ -5,6 +5,18 @@
 pub trait Calls {
     fn lblt_factor(&self, a: &mut [f64], record: &mut [u32], n: usize, run: u32) -> u64;
     fn lblt_solve(&self, a: &[f64], record: &[u32], b: &mut [f64], n: usize, columns: usize, run: u32) -> u64;
+    #[allow(clippy::too_many_arguments)]
+    fn lblt_solve_bench(
+        &self,
+        a: &[f64],
+        record: &[u32],
+        b: &mut [f64],
+        benches: &[u32],
+        n: usize,
+        columns: usize,
+        bench: u32,
+        run: u32,
+    ) -> u64;
     fn lblt_determinant(&self, a: &[f64], record: &[u32], n: usize, run: u32) -> (u64, f64);
     fn lblt_d(&self, a: &[f64], record: &[u32], d: &mut [f64], n: usize, run: u32) -> u64;
     fn lblt_l_permuted(&self, a: &[f64], record: &[u32], l: &mut [f64], n: usize, run: u32) -> u64;
@@ -23,6 +35,7 @@ pub trait Calls {
 pub enum Call {
     LbltFactor,
     LbltSolve,
+    LbltSolveBench,
     LbltDeterminant,
     LbltD,
     LbltLPermuted,
@@ -54,10 +67,12 @@ pub struct Form {
 #[derive(Clone, Copy, Debug, PartialEq, Eq)]
 pub enum Number {
     N,
-    /// The columns of `lblt_solve`, or room.
+    /// The columns of `lblt_solve` and `lblt_solve_bench`, or room.
     X,
     /// Earlier order, or the columns of `cholesky_solve`.
     Y,
+    /// The bench whose columns are solved.
+    Bench,
     /// The run number of LBLT's calls.
     Run,
 }
@@ -68,13 +83,14 @@ pub enum Slice {
     B,
     C,
     Record,
+    Benches,
 }
 
-use Number::{N, Run, X, Y};
-use Slice::{A, B, C, Record};
+use Number::{Bench, N, Run, X, Y};
+use Slice::{A, B, Benches, C, Record};
 
 #[rustfmt::skip]
-pub const FORMS: [Form; 14] = [
+pub const FORMS: [Form; 15] = [
     Form { call: LbltFactor, name: "lblt_factor", number: 1, numbers: &[N, Run], slices: &[A, Record], valued: false },
     Form { call: LbltSolve, name: "lblt_solve", number: 2, numbers: &[N, X, Run], slices: &[A, Record, B], valued: false },
     Form { call: LbltDeterminant, name: "lblt_determinant", number: 3, numbers: &[N, Run], slices: &[A, Record], valued: true },
@@ -89,6 +105,7 @@ pub const FORMS: [Form; 14] = [
     Form { call: FirstTwinSince, name: "first_twin_since", number: 12, numbers: &[X, Y, N], slices: &[A], valued: false },
     Form { call: FirstTwin, name: "first_twin", number: 13, numbers: &[X, N], slices: &[A], valued: false },
     Form { call: CholeskySolve, name: "cholesky_solve", number: 14, numbers: &[X, N, Y], slices: &[A, B], valued: false },
+    Form { call: LbltSolveBench, name: "lblt_solve_bench", number: 15, numbers: &[N, X, Bench, Run], slices: &[A, Record, B, Benches], valued: false },
 ];
 
 impl Call {
@@ -108,10 +125,12 @@ pub struct Case {
     pub call: Call,
     /// The order.
     pub n: usize,
-    /// `lblt_solve`: columns; Cholesky and twin rows: room.
+    /// `lblt_solve`, `lblt_solve_bench`: columns; Cholesky and twin rows: room.
     pub x: usize,
     /// `cholesky_extend`, `first_twin_since`: earlier order; `cholesky_solve`: columns.
     pub y: usize,
+    /// `lblt_solve_bench`: the bench whose columns are solved.
+    pub bench: u32,
     /// LBLT: the run number, given or expected.
     pub run: u32,
     /// The first matrix.
@@ -121,6 +140,8 @@ pub struct Case {
     /// UDU's `d`.
     pub c: Vec<f64>,
     pub record: Vec<u32>,
+    /// A bench number for each column.
+    pub benches: Vec<u32>,
 }
 
 /// What a call answers and what it leaves in everything lent, as words in which all NaNs are one.
@@ -132,6 +153,7 @@ pub struct Outcome {
     pub b: Vec<u64>,
     pub c: Vec<u64>,
     pub record: Vec<u32>,
+    pub benches: Vec<u32>,
 }
 
 pub const NAN: u64 = 0x7ff8_0000_0000_0000;
@@ -161,16 +183,17 @@ pub fn words(s: &[f64]) -> Vec<u64> {
 
 impl Case {
     pub fn new(call: Call, n: usize, a: Vec<f64>) -> Case {
-        Case { call, n, x: 0, y: 0, run: 0, a, b: vec![], c: vec![], record: vec![] }
+        Case { call, n, x: 0, y: 0, bench: 0, run: 0, a, b: vec![], c: vec![], record: vec![], benches: vec![] }
     }
 
     /// Runs the call on what is lent, in place.
     pub fn run_in_place(&mut self, calls: &dyn Calls) -> (u64, Option<f64>) {
-        let Case { call, n, x, y, run, a, b, c, record } = self;
-        let (n, x, y, run) = (*n, *x, *y, *run);
+        let Case { call, n, x, y, bench, run, a, b, c, record, benches } = self;
+        let (n, x, y, bench, run) = (*n, *x, *y, *bench, *run);
         match call {
             LbltFactor => (calls.lblt_factor(a, record, n, run), None),
             LbltSolve => (calls.lblt_solve(a, record, b, n, x, run), None),
+            LbltSolveBench => (calls.lblt_solve_bench(a, record, b, benches, n, x, bench, run), None),
             LbltDeterminant => with_value(calls.lblt_determinant(a, record, n, run)),
             LbltD => (calls.lblt_d(a, record, b, n, run), None),
             LbltLPermuted => (calls.lblt_l_permuted(a, record, b, n, run), None),
@@ -189,7 +212,8 @@ impl Case {
     pub fn outcome(&self, calls: &dyn Calls) -> Outcome {
         let mut after = self.clone();
         let (answer, value) = after.run_in_place(calls);
-        Outcome { answer, value: value.map(word), a: words(&after.a), b: words(&after.b), c: words(&after.c), record: after.record }
+        let [a, b, c] = [&after.a, &after.b, &after.c].map(|s| words(s));
+        Outcome { answer, value: value.map(word), a, b, c, record: after.record, benches: after.benches }
     }
 
     pub fn number(&self, which: Number) -> usize {
@@ -197,18 +221,19 @@ impl Case {
             N => self.n,
             X => self.x,
             Y => self.y,
+            Bench => self.bench as usize,
             Run => self.run as usize,
         }
     }
 
-    /// The third number of its call in a stored list.
+    /// The third number of its call in a stored list: of LBLT's calls the run number in the low half and the bench in the high one.
     pub fn third(&self) -> usize {
-        if self.call.form().numbers.contains(&Run) { self.run as usize } else { self.y }
+        if self.call.form().numbers.contains(&Run) { (self.bench as usize) << 32 | self.run as usize } else { self.y }
     }
 
     /// How much there is to read in it.
     pub fn size(&self) -> usize {
-        self.a.len() + self.b.len() + self.c.len() + self.record.len()
+        self.a.len() + self.b.len() + self.c.len() + self.record.len() + self.benches.len()
     }
 }
 

@@ -47,6 +47,7 @@ pub mod call;
 pub mod cases;
 pub mod line;
 pub mod list;
+pub mod pair;
 pub mod paper;
 pub mod tail;
 pub mod text;

@@ -18,6 +18,7 @@ pub fn case_line(case: &Case) -> String {
             Slice::B => floats(&mut out, &case.b),
             Slice::C => floats(&mut out, &case.c),
             Slice::Record => small(&mut out, &case.record),
+            Slice::Benches => small(&mut out, &case.benches),
         }
     }
     out
@@ -35,6 +36,7 @@ pub fn outcome_line(case: &Case, outcome: &Outcome) -> String {
             Slice::B => big(&mut out, &outcome.b),
             Slice::C => big(&mut out, &outcome.c),
             Slice::Record => small(&mut out, &outcome.record),
+            Slice::Benches => small(&mut out, &outcome.benches),
         }
     }
     out
@@ -64,12 +66,14 @@ pub fn parse_case(line: &str) -> Result<Case, String> {
     let mut case = Case::new(form.call, 0, vec![]);
     for &which in form.numbers {
         let field = head.next().ok_or("a number is missing")?;
-        let number = field.parse().map_err(|_| format!("{field} is no number"))?;
+        let number: usize = field.parse().map_err(|_| format!("{field} is no number"))?;
+        let half = || number.try_into().map_err(|_| format!("{field} is above 32 bits"));
         match which {
             Number::N => case.n = number,
             Number::X => case.x = number,
             Number::Y => case.y = number,
-            Number::Run => case.run = number.try_into().map_err(|_| format!("{field} is above 32 bits"))?,
+            Number::Bench => case.bench = half()?,
+            Number::Run => case.run = half()?,
         }
     }
     if head.next().is_some() {
@@ -78,14 +82,13 @@ pub fn parse_case(line: &str) -> Result<Case, String> {
     for &slice in form.slices {
         let words = hex_words(parts.next().ok_or("a slice is missing")?)?;
         let floats = || words.iter().map(|&w| f64::from_bits(w)).collect();
+        let halves = || words.iter().map(|&w| w.try_into().map_err(|_| format!("{w:x} is above 32 bits"))).collect::<Result<_, _>>();
         match slice {
             Slice::A => case.a = floats(),
             Slice::B => case.b = floats(),
             Slice::C => case.c = floats(),
-            Slice::Record => {
-                case.record =
-                    words.iter().map(|&w| w.try_into().map_err(|_| format!("{w:x} is above 32 bits"))).collect::<Result<_, _>>()?
-            }
+            Slice::Record => case.record = halves()?,
+            Slice::Benches => case.benches = halves()?,
         }
     }
     match parts.next() {

@@ -39,7 +39,7 @@ fn number(slice: Slice) -> u64 {
     match slice {
         Slice::A => 0,
         Slice::B => 1,
-        Slice::C => 2,
+        Slice::C | Slice::Benches => 2,
         Slice::Record => 3,
     }
 }
@@ -221,7 +221,7 @@ impl<'a> Machine<'a> {
         match slice {
             Slice::A => self.held.a = floats(),
             Slice::B => self.held.b = floats(),
-            Slice::C => self.held.c = floats(),
+            Slice::C | Slice::Benches => self.held.c = floats(),
             Slice::Record => self.held.record = words.iter().map(|&w| w as u32).collect(),
         }
     }
@@ -241,7 +241,7 @@ impl<'a> Machine<'a> {
         match slice {
             Slice::A => self.held.a.iter().map(|&x| word(x)).collect(),
             Slice::B => self.held.b.iter().map(|&x| word(x)).collect(),
-            Slice::C => self.held.c.iter().map(|&x| word(x)).collect(),
+            Slice::C | Slice::Benches => self.held.c.iter().map(|&x| word(x)).collect(),
             Slice::Record => self.held.record.iter().map(|&w| w as u64).collect(),
         }
     }
@@ -250,8 +250,10 @@ impl<'a> Machine<'a> {
     pub fn call(&mut self, call: u64, n: usize, x: usize, y: usize) -> (u64, u64) {
         self.calls_made += 1;
         let form = form(call);
-        let (y, run) = if form.numbers.contains(&Number::Run) { (0, y as u32) } else { (y, 0) };
-        self.held = Case { call: form.call, n, x, y, run, ..std::mem::replace(&mut self.held, Case::new(form.call, 0, vec![])) };
+        let (y, bench, run) = if form.numbers.contains(&Number::Run) { (0, (y >> 32) as u32, y as u32) } else { (y, 0, 0) };
+        let benches = self.words(Slice::Benches).iter().map(|&w| w as u32).collect();
+        self.held =
+            Case { call: form.call, n, x, y, bench, run, benches, ..std::mem::replace(&mut self.held, Case::new(form.call, 0, vec![])) };
         let (answer, value) = self.held.run_in_place(self.calls);
         (answer, value.map_or(0, word))
     }

@@ -38,7 +38,8 @@ fn answer(calls: &dyn Calls) -> Result<(), Box<dyn std::error::Error>> {
 fn print_family(seed: &str) -> Result<(), Box<dyn std::error::Error>> {
     let mut out = BufWriter::new(io::stdout().lock());
     let seed = seed.parse()?;
-    for case in cases::family(seed).cases.iter().chain(&cases::solves(seed)).chain(&cases::twins(seed)) {
+    let parts = [cases::family(seed).cases, cases::solves(seed), cases::twins(seed), cases::benches(seed)];
+    for case in parts.iter().flatten() {
         writeln!(out, "{}", case_line(case))?;
     }
     Ok(out.flush()?)

@@ -1,5 +1,6 @@
 //! The calls, written from document 01's steps and without the text: a matrix is read and written by `a[(i, j)]`, the loops run entry by entry.
-//! Cholesky's solve, the codes of a diagonal that is turned down, the row that a mark may name and the run number are written from document 02.
+//! Cholesky's solve, the codes of a diagonal that is turned down, the row that a mark may name, the run number and the bench's solve are written
+//! from document 02.
 //! The calls for rows that came twice are written from what twin rows are: all pairs are compared, one after the other.
 
 // sums and quotients stand as the documents write them
@@ -362,6 +363,46 @@ impl Calls for Paper {
         }
         for j in 0..columns {
             solve_column(a, &Record(record), &mut b[j * n..(j + 1) * n]);
+        }
+        0
+    }
+
+    fn lblt_solve_bench(
+        &self,
+        a: &[f64],
+        record: &[u32],
+        b: &mut [f64],
+        benches: &[u32],
+        n: usize,
+        columns: usize,
+        bench: u32,
+        run: u32,
+    ) -> u64 {
+        if n > 1024 || columns > 1024 {
+            return code(1, 0);
+        }
+        if a.len() != n * n {
+            return code(3, 0);
+        }
+        if record.len() != 2 * n + 2 || b.len() != n * columns {
+            return code(4, 0);
+        }
+        if benches.len() != columns {
+            return code(4, 0);
+        }
+        if let Some(place) = Record(record).broken_at(n) {
+            return code(5, place);
+        }
+        if record[2 * n + 1] != run {
+            return code(13, 0);
+        }
+        if record[2 * n] != 0 {
+            return code(6, record[2 * n] as usize - 1);
+        }
+        for j in 0..columns {
+            if benches[j] == bench {
+                solve_column(a, &Record(record), &mut b[j * n..(j + 1) * n]);
+            }
         }
         0
     }

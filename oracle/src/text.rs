@@ -3,8 +3,8 @@
 //! The text itself answers `LBLT::new`, `solve_mut`, `determinant`, `d`, `l_permuted`, `Cholesky::new`, `l`, `unpack`, `determinant` and
 //! `UDU::new`. What follows document 01 because the text says nothing of it is marked "document 01": the checks before a call, the room, the
 //! further batch, and what stays in the buffers after a refusal. Marked "document 02" are the codes of a diagonal that is turned down, the row that a
-//! mark may name, and the run number. The text has no call for rows that came twice, and its Cholesky solve rests on triangular solves that it does not
-//! contain: the steps answer these calls here too.
+//! mark may name, the run number, and which columns are a bench's. The text has no call for rows that came twice, and its Cholesky solve rests on
+//! triangular solves that it does not contain: the steps answer these calls here too.
 
 use crate::call::{Calls, record_length};
 use crate::linalg::cholesky::Cholesky;
@@ -185,6 +185,36 @@ impl Calls for Text {
         let mut sides = OMatrix::from_vec(Dyn(n), Dyn(columns), b.to_vec());
         let solved = lblt_of(a, record, n).solve_mut(&mut sides);
         b.copy_from_slice(sides.as_slice());
+        if solved { DONE } else { refusal(6, record[2 * n] as usize - 1) }
+    }
+
+    /// Document 02: the text solves the matrix of the bench's own columns, and they go back to where they stood.
+    fn lblt_solve_bench(
+        &self,
+        a: &[f64],
+        record: &[u32],
+        b: &mut [f64],
+        benches: &[u32],
+        n: usize,
+        columns: usize,
+        bench: u32,
+        run: u32,
+    ) -> u64 {
+        let refused = checks::counts(&[n, columns])
+            .or_else(|| checks::factored(a, record, n))
+            .or_else(|| checks::another(b.len(), n * columns))
+            .or_else(|| checks::another(benches.len(), columns))
+            .or_else(|| checks::record(record, n, run));
+        if let Some(refused) = refused {
+            return refused;
+        }
+        let own: Vec<usize> = benches.iter().enumerate().filter(|&(_, &of)| of == bench).map(|(j, _)| j).collect();
+        let gathered = own.iter().flat_map(|&j| &b[j * n..(j + 1) * n]).copied().collect();
+        let mut sides = OMatrix::from_vec(Dyn(n), Dyn(own.len()), gathered);
+        let solved = lblt_of(a, record, n).solve_mut(&mut sides);
+        for (at, j) in own.into_iter().enumerate() {
+            b[j * n..(j + 1) * n].copy_from_slice(&sides.as_slice()[at * n..(at + 1) * n]);
+        }
         if solved { DONE } else { refusal(6, record[2 * n] as usize - 1) }
     }
 

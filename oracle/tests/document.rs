@@ -1,11 +1,14 @@
-//! Document 01's cases and document 02's codes of a diagonal, rows of a mark, run numbers and tails of UDU, answered by the text and by the steps;
-//! Cholesky's solve and rows that came twice, by the steps.
+//! Document 01's cases and document 02's codes of a diagonal, rows of a mark, run numbers, benches and tails of UDU, answered by the text and by the
+//! steps; Cholesky's solve and rows that came twice, by the steps.
 
 use std::hint::black_box;
 
 use oracle::RealField;
 use oracle::call::{Call, Calls, Case, word, words};
 use oracle::cases::{fill, filled};
+use oracle::line::{case_line, parse_case};
+use oracle::list::Machine;
+use oracle::pair;
 use oracle::paper::Paper;
 use oracle::tail::{block, tail};
 use oracle::text::Text;
@@ -140,6 +143,133 @@ fn runs() {
         let mut record = [9; 5];
         assert_eq!(calls.lblt_factor(&mut [1.0; 4], &mut record, 2, RUN), 4 * 4096);
         assert_eq!(record, [9; 5]);
+    }
+}
+
+/// A bench's solve of order 2 by [0 / 1 0], which exchanges the two numbers of a column: its answer, and b as it is left.
+fn by_bench(calls: &dyn Calls, record: &[u32], b: &[f64], benches: &[u32], bench: u32, run: u32) -> (u64, Vec<u64>) {
+    let (a, _) = factored(calls, 2, &[0.0, 1.0, 0.0]);
+    let (mut b, columns) = (b.to_vec(), b.len() / 2);
+    let answer = calls.lblt_solve_bench(&a, record, &mut b, benches, 2, columns, bench, run);
+    (answer, words(&b))
+}
+
+/// Document 02: a call solves its bench's columns only, each as a solve of that column alone would; the others stay as they were.
+#[test]
+fn benches() {
+    const HIGH: u32 = 1 + (1 << 31);
+    let sound = [1, 2, 1, 2, 0, RUN];
+    let b = [3.0, 5.0, f64::NAN, f64::INFINITY, 7.0, 11.0, -0.0, 2.0];
+    for calls in BOTH {
+        let left = |benches: &[u32], bench: u32| by_bench(calls, &sound, &b, benches, bench, RUN);
+        assert_eq!(left(&[1, 2, 1, 2], 1), (0, words(&[5.0, 3.0, f64::NAN, f64::INFINITY, 11.0, 7.0, -0.0, 2.0])));
+        assert_eq!(left(&[1, 9, 9, 2], 2), (0, words(&[3.0, 5.0, f64::NAN, f64::INFINITY, 7.0, 11.0, 2.0, -0.0])));
+        // numbers at the ends, and one bit apart
+        assert_eq!(left(&[0, 1, u32::MAX, HIGH], 0).1, words(&[5.0, 3.0, f64::NAN, f64::INFINITY, 7.0, 11.0, -0.0, 2.0]));
+        assert_eq!(left(&[0, 1, u32::MAX, HIGH], u32::MAX).1, words(&[3.0, 5.0, f64::NAN, f64::INFINITY, 11.0, 7.0, -0.0, 2.0]));
+        assert_eq!(left(&[1, 1 + (1 << 16), 1 << 31, HIGH], HIGH).1, words(&[3.0, 5.0, f64::NAN, f64::INFINITY, 7.0, 11.0, 2.0, -0.0]));
+        // one bench alone: the solve of all columns
+        let (a, record) = factored(calls, 2, &[4.0, 2.0, 3.0]);
+        let (mut all, mut own) = (b, b);
+        assert_eq!(calls.lblt_solve(&a, &record, &mut all, 2, 4, RUN), 0);
+        assert_eq!(calls.lblt_solve_bench(&a, &record, &mut own, &[6; 4], 2, 4, 6, RUN), 0);
+        assert_eq!(words(&own), words(&all));
+        // the benches in turn: the same
+        let mut own = b;
+        for bench in [2, 1] {
+            assert_eq!(calls.lblt_solve_bench(&a, &record, &mut own, &[1, 2, 2, 1], 2, 4, bench, RUN), 0);
+        }
+        assert_eq!(words(&own), words(&all));
+        // order 0, no columns, and the most of them
+        assert_eq!(calls.lblt_solve_bench(&[], &[0, RUN], &mut [], &[1; 1024], 0, 1024, 1, RUN), 0);
+        assert_eq!(calls.lblt_solve_bench(&a, &record, &mut [], &[], 2, 0, 1, RUN), 0);
+        assert_eq!(calls.lblt_solve_bench(&[], &[0, RUN], &mut [], &[1; 1025], 0, 1025, 1, RUN), 4096);
+    }
+}
+
+/// Document 02: 4 also for a list whose length is not the column count; a bench with no column gets 0 if the record is sound and unmarked.
+#[test]
+fn benches_refused() {
+    let b = [3.0, 5.0, 7.0, 11.0, 13.0, 17.0];
+    for calls in BOTH {
+        let answer = |record: &[u32], benches: &[u32], bench: u32, run: u32| {
+            let (answer, left) = by_bench(calls, record, &b, benches, bench, run);
+            assert!(left == words(&b) || (answer == 0 && benches.contains(&bench)));
+            answer
+        };
+        for bench in [1, 3] {
+            let answer = |record: &[u32], benches: &[u32], run: u32| answer(record, benches, bench, run);
+            let list = [1, 2, 1];
+            assert_eq!(answer(&[1, 2, 1, 2, 0, RUN], &list, RUN), 0);
+            assert_eq!(answer(&[1, 2, 1, 2, 0, RUN], &list, RUN + 1), 13 * 4096);
+            assert_eq!(answer(&[1, 1, 1, 1, 2, RUN], &list, RUN), 6 * 4096 + 1);
+            assert_eq!(answer(&[1, 1, 1, 1, 2, RUN], &list, RUN + 1), 13 * 4096);
+            assert_eq!(answer(&[1, 1, 0, 1, 2, RUN], &list, RUN + 1), 5 * 4096 + 1);
+            assert_eq!(answer(&[1, 1, 1, 1, 1, RUN], &list, RUN), 5 * 4096 + 2);
+            // the list's length comes before the record's rule; 2 is the order here, and 3 the column count
+            for list in [&[][..], &[1, 2], &[1, 2, 1, 1]] {
+                assert_eq!(answer(&[1, 2, 1, 2, 0, RUN], list, RUN), 4 * 4096);
+                assert_eq!(answer(&[1, 1, 0, 1, 2, RUN], list, RUN + 1), 4 * 4096);
+            }
+            assert_eq!(answer(&[1, 2, 1, 2, RUN], &list, RUN), 4 * 4096);
+        }
+        // the matrix comes before the list, a count before both
+        let mut b = [9.0; 2];
+        assert_eq!(calls.lblt_solve_bench(&[0.0; 3], &[0; 6], &mut b, &[], 2, 1, 1, RUN), 3 * 4096);
+        assert_eq!(calls.lblt_solve_bench(&[0.0; 3], &[0; 6], &mut b, &[], 2, 1025, 1, RUN), 4096);
+        assert_eq!(calls.lblt_solve_bench(&[0.0; 3], &[0; 6], &mut b, &[1], 1025, 1, 1, RUN), 4096);
+        assert_eq!(calls.lblt_solve_bench(&[0.0; 4], &[0; 6], &mut b[..1], &[1], 2, 1, 1, RUN), 4 * 4096);
+        assert_eq!(b, [9.0; 2]);
+    }
+}
+
+/// Document 02: two runs that differ only in the other bench's columns give it the same bits, code and place.
+#[test]
+fn benches_apart() {
+    for calls in BOTH {
+        let (a, record) = factored(calls, 3, &[0.0, 3.0, 1.0, -3.0, 2.0, 1.0]);
+        let first = Case {
+            x: 4,
+            bench: 1,
+            run: RUN,
+            record,
+            benches: vec![2, 1, 1, 2],
+            b: (1..=12).map(f64::from).collect(),
+            ..Case::new(Call::LbltSolveBench, 3, a)
+        };
+        for first in
+            [first.clone(), Case { run: 8, ..first.clone() }, Case { bench: 3, ..first.clone() }, Case { benches: vec![], ..first }]
+        {
+            let second = pair::second(&first).expect("a column of another bench");
+            assert_eq!(words(&first.b)[3..9] == words(&second.b)[3..9], first.bench == 1 && !first.benches.is_empty());
+            let left = first.outcome(calls);
+            assert_eq!(pair::kept(&first, &left), left);
+            assert_eq!(pair::kept(&second, &left), second.outcome(calls));
+        }
+    }
+    // no column of another bench
+    assert!(pair::second(&Case { x: 1, bench: 1, benches: vec![1], b: vec![1.0], ..Case::new(Call::LbltSolveBench, 1, vec![]) }).is_none());
+}
+
+/// A bench's call as a line, and in a stored list: the bench numbers stand in register C, the bench in the high half of the third number.
+#[test]
+fn benches_written_down() {
+    let line = "lblt_solve_bench 1 2 4294967295 7 ; 4000000000000000 ; 00000000 00000001 00000000 00000007 ; \
+                4008000000000000 4014000000000000 ; ffffffff 80000001";
+    let case = parse_case(line).unwrap();
+    assert_eq!((case.bench, &case.benches[..], case.run), (u32::MAX, &[u32::MAX, 0x8000_0001][..], 7));
+    assert_eq!(case_line(&case), line);
+    assert_eq!(case.outcome(&Text).b, words(&[1.5, 5.0]));
+    assert!(parse_case(&line.replace("4294967295", "4294967296")).is_err());
+    let set = |register: u64, words: &[u64]| [&[2 | register << 8 | (words.len() as u64) << 16][..], words].concat();
+    let mut list = [set(0, &words(&case.a)), set(1, &words(&case.b)), set(2, &[0xffff_ffff, 0x8000_0001]), set(3, &[0, 1, 0, 7])].concat();
+    list.extend([6 | 15 << 8, 1, 2, 0xffff_ffff_0000_0007, 0, 0]);
+    list.extend([7 | 1 << 8 | 2 << 16]);
+    list.extend(words(&[1.5, 5.0]));
+    for calls in BOTH {
+        let mut machine = Machine::new(calls);
+        machine.replay(&list);
+        assert_eq!((machine.calls_made, machine.differences), (1, vec![]));
     }
 }
 

@@ -1,4 +1,6 @@
 // The calls by number, on what the registers hold.
+use crate::registers::halves;
+use crate::registers::low;
 use crate::registers::part;
 use crate::registers::part_words;
 use crate::state::State;
@@ -58,7 +60,7 @@ pub fn call(
             which,
             n,
             x,
-            number(y),
+            low(y as u64),
             part(a, s.a),
             part(b, s.b),
             part_words(r, s.r),
@@ -66,13 +68,17 @@ pub fn call(
         6..=10 | 14 => of_cholesky(which, n, x, y, part(a, s.a), part(b, s.b)),
         11 => of_udu(n, part(a, s.a), part(b, s.b), part(c, s.c)),
         12..=13 => of_twins(which, n, x, y, part(a, s.a)),
+        15 => of_bench(
+            n,
+            x,
+            y as u64,
+            part(a, s.a),
+            part(b, s.b),
+            part(c, s.c),
+            part_words(r, s.r),
+        ),
         _ => no_call(),
     }
-}
-
-// A word's low half, as a run number.
-fn number(word: usize) -> u32 {
-    (word % 0x1_0000_0000) as u32
 }
 
 fn of_lblt(
@@ -91,6 +97,35 @@ fn of_lblt(
         4 => plain(lblt_read::d(a, r, b, n, run)),
         _ => plain(lblt_read::l_permuted(a, r, b, n, run)),
     }
+}
+
+// C holds the bench numbers; y is the run number and, in its high half, the bench.
+fn of_bench(
+    n: usize,
+    columns: usize,
+    y: u64,
+    a: &mut [f64],
+    b: &mut [f64],
+    c: &mut [f64],
+    r: &mut [u32],
+) -> Outcome {
+    let mut benches = [0u32; 64];
+    by_list(n, columns, y, a, b, c, r, &mut benches)
+}
+
+fn by_list(
+    n: usize,
+    columns: usize,
+    y: u64,
+    a: &[f64],
+    b: &mut [f64],
+    c: &[f64],
+    r: &[u32],
+    benches: &mut [u32],
+) -> Outcome {
+    halves(c, c.len(), benches);
+    let list = part_words(benches, c.len());
+    plain(lblt_bench::solve_bench(a, r, b, list, n, columns, low(y / 0x1_0000_0000), low(y)))
 }
 
 // y is the earlier order, or the columns.

@@ -45,8 +45,13 @@ pub fn put(
         A => put_bits(a, i, w),
         B => put_bits(b, i, w),
         C => put_bits(c, i, w),
-        _ => put_word(r, i, (w % 0x1_0000_0000) as u32),
+        _ => put_word(r, i, low(w)),
     }
+}
+
+// A word's low half.
+pub fn low(w: u64) -> u32 {
+    (w % 0x1_0000_0000) as u32
 }
 
 pub fn put_bits(x: &mut [f64], i: usize, w: u64) {
@@ -74,6 +79,13 @@ pub fn part_words(x: &mut [u32], held: usize) -> &mut [u32] {
         return &mut x[0..held];
     }
     x
+}
+
+// The low halves of the first `count` words.
+pub fn halves(x: &[f64], count: usize, out: &mut [u32]) {
+    for i in 0..count {
+        put_word(out, i, low(bits(x, i)));
+    }
 }
 
 // Adds a number to entry i + i·stride for i below `count`.

@@ -1,7 +1,7 @@
 //! compare paper|port FIRST SEEDS: the text against document 01's steps, or against the port, on the cases that need no chance and on the
-//! families, solves by Cholesky's factor and twin rows of the seeds FIRST, FIRST + 1, .. Every word of every slice is compared, all NaNs being
-//! one. The calls that the steps alone answer are compared with the port. UDU of every block of rows and columns m to n − 1 is held against those
-//! rows and columns of UDU of the whole.
+//! families, solves by Cholesky's factor, twin rows and benches of the seeds FIRST, FIRST + 1, .. Every word of every slice is compared, all NaNs
+//! being one. The calls that the steps alone answer are compared with the port. UDU of every block of rows and columns m to n − 1 is held against
+//! those rows and columns of UDU of the whole, and a bench's solve against one that differs only in the columns of the other benches.
 
 use std::collections::BTreeMap;
 use std::process::ExitCode;
@@ -10,8 +10,8 @@ use oracle::call::{Call, Calls, Case, Outcome, mark, pairs, word};
 use oracle::cases::{self, Chain};
 use oracle::line::{case_line, outcome_line};
 use oracle::paper::Paper;
-use oracle::tail;
 use oracle::text::Text;
+use oracle::{pair, tail};
 
 fn main() -> ExitCode {
     let words: Vec<String> = std::env::args().skip(1).collect();
@@ -39,7 +39,8 @@ fn main() -> ExitCode {
     cases::refusals().iter().for_each(|case| tally.hold(case));
     println!("refusals and records: {} calls", tally.calls() - before);
     let before = tally.calls();
-    cases::largest().iter().chain(&cases::largest_solves()).chain(&cases::largest_twins()).for_each(|case| tally.hold(case));
+    let largest = [cases::largest(), cases::largest_solves(), cases::largest_twins(), cases::largest_benches()];
+    largest.iter().flatten().for_each(|case| tally.hold(case));
     println!("orders 1,024 and 1,025: {} calls", tally.calls() - before);
     let before = tally.calls();
     cases::many_columns().iter().for_each(|case| tally.hold(case));
@@ -48,12 +49,16 @@ fn main() -> ExitCode {
     cases::solves_of_all_orders().iter().for_each(|case| tally.hold(case));
     println!("solves by Cholesky's factor at all orders: {} calls", tally.calls() - before);
     let before = tally.calls();
+    cases::bench_lists().iter().chain(&cases::benches_of_all_orders()).for_each(|case| tally.hold(case));
+    println!("benches by lists and at all orders: {} calls", tally.calls() - before);
+    let before = tally.calls();
     for seed in first..first + seeds {
         let family = cases::family(seed);
         family.cases.iter().for_each(|case| tally.hold(case));
         family.chains.iter().for_each(|chain| tally.hold_chain(chain));
         cases::solves(seed).iter().for_each(|case| tally.hold(case));
         cases::twins(seed).iter().for_each(|case| tally.hold(case));
+        cases::benches(seed).iter().for_each(|case| tally.hold(case));
     }
     println!("seeds {first} to {}: {} calls", (first + seeds).saturating_sub(1), tally.calls() - before);
     tally.print(against);
@@ -68,9 +73,10 @@ struct Tally<'a> {
     per_code: BTreeMap<u64, u64>,
     size_two: u64,
     marks: u64,
-    pairs: u64,
+    twins: u64,
     chains: u64,
     tails: Tails,
+    pairs: Pairs,
     differences: u64,
     smallest: Option<(usize, String)>,
 }
@@ -83,6 +89,14 @@ struct Tails {
     within: u64,
 }
 
+/// Two runs of one bench that differ only in the columns of the others: solved, done for a bench with no column, and refused.
+#[derive(Default)]
+struct Pairs {
+    solved: u64,
+    without: u64,
+    refused: u64,
+}
+
 impl<'a> Tally<'a> {
     fn new(other: &'a dyn Calls, steps: bool) -> Self {
         Tally {
@@ -92,9 +106,10 @@ impl<'a> Tally<'a> {
             per_code: BTreeMap::new(),
             size_two: 0,
             marks: 0,
-            pairs: 0,
+            twins: 0,
             chains: 0,
             tails: Tails::default(),
+            pairs: Pairs::default(),
             differences: 0,
             smallest: None,
         }
@@ -113,7 +128,7 @@ impl<'a> Tally<'a> {
         *self.per_call.entry(case.call).or_default() += 1;
         match text.answer / 4096 {
             code if code < 4096 => *self.per_code.entry(code).or_default() += 1,
-            _ => self.pairs += 1,
+            _ => self.twins += 1,
         }
         if case.call == Call::LbltFactor && text.answer == 0 {
             self.size_two += blocks_of_two(&text);
@@ -125,6 +140,9 @@ impl<'a> Tally<'a> {
         }
         if case.call == Call::UduFactor && matches!(text.answer / 4096, 0 | 8) {
             self.hold_tails(case, &text, &other);
+        }
+        if case.call == Call::LbltSolveBench {
+            self.hold_pair(case, &text, &other);
         }
     }
 
@@ -145,6 +163,26 @@ impl<'a> Tally<'a> {
                     let [kept, found] = [kept, found].map(|outcome| outcome_line(&block, &outcome));
                     let said = format!("{}\nrows and columns from {m} on, by the {name}\nkept  {kept}\nblock {found}", case_line(whole));
                     self.differ(whole.size(), said);
+                }
+            }
+        }
+    }
+
+    /// The run and one with other numbers in the columns of the other benches, by the text and by the other implementation, each against its first.
+    fn hold_pair(&mut self, first: &Case, text: &Outcome, other: &Outcome) {
+        let Some(second) = pair::second(first) else { return };
+        match text.answer {
+            0 if first.benches.contains(&first.bench) => self.pairs.solved += 1,
+            0 => self.pairs.without += 1,
+            _ => self.pairs.refused += 1,
+        }
+        for (calls, left, name) in [(&Text as &dyn Calls, text, "text"), (self.other, other, "other")] {
+            for (run, found) in [(first, left), (&second, &second.outcome(calls))] {
+                let kept = pair::kept(run, left);
+                if kept != *found {
+                    let [kept, found] = [&kept, found].map(|outcome| outcome_line(run, outcome));
+                    let said = format!("{}\n{}\nby the {name}\nkept  {kept}\nfound {found}", case_line(first), case_line(run));
+                    self.differ(first.size(), said);
                 }
             }
         }
@@ -194,17 +232,22 @@ impl<'a> Tally<'a> {
         }
         println!(
             "  blocks of size 2 in factors: {}; factors with a mark: {}; chains of batches: {}; pairs of twin rows: {}",
-            self.size_two, self.marks, self.chains, self.pairs
+            self.size_two, self.marks, self.chains, self.twins
         );
         println!(
             "  blocks of UDU from a row on: {} of accepted matrices, {} of matrices refused before them, {} of matrices refused in them",
             self.tails.accepted, self.tails.before, self.tails.within
         );
         println!(
-            "text against {against}: {} calls, {} chains, {} blocks, {} differ",
+            "  pairs of a bench's runs: {} solved, {} of benches with no column, {} refused",
+            self.pairs.solved, self.pairs.without, self.pairs.refused
+        );
+        println!(
+            "text against {against}: {} calls, {} chains, {} blocks, {} pairs, {} differ",
             self.calls(),
             self.chains,
             self.tails.accepted + self.tails.before + self.tails.within,
+            self.pairs.solved + self.pairs.without + self.pairs.refused,
             self.differences
         );
         if let Some((_, said)) = &self.smallest {

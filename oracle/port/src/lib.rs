@@ -21,6 +21,20 @@ unsafe extern "C" {
         columns: usize,
         run: u32,
     ) -> u64;
+    fn urgyelpat_lblt_solve_bench(
+        a: *const f64,
+        a_len: usize,
+        record: *const u32,
+        record_len: usize,
+        b: *mut f64,
+        b_len: usize,
+        benches: *const u32,
+        benches_len: usize,
+        n: usize,
+        columns: usize,
+        bench: u32,
+        run: u32,
+    ) -> u64;
     fn urgyelpat_lblt_determinant(a: *const f64, a_len: usize, record: *const u32, record_len: usize, n: usize, run: u32) -> Determinant;
     fn urgyelpat_lblt_d(
         a: *const f64,
@@ -65,6 +79,36 @@ impl Calls for Port {
     #[inline]
     fn lblt_solve(&self, a: &[f64], record: &[u32], b: &mut [f64], n: usize, columns: usize, run: u32) -> u64 {
         unsafe { urgyelpat_lblt_solve(a.as_ptr(), a.len(), record.as_ptr(), record.len(), b.as_mut_ptr(), b.len(), n, columns, run) }
+    }
+
+    #[inline]
+    fn lblt_solve_bench(
+        &self,
+        a: &[f64],
+        record: &[u32],
+        b: &mut [f64],
+        benches: &[u32],
+        n: usize,
+        columns: usize,
+        bench: u32,
+        run: u32,
+    ) -> u64 {
+        unsafe {
+            urgyelpat_lblt_solve_bench(
+                a.as_ptr(),
+                a.len(),
+                record.as_ptr(),
+                record.len(),
+                b.as_mut_ptr(),
+                b.len(),
+                benches.as_ptr(),
+                benches.len(),
+                n,
+                columns,
+                bench,
+                run,
+            )
+        }
     }
 
     #[inline]

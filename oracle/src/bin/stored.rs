@@ -68,13 +68,18 @@ fn emit(w: &mut Writer, case: &Case) -> u64 {
             Slice::A => case.a.iter().map(|x| x.to_bits()).collect(),
             Slice::B => case.b.iter().map(|x| x.to_bits()).collect(),
             Slice::C => case.c.iter().map(|x| x.to_bits()).collect(),
-            Slice::Record => case.record.iter().map(|&x| x as u64).collect(),
+            Slice::Record => halves(&case.record),
+            Slice::Benches => halves(&case.benches),
         };
         if w.words(slice) != words {
             w.set_or_fill(slice, &words);
         }
     }
     w.call(case.call, case.n, case.x, case.third())
+}
+
+fn halves(words: &[u32]) -> Vec<u64> {
+    words.iter().map(|&x| x as u64).collect()
 }
 
 fn emit_all<'a>(w: &mut Writer, cases: impl IntoIterator<Item = &'a Case>) {
@@ -85,7 +90,7 @@ fn emit_all<'a>(w: &mut Writer, cases: impl IntoIterator<Item = &'a Case>) {
 }
 
 fn fits(case: &Case) -> bool {
-    case.a.len().max(case.b.len()) <= MOST[0] && case.c.len() <= MOST[1] && case.record.len() <= MOST[2]
+    case.a.len().max(case.b.len()) <= MOST[0] && case.c.len().max(case.benches.len()) <= MOST[1] && case.record.len() <= MOST[2]
 }
 
 /// Families of this library with orders from `orders`, until `words` more have been written.
@@ -218,6 +223,139 @@ fn lblt(w: &mut Writer) {
         }
     }
     w.sweep(1, &SPECIAL);
+    benches(w);
+}
+
+/// A bench's call on what the registers hold.
+fn solve_bench(w: &mut Writer, n: usize, columns: usize, bench: u32, run: u32) {
+    w.call(Call::LbltSolveBench, n, columns, (bench as usize) << 32 | run as usize);
+}
+
+/// Calls by the benches of the seeds from `seed` on with orders from `orders`, the shorter ones, until `words` more have been written.
+fn bench_families(w: &mut Writer, orders: std::ops::RangeInclusive<usize>, words: usize, seed: u64) {
+    let end = w.list.len() + words;
+    let mut seed = seed;
+    while w.list.len() < end {
+        let cases = cases::benches(seed);
+        if orders.contains(&cases[0].n) && cases[0].b.len() <= 60 {
+            emit_all(w, &cases);
+        }
+        seed += 1;
+    }
+}
+
+/// Differs from bench 1 in one bit.
+const HIGH: u32 = 1 + (1 << 31);
+
+/// Columns side by side, as bench and how many: 64 columns, and 23.
+const STRETCHES: [&[(u32, usize)]; 2] = [
+    &[(1, 1), (2, 4), (1, 3), (HIGH, 1), (2, 8), (1, 4), (HIGH, 6), (1, 9), (2, 2), (1, 5), (2, 7), (1, 2), (2, 5), (1, 6), (HIGH, 1)],
+    &[(2, 1), (1, 1), (2, 1), (1, 1), (2, 3), (1, 3), (2, 5), (1, 7), (2, 1)],
+];
+
+fn benches(w: &mut Writer) {
+    let run = 7;
+    let bits = |s: &[f64]| s.iter().map(|x| x.to_bits()).collect::<Vec<_>>();
+    // each bench in turn, one that has no column, and another run; the second matrix is marked
+    let sides = [3.0, 5.0, f64::NAN, f64::INFINITY, 7.0, 11.0];
+    let first: [(usize, &[f64]); 4] = [(2, &[0.0, 1.0, 0.0]), (2, &[0.0, f64::NAN, 5.0]), (1, &[2.0]), (0, &[])];
+    for (n, lower) in first {
+        w.case();
+        w.set(Slice::A, &bits(&matrix(n, lower)));
+        w.set(Slice::Record, &vec![9; record_length(n)]);
+        w.call(Call::LbltFactor, n, 0, run as usize);
+        w.set(Slice::B, &bits(&sides[..3 * n]));
+        w.set(Slice::Benches, &[1, 2, 1]);
+        for (bench, run) in [(3, run), (1, run), (1, run + 1), (3, run + 1), (2, run)] {
+            solve_bench(w, n, 3, bench, run);
+        }
+        w.set(Slice::B, &[]);
+        w.set(Slice::Benches, &[]);
+        solve_bench(w, n, 0, 1, run);
+        solve_bench(w, n, 0, 1, run + 1);
+    }
+    // numbers at the ends and one bit apart
+    let numbers = [1, 0, HIGH, 1 + (1 << 16), u32::MAX, 2];
+    w.case();
+    w.set(Slice::A, &bits(&[2.0]));
+    w.set(Slice::Record, &[0, 1, 0, run as u64]);
+    w.set(Slice::B, &bits(&[3.0; 6]));
+    w.set(Slice::Benches, &halves(&numbers));
+    for bench in numbers {
+        solve_bench(w, 1, 6, bench, run);
+    }
+    refusals(w, &[Call::LbltSolveBench]);
+    // each count by itself at the most, above it, and not that of what is lent; then two at a time, so that the order of the checks shows
+    w.case();
+    w.set(Slice::B, &[ONE]);
+    w.set(Slice::A, &[ONE]);
+    w.set(Slice::Record, &[0, 1, 0, run as u64]);
+    w.set(Slice::Benches, &[1]);
+    for (n, columns) in [(1, 1), (1024, 1), (1025, 1), (1, 1024), (1, 1025), (0, 1), (2, 1), (1, 0), (1, 2), (2, 1025), (2, 2)] {
+        solve_bench(w, n, columns, 1, run);
+    }
+    // one length at a time that is not the counts'
+    w.case();
+    for (columns, lens) in
+        [(1, [0, 4, 1, 1]), (1, [2, 4, 1, 1]), (1, [1, 3, 1, 1]), (1, [1, 5, 1, 1]), (0, [1, 4, 1, 0]), (2, [1, 4, 1, 2])]
+    {
+        w.set(Slice::A, &[ONE; 2][..lens[0]]);
+        w.set(Slice::Record, &[0, 1, 0, run as u64, run as u64][..lens[1]]);
+        w.set(Slice::B, &[ONE][..lens[2]]);
+        w.set(Slice::Benches, &[1; 2][..lens[3]]);
+        solve_bench(w, 1, columns, 1, run);
+    }
+    // every length of the list with every record: sound, marked, broken in the row and at the mark
+    w.case();
+    w.set(Slice::A, &[ONE]);
+    for record in [[0, 1, 0], [0, 1, 1], [0, 2, 0], [0, 1, 2]] {
+        w.set(Slice::Record, &[&record[..], &[run as u64]].concat());
+        for list in [0, 2, 1] {
+            w.set(Slice::Benches, &[1, 1][..list]);
+            for (bench, run) in [(1, run + 1), (2, run + 1), (1, run), (2, run)] {
+                solve_bench(w, 1, 1, bench, run);
+            }
+        }
+    }
+    // sound records with each word changed to each of a few, for a bench that has a column and for one that has none
+    for record in [[1, 1, 1, 1, 2, run], [1, 2, 1, 2, 0, run]] {
+        for at in 0..record.len() {
+            for word in [0, 1, 2, 3, u32::MAX] {
+                let mut changed = record.to_vec();
+                changed[at] = word;
+                w.case();
+                w.set(Slice::Record, &halves(&changed));
+                if (at, word) == (0, 0) {
+                    w.set(Slice::A, &bits(&[1.0, 2.0, 3.0, 4.0]));
+                    w.set(Slice::Benches, &[2, 1]);
+                }
+                w.set_or_fill(Slice::B, &bits(&filled(4)));
+                solve_bench(w, 2, 2, 1, run);
+                solve_bench(w, 2, 2, 3, run);
+            }
+        }
+    }
+    bench_families(w, 1..=4, 900, 6_000_000);
+    bench_families(w, 5..=8, 900, 6_100_000);
+    bench_families(w, 9..=12, 600, 6_200_000);
+    for (stretches, heavy) in STRETCHES.into_iter().zip([false, true]) {
+        let list: Vec<u32> = stretches.iter().flat_map(|&(bench, width)| vec![bench; width]).collect();
+        w.case();
+        w.set(Slice::Benches, &halves(&list));
+        for n in ORDERS {
+            w.case();
+            w.random(Slice::A, n * n, 20 + n as u64);
+            if heavy {
+                w.shift(Slice::A, n, n, n as f64);
+            }
+            w.set_or_fill(Slice::Record, &(0..record_length(n) as u64).collect::<Vec<_>>());
+            w.call(Call::LbltFactor, n, 0, run as usize);
+            w.random(Slice::B, n * list.len(), 21);
+            for bench in [1, 2, HIGH] {
+                solve_bench(w, n, list.len(), bench, run);
+            }
+        }
+    }
 }
 
 /// Diagonals on both sides of each test: alone, last of three in one call, and last of three in a batch of its own.

@@ -43,8 +43,8 @@ pub(super) fn placed(r: &mut Rng, m: &Symmetric, room: usize, lower: bool) -> Ve
     if r.one_in(8) { m.placed(room, lower, |_| f64::NAN) } else { m.placed(room, lower, fill) }
 }
 
-/// A run number: one of the ends, or any.
-fn a_run(r: &mut Rng) -> u32 {
+/// The number of a run or a bench: one of the ends, or any.
+pub(super) fn a_number(r: &mut Rng) -> u32 {
     match r.below(4) {
         0 => 0,
         1 => u32::MAX,
@@ -53,18 +53,18 @@ fn a_run(r: &mut Rng) -> u32 {
 }
 
 /// Any number but this one; often one bit or one unit beside it.
-fn another_run(r: &mut Rng, run: u32) -> u32 {
+pub(super) fn another_number(r: &mut Rng, number: u32) -> u32 {
     let bit = 1 << r.below(32);
-    let any = a_run(r);
-    let other = r.pick(&[run ^ bit, run.wrapping_add(1), run.wrapping_sub(1), any]);
-    if other == run { !run } else { other }
+    let any = a_number(r);
+    let other = r.pick(&[number ^ bit, number.wrapping_add(1), number.wrapping_sub(1), any]);
+    if other == number { !number } else { other }
 }
 
 /// `runs` is the source of the run numbers and of what is read by another one.
 fn lblt(r: &mut Rng, runs: &mut Rng, n: usize) -> Vec<Case> {
     let m = symmetric(r, &FOR_LBLT, n);
     let a = placed(r, &m, n, true);
-    let run = a_run(runs);
+    let run = a_number(runs);
     let factor = Case { run, record: vec![0x5a5a_5a5a; record_length(n)], ..Case::new(Call::LbltFactor, n, a) };
     let mut own = factor.clone();
     Text.lblt_factor(&mut own.a, &mut own.record, n, run);
@@ -85,7 +85,7 @@ fn lblt(r: &mut Rng, runs: &mut Rng, n: usize) -> Vec<Case> {
     if n <= 20 && runs.one_in(4) {
         let records = [sound_record(runs, n, run), changed_record(runs, &own.record), mismarked_record(runs, n, run), own.record.clone()];
         for record in records {
-            let other = Case { run: another_run(runs, run), record, ..own.clone() };
+            let other = Case { run: another_number(runs, run), record, ..own.clone() };
             readers(runs, &other, &mut out);
         }
     }
@@ -155,7 +155,7 @@ fn marks_on_ones(pairs: &[u32]) -> (Vec<u32>, Vec<u32>) {
 }
 
 /// A record that keeps the rule.
-fn sound_record(r: &mut Rng, n: usize, run: u32) -> Vec<u32> {
+pub(super) fn sound_record(r: &mut Rng, n: usize, run: u32) -> Vec<u32> {
     let mut out = sound_pairs(r, n);
     let (own, _) = marks_on_ones(&out);
     out.extend([if !own.is_empty() && r.one_in(4) { r.pick(&own) } else { 0 }, run]);
@@ -163,7 +163,7 @@ fn sound_record(r: &mut Rng, n: usize, run: u32) -> Vec<u32> {
 }
 
 /// A record whose pairs keep the rule and whose mark names a row of size 1 with another index, or no row where there is none.
-fn mismarked_record(r: &mut Rng, n: usize, run: u32) -> Vec<u32> {
+pub(super) fn mismarked_record(r: &mut Rng, n: usize, run: u32) -> Vec<u32> {
     let mut out = sound_pairs(r, n);
     let (_, others) = marks_on_ones(&out);
     out.extend([if others.is_empty() { n as u32 + 1 } else { r.pick(&others) }, run]);
@@ -171,7 +171,7 @@ fn mismarked_record(r: &mut Rng, n: usize, run: u32) -> Vec<u32> {
 }
 
 /// One word of a record changed.
-fn changed_record(r: &mut Rng, record: &[u32]) -> Vec<u32> {
+pub(super) fn changed_record(r: &mut Rng, record: &[u32]) -> Vec<u32> {
     let mut out = record.to_vec();
     let at = r.below(out.len());
     let n = (out.len() / 2) as u32 - 1;

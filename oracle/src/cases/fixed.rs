@@ -64,10 +64,11 @@ fn on(lower: &[f64], side: [f64; 2]) -> Vec<Case> {
     let mut rooted = cholesky.clone();
     Text.cholesky_factor(&mut rooted.a, n, n);
     let solve = |factor: &Case, b: Vec<f64>| Case { call: Call::CholeskySolve, y: b.len() / n, b, ..factor.clone() };
-    let five_columns = lower.iter().chain(&side[..n]).copied().cycle().take(5 * n).collect();
+    let five_columns: Vec<f64> = lower.iter().chain(&side[..n]).copied().cycle().take(5 * n).collect();
     vec![
         factor,
         Case { x: 1, b: side[..n].to_vec(), ..reader(Call::LbltSolve) },
+        Case { x: 5, bench: 1, benches: vec![1, 2, 2, 1, 1], b: five_columns.clone(), ..reader(Call::LbltSolveBench) },
         Case { b: vec![], ..reader(Call::LbltDeterminant) },
         reader(Call::LbltD),
         reader(Call::LbltLPermuted),
@@ -137,7 +138,29 @@ pub fn refusals() -> Vec<Case> {
     records(&mut out);
     out.extend(marks());
     out.extend(runs());
+    bench_refusals(&mut out);
     out
+}
+
+/// As for `lblt_solve`, by a bench that has a column and by one that has none.
+fn bench_refusals(out: &mut Vec<Case>) {
+    let by = |bench: u32, solve: &Case| {
+        let benches = (0..solve.x).map(|j| j as u32 + 1).collect();
+        Case { call: Call::LbltSolveBench, bench, benches, ..solve.clone() }
+    };
+    let mut solves = vec![];
+    records(&mut solves);
+    solves.extend(marks());
+    solves.extend(runs());
+    solves.retain(|case| case.call == Call::LbltSolve);
+    out.extend(solves.iter().flat_map(|solve| [by(1, solve), by(u32::MAX, solve)]));
+    for n in 0..4 {
+        let mut record: Vec<u32> = (0..n as u32).flat_map(|k| [k, 1]).collect();
+        record.extend([0, RUN]);
+        let solve = Case { x: 2, b: filled(2 * n), run: RUN, record, ..Case::new(Call::LbltSolve, n, filled(n * n)) };
+        spoiled(out, &by(1, &solve));
+        spoiled(out, &by(3, &solve));
+    }
 }
 
 /// The case with one or two things changed in it.
@@ -168,6 +191,8 @@ enum Edit {
     RecordLength(isize),
     RecordWord(usize, u32),
     Run(u32),
+    BenchesLength(isize),
+    Bench(u32),
 }
 
 fn edits(base: &Case) -> Vec<Edit> {
@@ -190,6 +215,10 @@ fn edits(base: &Case) -> Vec<Edit> {
     if base.run == RUN {
         out.extend([0, RUN - 1, RUN + 1, u32::MAX].map(Edit::Run));
     }
+    if base.call == Call::LbltSolveBench {
+        out.extend([-2, -1, 1].map(Edit::BenchesLength));
+        out.extend([0, 2, 1 + (1 << 16), 1 + (1 << 31)].map(Edit::Bench));
+    }
     out
 }
 
@@ -207,6 +236,11 @@ impl Edit {
                 case.record.resize(len, 0);
             }
             Edit::Run(run) => case.run = run,
+            Edit::BenchesLength(by) => {
+                let len = case.benches.len().saturating_add_signed(by);
+                case.benches.resize(len, case.bench);
+            }
+            Edit::Bench(bench) => case.bench = bench,
             Edit::RecordWord(at, word) => {
                 if let Some(place) = case.record.get_mut(at) {
                     *place = word;
@@ -230,6 +264,9 @@ fn taken(mut case: Case) -> Case {
     if !form.numbers.contains(&Number::Y) {
         case.y = 0;
     }
+    if !form.numbers.contains(&Number::Bench) {
+        case.bench = 0;
+    }
     if !form.numbers.contains(&Number::Run) {
         case.run = 0;
     }
@@ -241,6 +278,9 @@ fn taken(mut case: Case) -> Case {
     }
     if !form.slices.contains(&Slice::Record) {
         case.record.clear();
+    }
+    if !form.slices.contains(&Slice::Benches) {
+        case.benches.clear();
     }
     case
 }

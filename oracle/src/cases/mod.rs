@@ -1,5 +1,6 @@
 //! Hard cases for every call. All comes from a seed; the same seed gives the same cases.
 
+mod benches;
 mod families;
 mod fixed;
 mod matrices;
@@ -7,6 +8,7 @@ mod rng;
 mod solves;
 mod twins;
 
+pub use benches::{bench_lists, benches, benches_of_all_orders, largest_benches};
 pub use families::{Chain, Family, alpha_case, family, largest, many_columns};
 pub use fixed::{SPECIAL, marks, refusals, runs, sweep};
 pub use matrices::{fill, filled};
