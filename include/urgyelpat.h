@@ -127,6 +127,18 @@ URGYELPAT_MUST_USE uint64_t urgyelpat_lblt_factor(double *a, size_t a_length, ui
 URGYELPAT_MUST_USE uint64_t urgyelpat_lblt_solve(const double *a, size_t a_length, const uint32_t *record, size_t record_length,
                                                  double *b, size_t b_length, size_t n, size_t columns, uint32_t run);
 
+/* Solves the columns of one bench in b (n*columns numbers, column by column) by a factor and its record, which is expected
+ * to be of run `run`. benches (columns words) has a bench number, any uint32_t, for each column: column j is solved if
+ * benches[j] is `bench`, and else stays as it was. A solved column is what urgyelpat_lblt_solve gives for that column. What
+ * a bench gets, the answer too, depends on nothing that stands in the columns of the others. Where it has no column, the
+ * same is checked and nothing is written.
+ * Four or more columns of the bench that stand side by side are solved several at a time, fewer one by one.
+ * Answers 0, 1, 3 (a), 4 (record, b or benches), 5, 13, 6 (its place is as for urgyelpat_lblt_solve). */
+URGYELPAT_MUST_USE uint64_t urgyelpat_lblt_solve_bench(const double *a, size_t a_length, const uint32_t *record,
+                                                       size_t record_length, double *b, size_t b_length,
+                                                       const uint32_t *benches, size_t benches_length, size_t n,
+                                                       size_t columns, uint32_t bench, uint32_t run);
+
 /* The row of the given matrix that stands at a row of the factor: the exchanges of the record, taken back from the last to the
  * first. ([1 / 2 4]: row 1 is marked, and it is row 0 as given.) record has the 2n + 2 words that a factor call of order n
  * wrote, in whichever run: only its pairs are read. */

@@ -26,6 +26,20 @@ extern "C" {
         columns: usize,
         run: u32,
     ) -> u64;
+    pub fn urgyelpat_lblt_solve_bench(
+        a: *const f64,
+        a_length: usize,
+        record: *const u32,
+        record_length: usize,
+        b: *mut f64,
+        b_length: usize,
+        benches: *const u32,
+        benches_length: usize,
+        n: usize,
+        columns: usize,
+        bench: u32,
+        run: u32,
+    ) -> u64;
     pub fn urgyelpat_lblt_determinant(
         a: *const f64,
         a_length: usize,

@@ -78,6 +78,62 @@ pub fn solve_mut(a: &[f64], record: &[u32], b: &mut [f64], n: usize, columns: us
     })
 }
 
+/// Solves the columns of one bench in `b` (n·columns numbers), by a factor and its record, which is expected to be of the run
+/// `run`. `benches` has a bench number, any `u32`, for each column: column j is solved if `benches[j]` is `bench`, and else
+/// stays as it was.
+///
+/// A solved column is what [`solve_mut`] gives for that column. What a bench gets, the answer too, depends on nothing that
+/// stands in the columns of the others. Where it has no column, the same is checked and nothing is written. Four or more
+/// columns of the bench that stand side by side are solved several at a time, fewer one by one.
+///
+/// Refused as [`solve_mut`] is, and by [`SliceLength`](Refusal::SliceLength) where `benches` does not have a number for each
+/// column.
+///
+/// ```
+/// use urgyelpat::{lblt, Refusal};
+///
+/// let (a, record) = ([0.0, 1.0, 0.0, 0.0], [1, 2, 1, 2, 0, 1116]);
+/// // the left bench, 1, sent the first and the last column; the right bench, 2, the one between
+/// let (mut b, benches) = ([3.0, 5.0, 7.0, 9.0, 1.0, 0.0], [1, 2, 1]);
+/// lblt::solve_bench(&a, &record, &mut b, &benches, 2, 3, 1, 1116)?;
+/// assert_eq!(b, [5.0, 3.0, 7.0, 9.0, 0.0, 1.0]);
+///
+/// // a number of the list is missing
+/// let refused = lblt::solve_bench(&a, &record, &mut b, &benches[..2], 2, 3, 2, 1116);
+/// assert_eq!(refused, Err(Refusal::SliceLength));
+/// assert_eq!(b, [5.0, 3.0, 7.0, 9.0, 0.0, 1.0]);
+/// # Ok::<(), Refusal>(())
+/// ```
+#[allow(clippy::too_many_arguments)] // those of the library's call
+pub fn solve_bench(
+    a: &[f64],
+    record: &[u32],
+    b: &mut [f64],
+    benches: &[u32],
+    n: usize,
+    columns: usize,
+    bench: u32,
+    run: u32,
+) -> Result<(), Refusal> {
+    // SAFETY: each pointer and length are a slice's, and what is written is borrowed alone.
+    done(unsafe {
+        ffi::urgyelpat_lblt_solve_bench(
+            a.as_ptr(),
+            a.len(),
+            record.as_ptr(),
+            record.len(),
+            b.as_mut_ptr(),
+            b.len(),
+            benches.as_ptr(),
+            benches.len(),
+            n,
+            columns,
+            bench,
+            run,
+        )
+    })
+}
+
 /// The determinant by a factor and its record, which is expected to be of the run `run`; 1 for order 0.
 ///
 /// Refused by [`OutOfRange`](Refusal::OutOfRange), [`MatrixLength`](Refusal::MatrixLength),
@@ -294,6 +350,37 @@ impl LBLT {
     pub fn solve_mut(&self, b: &mut [f64]) -> Result<(), Refusal> {
         let columns = whole_columns(b.len(), self.order);
         solve_mut(&self.matrix, &self.record, b, self.order, columns, self.run())
+    }
+
+    /// [`solve_mut`](LBLT::solve_mut) for the columns of one bench: column j of `b` is solved if `benches[j]` is `bench`, and
+    /// else stays as it was. A refusal leaves all of `b` as it was.
+    ///
+    /// Refused by [`OutOfRange`](Refusal::OutOfRange) for more than 1,024 bench numbers and by
+    /// [`SliceLength`](Refusal::SliceLength) where `b` does not have n numbers for each of them. Where `b` fits, refused by
+    /// [`ZeroMark`](Refusal::ZeroMark) exactly if there is a [`zero_pivot`](LBLT::zero_pivot), even if the bench has no column.
+    ///
+    /// ```
+    /// use urgyelpat::{Refusal, LBLT};
+    ///
+    /// let factor = LBLT::new(vec![0.0, 1.0, 0.0, 0.0], 2, 1116)?;
+    /// let mut sides = [3.0, 5.0, 7.0, f64::NAN];
+    /// factor.solve_bench(&mut sides, &[1, 2], 1)?; // the left bench is 1, the right bench 2
+    /// assert_eq!(sides[..2], [5.0, 3.0]);
+    /// assert_eq!(sides[2], 7.0);
+    /// assert!(sides[3].is_nan());
+    /// # Ok::<(), Refusal>(())
+    /// ```
+    pub fn solve_bench(&self, b: &mut [f64], benches: &[u32], bench: u32) -> Result<(), Refusal> {
+        solve_bench(
+            &self.matrix,
+            &self.record,
+            b,
+            benches,
+            self.order,
+            benches.len(),
+            bench,
+            self.run(),
+        )
     }
 
     /// The determinant; 1 for order 0.

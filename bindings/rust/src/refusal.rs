@@ -107,7 +107,7 @@ impl fmt::Display for Refusal {
             ),
             Refusal::SliceLength => write!(
                 f,
-                "the pivot record, the right-hand sides, the new rows or the matrix to fill do not have the length that the order asks for: check that they belong to this matrix"
+                "the pivot record, the right-hand sides, the bench numbers, the new rows or the matrix to fill do not have the length that the order and the columns ask for: check that they belong to this matrix"
             ),
             Refusal::BadRecord { row } => write!(
                 f,

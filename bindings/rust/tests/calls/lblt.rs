@@ -38,6 +38,10 @@ fn a_mark_on_a_row_with_another_index_is_refused_by_every_reader() {
     let refused = Refusal::BadRecord { row: 2 };
     let mut lent = [3.0, 5.0, 7.0, 9.0];
     assert_eq!(lblt::solve_mut(&a, &changed, &mut lent, 2, 2, 7), Err(refused));
+    assert_eq!(
+        lblt::solve_bench(&a, &changed, &mut lent, &[1, 2], 2, 2, 1, 7),
+        Err(refused)
+    );
     assert_eq!(lblt::determinant(&a, &changed, 2, 7), Err(refused));
     assert_eq!(lblt::d(&a, &changed, &mut lent, 2, 7), Err(refused));
     assert_eq!(lblt::l_permuted(&a, &changed, &mut lent, 2, 7), Err(refused));

@@ -1,6 +1,7 @@
 //! The crate's calls through liburgyelpat.a.
 
 mod batches;
+mod benches;
 mod cholesky;
 mod lblt;
 mod numbers;

@@ -17,10 +17,14 @@ const LENT: [f64; 4] = [3.0, 5.0, 7.0, 9.0];
 type Reader = fn(&[u32], &mut [f64], u32) -> Result<(), Refusal>;
 
 /// The calls that read the factor, and what each makes of [`LENT`]. The determinant is put at its front, where there is one.
-const READERS: [(Reader, [f64; 4]); 4] = [
+const READERS: [(Reader, [f64; 4]); 5] = [
     (
         |record, lent, run| lblt::solve_mut(&A, record, lent, 2, 2, run),
         [-7.0, 3.0, -19.0, 7.0],
+    ),
+    (
+        |record, lent, run| lblt::solve_bench(&A, record, lent, &[2, 1], 2, 2, 1, run),
+        [3.0, 5.0, -19.0, 7.0],
     ),
     (
         |record, lent, run| lblt::determinant(&A, record, 2, run).map(|value| lent[0] = value),
