@@ -19,12 +19,15 @@ pub struct Work {
     pub measure: fn(n: usize, seconds: f64) -> Pair,
 }
 
-pub const WORKS: [Work; 12] = [
+pub const WORKS: [Work; 15] = [
     Work { name: "cholesky factor", measure: cholesky },
     Work { name: "lblt factor, random symmetric", measure: |n, s| lblt(n, s, 0.0) },
     Work { name: "lblt factor, heavy diagonal", measure: |n, s| lblt(n, s, n as f64) },
     Work { name: "lblt solve, 1 column", measure: |n, s| solve(n, s, 1) },
     Work { name: "lblt solve, 64 columns", measure: |n, s| solve(n, s, 64) },
+    Work { name: "lblt solve_bench, 1 column of 2, against the port's lblt solve", measure: |n, s| bench_solve(n, s, 1, side_by_side) },
+    Work { name: "lblt solve_bench, 32 of 64 side by side, against the port's lblt solve", measure: |n, s| bench_solve(n, s, 32, side_by_side) },
+    Work { name: "lblt solve_bench, 32 of 64 in turn, against the port's lblt solve", measure: |n, s| bench_solve(n, s, 32, in_turn) },
     Work { name: "cholesky solve, 1 column, against plain Rust", measure: |n, s| cholesky_solve(n, s, 1) },
     Work { name: "cholesky solve, 64 columns, against plain Rust", measure: |n, s| cholesky_solve(n, s, 64) },
     Work { name: "cholesky solve, 1 column, against the port's lblt solve", measure: |n, s| beside_lblt(n, s, 1) },
@@ -107,6 +110,40 @@ fn solve(n: usize, seconds: f64, columns: usize) -> Pair {
         &mut |many| {
             timed_in_place(copies(&b, many), |b| {
                 black_box(Port.lblt_solve(&a, &record, b, n, columns, RUN));
+            })
+        },
+    )
+}
+
+/// The bench number of a column, of twice `own` columns.
+type Benches = fn(column: usize, own: usize) -> u32;
+
+fn side_by_side(column: usize, own: usize) -> u32 {
+    if column < own { LEFT } else { RIGHT }
+}
+
+fn in_turn(column: usize, _own: usize) -> u32 {
+    if column % 2 == 0 { LEFT } else { RIGHT }
+}
+
+const LEFT: u32 = 1;
+const RIGHT: u32 = 2;
+
+/// A bench's own columns of twice as many, beside the port's solve of as many columns in the same buffer.
+fn bench_solve(n: usize, seconds: f64, own: usize, bench: Benches) -> Pair {
+    let (_, a, record) = factored(n, 0.0);
+    let b = sides(n, 2 * own);
+    let benches: Vec<u32> = (0..2 * own).map(|column| bench(column, own)).collect();
+    pair(
+        seconds,
+        &mut |many| {
+            timed_in_place(copies(&b, many), |b| {
+                black_box(Port.lblt_solve(&a, &record, &mut b[..n * own], n, own, RUN));
+            })
+        },
+        &mut |many| {
+            timed_in_place(copies(&b, many), |b| {
+                black_box(Port.lblt_solve_bench(&a, &record, b, &benches, n, 2 * own, LEFT, RUN));
             })
         },
     )
