@@ -3,16 +3,14 @@
 --     refused-all                   a refused call leaves all
 --     others-unfelt                 two calls that agree on all but the others' columns
 --     as-solved                     a call and a `solve_mut` of all columns
-use mathlib.Core.Bool.{Bool, true, false, cond}
+use mathlib.Core.Bool.{true, false, cond}
 use mathlib.Core.List.{List}
 use mathlib.Core.Path.{_≡_, refl, sym, ap, _∙_}
-use Prim.Native.Nat.{ℕ, _*_, _<_}
+use Prim.Native.Nat.{ℕ, _<_}
 use lib.Ieee.{Float}
 use lib.ListN.{length}
 use Rattle.answer.specs.declared.Answer.{Answer}
-use Rattle.answer.specs.declared.Answer.the-variants.{Done}
 use Rattle.answer.specs.Number.{isDone}
-use Rattle.answer.specs.Refusals.{tested}
 use Rattle.answer.proofs.Done.{done-or-refused, done-alike}
 use Rattle.matrix.specs.declared.Layout.{Layout}
 use Rattle.matrix.specs.Grid.{load}
@@ -23,7 +21,8 @@ use Rattle.lblt_solve_one.specs.Column.{solveColumn}
 use Rattle.lblt_solve_one.proofs.Keeps.{solve-keeps}
 use Rattle.lblt_solve.specs.Solve.{LbltSolved}
 use Rattle.lblt_solve.proofs.ColumnAlone.{lblt-column-solved}
-use Rattle.lblt_bench.specs.Bench.{owns, benchTests, BenchSolved}
+use Rattle.lblt_bench.specs.Bench.{owns, BenchSolved}
+use Rattle.lblt_bench.specs.Unfelt.{OwnAlike, OthersAlike, Unfelt}
 use Rattle.lblt_bench.proofs.Listed.{bench-admitted, as-solve}
 
 module _ {y : Layout} {columns bench run : ℕ} {a : List Float} {words : List ℕ} {benches : List ℕ} where
@@ -46,7 +45,7 @@ module _ {y : Layout} {columns bench run : ℕ} {a : List Float} {words : List �
     own-solved done j below own = gone done j below ∙ rw own refl
 
     -- refused or not
-    pub others-as-given : (j : ℕ) → j < columns → owns benches bench j ≡ false → column (y .order) j b' ≡ column (y .order) j b
+    pub others-as-given : OthersAlike (y .order) columns benches bench b' b
     others-as-given j below other =
         done-or-refused r
         (λ (done : isDone r ≡ true). gone done j below ∙ rw other refl)
@@ -59,15 +58,15 @@ module _ {y : Layout} {columns bench run : ℕ} {a : List Float} {words : List �
       : {b c : List Float} {r q : Answer} {b' c' : List Float}
       → BenchSolved y columns bench run a words b benches r b'
       → BenchSolved y columns bench run a words c benches q c'
-      → length b ≡ length c
-      → ((j : ℕ) → j < columns → owns benches bench j ≡ true → column (y .order) j b ≡ column (y .order) j c)
-      → (r ≡ q) × ((j : ℕ) → j < columns → owns benches bench j ≡ true → column (y .order) j b' ≡ column (y .order) j c')
-  others-unfelt {b} {c} {r} {q} {b'} {c'} s t long alike = (same, own-same)
+      → length b ≡ length c → OwnAlike (y .order) columns benches bench b c
+      → Unfelt (y .order) columns benches bench b r b' c q c'
+  others-unfelt {b} {c} {r} {q} {b'} {c'} s t long alike =
+      record { answers = same; own = own-same; others = (others-as-given s, others-as-given t) }
     where
       same : r ≡ q
       same = s .answer ∙ rw long refl ∙ sym (t .answer)
 
-      own-same : (j : ℕ) → j < columns → owns benches bench j ≡ true → column (y .order) j b' ≡ column (y .order) j c'
+      own-same : OwnAlike (y .order) columns benches bench b' c'
       own-same j below own =
           done-alike same
           (λ done done'. own-solved s done j below own ∙ ap (solveColumn (y .order) (load (lower y) a) words) (alike j below own) ∙ sym (own-solved t done' j below own))
@@ -80,13 +79,13 @@ module _ {y : Layout} {columns bench run : ℕ} {a : List Float} {words : List �
       → BenchSolved y columns bench run a words b benches r b'
       → LbltSolved y columns run a words b q c
       → length benches ≡ columns
-      → (r ≡ q) × ((j : ℕ) → j < columns → owns benches bench j ≡ true → column (y .order) j b' ≡ column (y .order) j c)
+      → (r ≡ q) × OwnAlike (y .order) columns benches bench b' c
   as-solved {b} {r} {q} {b'} {c} s t fits = (same, own-same)
     where
       same : r ≡ q
       same = s .answer ∙ as-solve y columns run a words b benches fits ∙ sym (t .answer)
 
-      own-same : (j : ℕ) → j < columns → owns benches bench j ≡ true → column (y .order) j b' ≡ column (y .order) j c
+      own-same : OwnAlike (y .order) columns benches bench b' c
       own-same j below own =
           done-alike same
           (λ done done'. own-solved s done j below own ∙ sym (lblt-column-solved t done' j below))

@@ -20,8 +20,8 @@ use borrow.Author.Tests.{ltb-true, ltb-false}
 use lib.Dec.{ltb}
 use lib.ListN.{length, take, drop, length-append, length-drop, take-append-drop}
 use lib.Seq.{length-take-le, take-at, drop-at, take-add, take-all, take-append-le, drop-append-le, drop-append-add, drop-drop}
-use Rattle.matrix.specs.Loop.{for}
 use Rattle.answer.proofs.Tests.{either}
+use Rattle.matrix.specs.Loop.{for}
 use Rattle.matrix.specs.Columns.{column, atColumn, eachColumn, atChosen, eachChosen}
 use Rattle.matrix.proofs.Loops.{for-none, for-one, for-more, for-still, for-same}
 use Rattle.matrix.proofs.ColumnsLoops.{Keeping, Keeps, Loop, Uniform}

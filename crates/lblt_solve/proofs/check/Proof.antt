@@ -1,7 +1,9 @@
 -- `check` refuses what a reader refuses, and then a mark.
-use mathlib.Core.Path.{sym, ap, _∙_}
-use Rattle.answer.specs.Number.{isDone}
-use Rattle.lblt_read.proofs.Admitted.{columns-done, sides-small, columns-answers}
+use Rattle.answer.specs.declared.Answer.the-variants.{Done}
+use Rattle.answer.specs.Refusals.{tested}
+use Rattle.answer.proofs.Tested.{then-done}
+use Rattle.lblt_read.specs.Calls.{wordTests}
+use Rattle.lblt_read.proofs.Admitted.{sides-small, words-accepted, columns-answers}
 use Rattle.lblt_solve.proofs.Marked.{solve-answers}
 use borrow.Author.Needs.{needs}
 use Rattle.lblt_solve.proofs.check.Statement.{statement}
@@ -11,17 +13,22 @@ check-sides-requires : tie.Need-check-sides-requires
 check-sides-requires c κs = search needs
 
 check-record-requires : tie.Need-check-record-requires
-check-record-requires c κs = sides-small (c .before .before .before .before .args .y) (c .before .before .before .before .args .columns) (c .before .before .before .before .args .a .now) (c .before .before .before .before .args .b .now) (c .check-sides .ensures)
+check-record-requires c κs =
+    let args = c .before .before .before .before .args in
+    sides-small (args .y) (args .columns) (args .a .now) (args .b .now) (c .check-sides .ensures)
 
 check-mark-requires : tie.Need-check-mark-requires
 check-mark-requires c κs = λ passed.
-    let read = columns-answers (c .before .before .before .before .before .args .y) (c .before .before .before .before .before .args .columns) (c .before .before .before .before .before .args .a .now) (c .before .before .before .before .before .args .b .now) (c .before .check-sides .ensures) (c .before .before .before .before .before .args .run) (c .before .before .before .before .before .args .words .now) (c .check-record .ensures) in
-    columns-done (c .before .before .before .before .before .args .y) (c .before .before .before .before .before .args .columns) (c .before .before .before .before .before .args .run) (c .before .before .before .before .before .args .a .now) (c .before .before .before .before .before .args .words .now) (c .before .before .before .before .before .args .b .now) (ap isDone (sym read) ∙ passed) .readable .accepted
+    let args = c .before .before .before .before .before .args in
+    let recorded = then-done (c .before .check-sides .result) (tested (wordTests (args .y .order) (args .run) (args .words .now)) Done) (c .check-record .ensures) passed in
+    let small = sides-small (args .y) (args .columns) (args .a .now) (args .b .now) (c .before .check-sides .ensures) (recorded .0) in
+    words-accepted (args .y .order) (args .run) (args .words .now) small (recorded .1)
 
 returns : tie.Need-returns
 returns c =
-    let read = columns-answers (c .before .before .before .before .before .before .args .y) (c .before .before .before .before .before .before .args .columns) (c .before .before .before .before .before .before .args .a .now) (c .before .before .before .before .before .before .args .b .now) (c .before .before .check-sides .ensures) (c .before .before .before .before .before .before .args .run) (c .before .before .before .before .before .before .args .words .now) (c .before .check-record .ensures) in
-    solve-answers (c .before .before .before .before .before .before .args .y) (c .before .before .before .before .before .before .args .columns) (c .before .before .before .before .before .before .args .run) (c .before .before .before .before .before .before .args .a .now) (c .before .before .before .before .before .before .args .words .now) (c .before .before .before .before .before .before .args .b .now) read (c .check-mark .ensures)
+    let args = c .before .before .before .before .before .before .args in
+    let read = columns-answers (args .y) (args .columns) (args .a .now) (args .b .now) (c .before .before .check-sides .ensures) (args .run) (args .words .now) (c .before .check-record .ensures) in
+    solve-answers (args .y) (args .columns) (args .run) (args .a .now) (args .words .now) (args .b .now) read (c .check-mark .ensures)
 
 pub check-spec : {M : Type 1} → statement M
 check-spec =

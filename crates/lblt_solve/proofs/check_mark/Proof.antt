@@ -12,29 +12,36 @@ code-requires : tie.Need-code-requires
 code-requires c κs = search needs
 
 returns : tie.Need-returns
-returns c = rw (code-refused (c .before .before .before .args .«read») (c .before .code .ensures) (c .if1 .taken))
+returns c =
+    let args = c .before .before .before .args in
+    rw (code-refused (args .read) (c .before .code .ensures) (c .if1 .taken))
 
 mark-requires : tie.Need-mark-requires
 mark-requires c κs =
-    let accepted = c .before .before .before .pre (code-done (c .before .before .before .args .«read») (c .before .code .ensures) (c .if1 .left)) in
+    let args = c .before .before .before .args in
+    let accepted = c .before .before .before .pre (code-done (args .read) (c .before .code .ensures) (c .if1 .left)) in
     omega (arith, accepted .sized .total)
 
 returns-2 : tie.Need-returns-2
 returns-2 c =
-    let passed = code-done (c .before .before .before .before .before .args .«read») (c .before .before .before .code .ensures) (c .before .before .if1 .left) in
-    rw passed (done-is (c .before .before .before .before .before .args .«read») passed ∙ unmarked (c .before .before .before .before .before .args .n) (c .before .before .before .before .before .args .words .now) (c .before .mark .ensures) (c .if2 .taken))
+    let args = c .before .before .before .before .before .args in
+    let passed = code-done (args .read) (c .before .before .before .code .ensures) (c .before .before .if1 .left) in
+    rw passed (done-is (args .read) passed ∙ unmarked (args .n) (args .words .now) (c .before .mark .ensures) (c .if2 .taken))
 
 sub-t7 : tie.Need-sub-t7
 sub-t7 c = search needs
 
 cast-t8 : tie.Need-cast-t8
 cast-t8 c =
-    let accepted = c .before .before .before .before .before .pre (code-done (c .before .before .before .before .before .args .«read») (c .before .before .before .code .ensures) (c .before .before .if1 .left)) in
+    let args = c .before .before .before .before .before .args in
+    let accepted = c .before .before .before .before .before .pre (code-done (args .read) (c .before .before .before .code .ensures) (c .before .before .if1 .left)) in
     let row = mark-row accepted (λ e. c .if2 .left (c .before .mark .ensures ∙ e)) in
     omega (arith, accepted .sized .order, row .passed, c .before .mark .ensures)
 
 returns-3 : tie.Need-returns-3
-returns-3 c = rw (code-done (c .before .before .before .before .before .args .«read») (c .before .before .before .code .ensures) (c .before .before .if1 .left)) (marked (c .before .before .before .before .before .args .n) (c .before .before .before .before .before .args .words .now) (c .before .mark .ensures) (c .if2 .left))
+returns-3 c =
+    let args = c .before .before .before .before .before .args in
+    rw (code-done (args .read) (c .before .before .before .code .ensures) (c .before .before .if1 .left)) (marked (args .n) (args .words .now) (c .before .mark .ensures) (c .if2 .left))
 
 pub check-mark-spec : {M : Type 1} → statement M
 check-mark-spec =

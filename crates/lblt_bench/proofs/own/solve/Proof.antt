@@ -10,7 +10,6 @@ use Rattle.matrix.proofs.Turning.{Turning, turning-none, turning-all}
 use Rattle.lblt_solve_one.specs.Column.{solveColumn}
 use Rattle.lblt_bench.specs.Bench.{owns}
 use Rattle.lblt_bench.proofs.Stretches.{gone-on}
-use borrow.Author.Needs.{needs}
 use Rattle.lblt_bench.proofs.own.solve.Statement.{statement}
 use Rattle.lblt_bench.proofs.own.solve.Tie as tie
 
