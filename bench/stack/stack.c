@@ -24,6 +24,7 @@ typedef enum {
     LBLT_FACTOR,
     LBLT_SOLVE_ONE,
     LBLT_SOLVE_MANY,
+    LBLT_SOLVE_BENCH,
     LBLT_DETERMINANT,
     LBLT_D,
     LBLT_L_PERMUTED,
@@ -46,6 +47,7 @@ static const char *const names[CALLS] = {
     "lblt_factor",
     "lblt_solve, 1 column",
     "lblt_solve, 67 columns",
+    "lblt_solve_bench, 50 columns of 67",
     "lblt_determinant",
     "lblt_d",
     "lblt_l_permuted",
@@ -65,6 +67,7 @@ static const char *const names[CALLS] = {
 static void *stack; /* its lowest byte */
 static double *a, *b;
 static uint32_t record[2 * URGYELPAT_LARGEST + 2];
+static uint32_t benches[MANY]; /* 47 columns of bench 1, which are solved together, 17 of bench 2, and 3 of bench 1, one by one */
 static double vector[URGYELPAT_LARGEST];
 
 /* ---- what is lent */
@@ -107,6 +110,8 @@ static void prepare(which call, size_t n)
     uint64_t answer = 0;
     for (size_t i = 0; i < MOST * MOST; i++)
         b[i] = 1.0;
+    for (size_t j = 0; j < MANY; j++)
+        benches[j] = j % 64 < 47 ? 1 : 2;
     switch (call) {
     case EMPTY:
         break;
@@ -115,6 +120,7 @@ static void prepare(which call, size_t n)
         break;
     case LBLT_SOLVE_ONE:
     case LBLT_SOLVE_MANY:
+    case LBLT_SOLVE_BENCH:
     case LBLT_DETERMINANT:
     case LBLT_D:
     case LBLT_L_PERMUTED:
@@ -174,6 +180,9 @@ __attribute__((noinline)) static uint64_t called(which call, size_t n)
         break;
     case LBLT_SOLVE_MANY:
         answer = urgyelpat_lblt_solve(a, n * n, record, 2 * n + 2, b, n * MANY, n, MANY, RUN);
+        break;
+    case LBLT_SOLVE_BENCH:
+        answer = urgyelpat_lblt_solve_bench(a, n * n, record, 2 * n + 2, b, n * MANY, benches, MANY, n, MANY, 1, RUN);
         break;
     case LBLT_DETERMINANT:
         answer = urgyelpat_lblt_determinant(a, n * n, record, 2 * n + 2, n, RUN).answer;
