@@ -1,7 +1,8 @@
 -- Stretches of columns that have one bench number.
 --     stretch-none, stretch-more … stretch-four   no column; one, two, three, four more
---     gone-other, gone-one, gone-own   a step over a stretch that is another bench's; over the first column of one that is the bench's; over all of it
---     gone-on                      the columns before a step, and those of the step
+--     gone-other            a step over a stretch that is another bench's
+--     gone-one, gone-own    over the first column of one that is the bench's, over all of it
+--     gone-on               the columns before a step, and those of the step
 use mathlib.Core.List.{List}
 use mathlib.Core.Logic.{⊎-elim}
 use mathlib.Core.Path.{_≡_, sym, ap, subst, _∙_}
@@ -73,24 +74,21 @@ module _ {benches : List ℕ} {bench : ℕ} where
           columns = e ∙ chosen-none n (owns benches bench) f j end b (λ i low high. ne-eqb (getD benches i 0) bench (λ same. other (sym (stretch-with is s i low high) ∙ same)));
         }
 
-    pub gone-one : number ≡ bench → b' ≡ atColumn n f j b → Gone n f benches bench j (j + 1) b b'
-    gone-one own e =
+    gone-upto : {r : ℕ} → j < r → r ≤ end → number ≡ bench → b' ≡ for j r (atColumn n f) b → Gone n f benches bench j r b b'
+    gone-upto {r} onward upto own e =
         record {
-          onward = omega arith;
-          within = omega (arith, s .begins, s .ends);
-          columns =
-              e ∙ sym (for-one j (atColumn n f) b)
-              ∙ chosen-all n (owns benches bench) f j (j + 1) b (λ i low high. eq-eqb (getD benches i 0) bench (stretch-with is s i low (omega (arith, s .begins)) ∙ own));
+          onward = onward;
+          within = omega (arith, upto, s .ends);
+          columns = e ∙ chosen-all n (owns benches bench) f j r b (λ i low high. eq-eqb (getD benches i 0) bench (stretch-with is s i low (omega arith) ∙ own));
         }
+
+    pub gone-one : number ≡ bench → b' ≡ atColumn n f j b → Gone n f benches bench j (j + 1) b b'
+    gone-one own e = gone-upto (omega arith) (s .begins) own (e ∙ sym (for-one j (atColumn n f) b))
 
     pub gone-own : number ≡ bench → b' ≡ for j (j + (end - j)) (atColumn n f) b → Gone n f benches bench j end b b'
     gone-own own e =
         let upto : j + (end - j) ≡ end = omega (arith, s .begins) in
-        record {
-          onward = omega (arith, s .begins);
-          within = s .ends;
-          columns = rw upto at e ∙ chosen-all n (owns benches bench) f j end b (λ i low high. eq-eqb (getD benches i 0) bench (stretch-with is s i low high ∙ own));
-        }
+        gone-upto (omega (arith, s .begins)) (omega arith) own (rw upto at e)
 
   pub gone-on
       : {n : ℕ} {f : List Float → List Float} {j r : ℕ} {b₀ b b' : List Float}
