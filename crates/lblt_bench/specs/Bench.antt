@@ -26,7 +26,7 @@ owns benches bench j = eqb (getD benches j 0) bench
 abbrev pub listTests : ℕ → List ℕ → List Test
 listTests columns benches = (eqb (length benches) columns otherwise SliceLength) ∷ []
 
--- the slices, the record, the mark
+-- the slices, the list among them, then the record, then the mark
 abbrev pub benchTests : Layout → ℕ → ℕ → List Float → List ℕ → List Float → List ℕ → List Test
 benchTests y columns run a words b benches =
     sideTests y columns a b ++ (listTests columns benches ++ (wordTests (y .order) run words ++ markTests (y .order) words))
