@@ -18,11 +18,12 @@
  *   - The processor rounds to nearest and keeps subnormal numbers, as it does unless a program changes it. (A program that
  *     is linked with -ffast-math changes it.)
  * Nothing else is asked: sizes, lengths and contents that do not fit are refused by a number, and every double is a content,
- * infinities and NaN too. A call keeps nothing after it returns, takes no memory of its own but stack, and ends.
+ * infinities and NaN too, as is every whole number. A call keeps nothing after it returns, takes no memory of its own but
+ * stack, and ends.
  *
  * ANSWERS. An answer is code * 4096 + place; 0 is done. The checks 1 to 5, then 13, then 6 run in that order, and the first
- * that fails is the answer; every buffer is then as it was. Cholesky and UDU go on from there column by column, UDU from the
- * last one back, and the first diagonal that fails gives its code.
+ * that fails is the answer; every buffer is then as it was. For a LAPACK list, 12 stands where 5 does for a record. Cholesky
+ * and UDU go on from there column by column, UDU from the last one back, and the first diagonal that fails gives its code.
  *
  *   code                             given exactly if                                          place
  *   0  URGYELPAT_DONE                the result stands in the buffers                          0
@@ -40,6 +41,9 @@
  *   8  URGYELPAT_ZERO_DIAGONAL       UDU: that diagonal is zero                                its column j
  *   10 URGYELPAT_CHOLESKY_BELOW_ZERO Cholesky: that diagonal is below zero, -infinity too      its column j
  *   11 URGYELPAT_CHOLESKY_NAN        Cholesky: that diagonal is NaN                            its column j
+ *   12 URGYELPAT_BAD_LIST            a LAPACK pivot list, with its INFO, stands for no record  the first row (from 0) of
+ *                                    that keeps its rule                                       its first broken block, or
+ *                                                                                              n for INFO
  *   13 URGYELPAT_OTHER_RUN           the pivot record has another run number than expected     0
  *
  * Cholesky judges a diagonal once it is updated by the columns before it; exactly one of "passes", 7, 10 and 11 fits it. A NaN
@@ -81,6 +85,7 @@ extern "C" {
 #define URGYELPAT_ZERO_DIAGONAL 8u
 #define URGYELPAT_CHOLESKY_BELOW_ZERO 10u
 #define URGYELPAT_CHOLESKY_NAN 11u
+#define URGYELPAT_BAD_LIST 12u
 #define URGYELPAT_OTHER_RUN 13u
 
 /* The code of an answer, and its place. */
@@ -92,6 +97,14 @@ typedef struct urgyelpat_determined {
     uint64_t answer;
     double value;
 } urgyelpat_determined;
+
+/* What goes with a LAPACK pivot list that was written: its INFO and the run number of its record, both 0 where the call is
+ * refused. */
+typedef struct urgyelpat_listed {
+    uint64_t answer;
+    int32_t info;
+    uint32_t run;
+} urgyelpat_listed;
 
 /* ---- LBLT: P A P^T = L D L^T on paper, by Bunch and Kaufman's pivoting ----
  *
@@ -141,7 +154,7 @@ URGYELPAT_MUST_USE uint64_t urgyelpat_lblt_solve_bench(const double *a, size_t a
 
 /* The row of the given matrix that stands at a row of the factor: the exchanges of the record, taken back from the last to the
  * first. ([1 / 2 4]: row 1 is marked, and it is row 0 as given.) record has the 2n + 2 words that a factor call of order n
- * wrote, in whichever run: only its pairs are read. */
+ * wrote, or that a list of order n was read into, in whichever run: only its pairs are read. */
 static inline size_t urgyelpat_callers_row(const uint32_t *record, size_t n, size_t row)
 {
     size_t rest = n; /* the exchanges of the rows from here on are taken back */
@@ -169,6 +182,41 @@ URGYELPAT_MUST_USE uint64_t urgyelpat_lblt_d(const double *a, size_t a_length, c
  * Answers 0, 1, 3 (a), 4 (record or l), 5, 13. */
 URGYELPAT_MUST_USE uint64_t urgyelpat_lblt_l_permuted(const double *a, size_t a_length, const uint32_t *record,
                                                       size_t record_length, double *l, size_t l_length, size_t n, uint32_t run);
+
+/* ---- LAPACK's pivot lists, read and written ----
+ *
+ * LAPACK's dsytrf and dsytf2 say their pivots by IPIV, a list of n signed numbers, and by INFO. For the lower triangle
+ * (UPLO = 'L'), rows counted from 1:
+ *   - p > 0 at row k is a block of size 1, with rows k and p exchanged. In the record it is the pair (p - 1, 1).
+ *   - -p at row k and again at row k + 1 is a block of size 2, with rows k + 1 and p exchanged: the pair (p - 1, 2) at both.
+ *   - INFO, 0 or the row of the first diagonal that is exactly zero, is the mark's word, number for number.
+ * The list is judged by the rule of the record that it stands for: block by block from the first row on, and then INFO, which
+ * is 0 or a row k at which the list has k itself. So a list is read exactly if some record that keeps the rule is written so.
+ * From such a record to its list and back is the same record, its run number too; from such a list to its record and back is
+ * the same list, with the same INFO.
+ *
+ * INFO and the mark need not mean the same. LAPACK says of INFO that this diagonal of D is the first that is exactly zero; the
+ * mark is the first row at which a factor call found no pivot. For [0 / 2^-600 0 / 0 2^600 0] the mark is row 2, counted from
+ * 0, and is written as INFO 3, though the factor has a zero at row 0. A list whose INFO is not 0 gives a marked record, which a
+ * solve refuses by 6.
+ *
+ * WHICH LISTS. The factor beside a list is taken as it is. By LAPACK's documentation it stands in the lower part as that of
+ * urgyelpat_lblt_factor does (compared, not proved), if dsytrf or dsytf2 wrote it with UPLO = 'L' and LDA = n (or its columns
+ * are copied together so), and IPIV has 32-bit integers. NEVER hand in lists of UPLO = 'U', nor those of dsytrf_rook, dsytrf_rk
+ * and dsytrf_aa: they mean other things, and are not always refused, those of dsytrf_aa hardly ever. */
+
+/* Reads a list (n numbers) and its INFO into a record (2n + 2 words), with `run` at its end: the number that is then expected
+ * where the factor is read. Every int32_t is a content: a 0 in the list, INT32_MIN, an INFO below 0 (by which LAPACK says that
+ * it factored nothing) and one above n are refused by 12.
+ * Answers 0, 1, 4 (list or record), 12 (its place is a row from 0: the first of the first broken block, or n for INFO). */
+URGYELPAT_MUST_USE uint64_t urgyelpat_pivots_from_lapack(const int32_t *list, size_t list_length, int32_t info,
+                                                         uint32_t *record, size_t record_length, size_t n, uint32_t run);
+
+/* Writes a record as a list (n numbers), and gives INFO and the record's run number beside the answer. No run number is
+ * expected: compare the one that is given with your own. A marked record is accepted.
+ * Answers 0, 1, 4 (record or list), 5. */
+URGYELPAT_MUST_USE urgyelpat_listed urgyelpat_pivots_to_lapack(const uint32_t *record, size_t record_length, int32_t *list,
+                                                               size_t list_length, size_t n);
 
 /* ---- Cholesky: A = L L^T on paper, in a room, row batch by row batch ---- */
 

@@ -28,6 +28,8 @@ typedef enum {
     LBLT_DETERMINANT,
     LBLT_D,
     LBLT_L_PERMUTED,
+    PIVOTS_FROM_LAPACK,
+    PIVOTS_TO_LAPACK,
     CHOLESKY_FACTOR,
     CHOLESKY_EXTEND,
     CHOLESKY_SOLVE_ONE,
@@ -51,6 +53,8 @@ static const char *const names[CALLS] = {
     "lblt_determinant",
     "lblt_d",
     "lblt_l_permuted",
+    "pivots_from_lapack",
+    "pivots_to_lapack",
     "cholesky_factor",
     "cholesky_extend, the second half",
     "cholesky_solve, 1 column",
@@ -67,6 +71,7 @@ static const char *const names[CALLS] = {
 static void *stack; /* its lowest byte */
 static double *a, *b;
 static uint32_t record[2 * URGYELPAT_LARGEST + 2];
+static int32_t list[URGYELPAT_LARGEST];
 static uint32_t benches[MANY]; /* 47 columns of bench 1, which are solved together, 17 of bench 2, and 3 of bench 1, one by one */
 static double vector[URGYELPAT_LARGEST];
 
@@ -124,8 +129,15 @@ static void prepare(which call, size_t n)
     case LBLT_DETERMINANT:
     case LBLT_D:
     case LBLT_L_PERMUTED:
+    case PIVOTS_TO_LAPACK:
         fill_random(n, 0.0);
         answer = urgyelpat_lblt_factor(a, n * n, record, 2 * n + 2, n, RUN);
+        break;
+    case PIVOTS_FROM_LAPACK:
+        fill_random(n, 0.0);
+        answer = urgyelpat_lblt_factor(a, n * n, record, 2 * n + 2, n, RUN);
+        must(answer == 0, names[call], n);
+        answer = urgyelpat_pivots_to_lapack(record, 2 * n + 2, list, n, n).answer;
         break;
     case CHOLESKY_FACTOR:
     case UDU_FACTOR:
@@ -192,6 +204,12 @@ __attribute__((noinline)) static uint64_t called(which call, size_t n)
         break;
     case LBLT_L_PERMUTED:
         answer = urgyelpat_lblt_l_permuted(a, n * n, record, 2 * n + 2, b, n * n, n, RUN);
+        break;
+    case PIVOTS_FROM_LAPACK:
+        answer = urgyelpat_pivots_from_lapack(list, n, 0, record, 2 * n + 2, n, RUN);
+        break;
+    case PIVOTS_TO_LAPACK:
+        answer = urgyelpat_pivots_to_lapack(record, 2 * n + 2, list, n, n).answer;
         break;
     case CHOLESKY_FACTOR:
         answer = urgyelpat_cholesky_factor(a, n * n, n, n);

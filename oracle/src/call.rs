@@ -29,6 +29,9 @@ pub trait Calls {
     fn udu_factor(&self, p: &[f64], u: &mut [f64], d: &mut [f64], n: usize) -> u64;
     fn first_twin_since(&self, a: &[f64], room: usize, earlier: usize, n: usize) -> u64;
     fn first_twin(&self, a: &[f64], room: usize, n: usize) -> u64;
+    fn pivots_from_lapack(&self, list: &[i32], info: i32, record: &mut [u32], n: usize, run: u32) -> u64;
+    /// The answer, INFO and the run number.
+    fn pivots_to_lapack(&self, record: &[u32], list: &mut [i32], n: usize) -> (u64, i32, u32);
 }
 
 #[derive(Clone, Copy, Debug, PartialEq, Eq, PartialOrd, Ord)]
@@ -48,6 +51,8 @@ pub enum Call {
     UduFactor,
     FirstTwinSince,
     FirstTwin,
+    PivotsFromLapack,
+    PivotsToLapack,
 }
 
 use Call::*;
@@ -60,7 +65,7 @@ pub struct Form {
     pub number: u64,
     pub numbers: &'static [Number],
     pub slices: &'static [Slice],
-    /// It hands back an f64 beside the answer.
+    /// It hands back a value beside the answer.
     pub valued: bool,
 }
 
@@ -73,8 +78,10 @@ pub enum Number {
     Y,
     /// The bench whose columns are solved.
     Bench,
-    /// The run number of LBLT's calls.
+    /// The run number of LBLT's calls, or of the record that is read from a list.
     Run,
+    /// INFO beside a list that is read.
+    Info,
 }
 
 #[derive(Clone, Copy, Debug, PartialEq, Eq)]
@@ -84,13 +91,14 @@ pub enum Slice {
     C,
     Record,
     Benches,
+    List,
 }
 
-use Number::{Bench, N, Run, X, Y};
-use Slice::{A, B, Benches, C, Record};
+use Number::{Bench, Info, N, Run, X, Y};
+use Slice::{A, B, Benches, C, List, Record};
 
 #[rustfmt::skip]
-pub const FORMS: [Form; 15] = [
+pub const FORMS: [Form; 17] = [
     Form { call: LbltFactor, name: "lblt_factor", number: 1, numbers: &[N, Run], slices: &[A, Record], valued: false },
     Form { call: LbltSolve, name: "lblt_solve", number: 2, numbers: &[N, X, Run], slices: &[A, Record, B], valued: false },
     Form { call: LbltDeterminant, name: "lblt_determinant", number: 3, numbers: &[N, Run], slices: &[A, Record], valued: true },
@@ -106,6 +114,8 @@ pub const FORMS: [Form; 15] = [
     Form { call: FirstTwin, name: "first_twin", number: 13, numbers: &[X, N], slices: &[A], valued: false },
     Form { call: CholeskySolve, name: "cholesky_solve", number: 14, numbers: &[X, N, Y], slices: &[A, B], valued: false },
     Form { call: LbltSolveBench, name: "lblt_solve_bench", number: 15, numbers: &[N, X, Bench, Run], slices: &[A, Record, B, Benches], valued: false },
+    Form { call: PivotsFromLapack, name: "pivots_from_lapack", number: 16, numbers: &[N, Info, Run], slices: &[List, Record], valued: false },
+    Form { call: PivotsToLapack, name: "pivots_to_lapack", number: 17, numbers: &[N], slices: &[Record, List], valued: true },
 ];
 
 impl Call {
@@ -131,8 +141,10 @@ pub struct Case {
     pub y: usize,
     /// `lblt_solve_bench`: the bench whose columns are solved.
     pub bench: u32,
-    /// LBLT: the run number, given or expected.
+    /// LBLT: the run number, given or expected; `pivots_from_lapack`: given.
     pub run: u32,
+    /// `pivots_from_lapack`: what stands beside the list.
+    pub info: i32,
     /// The first matrix.
     pub a: Vec<f64>,
     /// Right-hand sides, `d`, `l` or `u`.
@@ -142,6 +154,8 @@ pub struct Case {
     pub record: Vec<u32>,
     /// A bench number for each column.
     pub benches: Vec<u32>,
+    /// LAPACK's pivots, a number for each row.
+    pub list: Vec<i32>,
 }
 
 /// What a call answers and what it leaves in everything lent, as words in which all NaNs are one.
@@ -154,6 +168,7 @@ pub struct Outcome {
     pub c: Vec<u64>,
     pub record: Vec<u32>,
     pub benches: Vec<u32>,
+    pub list: Vec<i32>,
 }
 
 pub const NAN: u64 = 0x7ff8_0000_0000_0000;
@@ -173,6 +188,11 @@ pub fn mark(record: &[u32]) -> u32 {
     record[record.len() - 2]
 }
 
+/// The value of `pivots_to_lapack` as a word: INFO's 32 bits in the low half, the run number in the high one.
+pub fn info_and_run(info: i32, run: u32) -> u64 {
+    (run as u64) << 32 | info as u32 as u64
+}
+
 pub fn word(x: f64) -> u64 {
     if x.is_nan() { NAN } else { x.to_bits() }
 }
@@ -183,13 +203,14 @@ pub fn words(s: &[f64]) -> Vec<u64> {
 
 impl Case {
     pub fn new(call: Call, n: usize, a: Vec<f64>) -> Case {
-        Case { call, n, x: 0, y: 0, bench: 0, run: 0, a, b: vec![], c: vec![], record: vec![], benches: vec![] }
+        let (b, c, record, benches, list) = (vec![], vec![], vec![], vec![], vec![]);
+        Case { call, n, x: 0, y: 0, bench: 0, run: 0, info: 0, a, b, c, record, benches, list }
     }
 
     /// Runs the call on what is lent, in place.
-    pub fn run_in_place(&mut self, calls: &dyn Calls) -> (u64, Option<f64>) {
-        let Case { call, n, x, y, bench, run, a, b, c, record, benches } = self;
-        let (n, x, y, bench, run) = (*n, *x, *y, *bench, *run);
+    pub fn run_in_place(&mut self, calls: &dyn Calls) -> (u64, Option<u64>) {
+        let Case { call, n, x, y, bench, run, info, a, b, c, record, benches, list } = self;
+        let (n, x, y, bench, run, info) = (*n, *x, *y, *bench, *run, *info);
         match call {
             LbltFactor => (calls.lblt_factor(a, record, n, run), None),
             LbltSolve => (calls.lblt_solve(a, record, b, n, x, run), None),
@@ -206,6 +227,11 @@ impl Case {
             UduFactor => (calls.udu_factor(a, b, c, n), None),
             FirstTwinSince => (calls.first_twin_since(a, x, y, n), None),
             FirstTwin => (calls.first_twin(a, x, n), None),
+            PivotsFromLapack => (calls.pivots_from_lapack(list, info, record, n, run), None),
+            PivotsToLapack => {
+                let (answer, info, run) = calls.pivots_to_lapack(record, list, n);
+                (answer, Some(info_and_run(info, run)))
+            }
         }
     }
 
@@ -213,30 +239,36 @@ impl Case {
         let mut after = self.clone();
         let (answer, value) = after.run_in_place(calls);
         let [a, b, c] = [&after.a, &after.b, &after.c].map(|s| words(s));
-        Outcome { answer, value: value.map(word), a, b, c, record: after.record, benches: after.benches }
+        Outcome { answer, value, a, b, c, record: after.record, benches: after.benches, list: after.list }
     }
 
-    pub fn number(&self, which: Number) -> usize {
+    pub fn number(&self, which: Number) -> i128 {
         match which {
-            N => self.n,
-            X => self.x,
-            Y => self.y,
-            Bench => self.bench as usize,
-            Run => self.run as usize,
+            N => self.n as i128,
+            X => self.x as i128,
+            Y => self.y as i128,
+            Bench => self.bench.into(),
+            Run => self.run.into(),
+            Info => self.info.into(),
         }
     }
 
-    /// The third number of its call in a stored list: of LBLT's calls the run number in the low half and the bench in the high one.
+    /// The second number of its call in a stored list: of a list's reader INFO's 32 bits.
+    pub fn second(&self) -> usize {
+        if self.call.form().numbers.contains(&Info) { self.info as u32 as usize } else { self.x }
+    }
+
+    /// The third one: of the calls that take a run number that number in the low half and the bench in the high one.
     pub fn third(&self) -> usize {
         if self.call.form().numbers.contains(&Run) { (self.bench as usize) << 32 | self.run as usize } else { self.y }
     }
 
     /// How much there is to read in it.
     pub fn size(&self) -> usize {
-        self.a.len() + self.b.len() + self.c.len() + self.record.len() + self.benches.len()
+        self.a.len() + self.b.len() + self.c.len() + self.record.len() + self.benches.len() + self.list.len()
     }
 }
 
-fn with_value((answer, value): (u64, f64)) -> (u64, Option<f64>) {
-    (answer, Some(value))
+fn with_value((answer, value): (u64, f64)) -> (u64, Option<u64>) {
+    (answer, Some(word(value)))
 }

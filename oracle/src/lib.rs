@@ -43,6 +43,7 @@ pub mod simd {
     pub use crate::standin::field::SimdComplexField;
 }
 
+pub mod back;
 pub mod call;
 pub mod cases;
 pub mod line;

@@ -1,9 +1,12 @@
 //! A case and an outcome as one line of text.
 //!
 //! A case: the call's name and its numbers in decimal, then for each slice `;` and its words in hex. An outcome: the answer in decimal,
-//! the value in hex if there is one, then every slice of the call as it is left, likewise. Fields are parted by blanks.
+//! the value in hex if there is one (of `pivots_to_lapack` INFO and the run number in decimal), then every slice of the call as it is left, likewise.
+//! Fields are parted by blanks. A number of a list is the word of its 32 bits.
 
-use crate::call::{Case, FORMS, Number, Outcome, Slice};
+use std::str::FromStr;
+
+use crate::call::{Call, Case, FORMS, Number, Outcome, Slice};
 
 pub fn case_line(case: &Case) -> String {
     let form = case.call.form();
@@ -19,6 +22,7 @@ pub fn case_line(case: &Case) -> String {
             Slice::C => floats(&mut out, &case.c),
             Slice::Record => small(&mut out, &case.record),
             Slice::Benches => small(&mut out, &case.benches),
+            Slice::List => signed(&mut out, &case.list),
         }
     }
     out
@@ -26,8 +30,10 @@ pub fn case_line(case: &Case) -> String {
 
 pub fn outcome_line(case: &Case, outcome: &Outcome) -> String {
     let mut out = outcome.answer.to_string();
-    if let Some(value) = outcome.value {
-        out += &format!(" {value:016x}");
+    match outcome.value {
+        Some(value) if case.call == Call::PivotsToLapack => out += &format!(" {} {}", value as i32, value >> 32),
+        Some(value) => out += &format!(" {value:016x}"),
+        None => {}
     }
     for &slice in case.call.form().slices {
         out += " ;";
@@ -37,6 +43,7 @@ pub fn outcome_line(case: &Case, outcome: &Outcome) -> String {
             Slice::C => big(&mut out, &outcome.c),
             Slice::Record => small(&mut out, &outcome.record),
             Slice::Benches => small(&mut out, &outcome.benches),
+            Slice::List => signed(&mut out, &outcome.list),
         }
     }
     out
@@ -58,6 +65,10 @@ fn small(out: &mut String, words: &[u32]) {
     }
 }
 
+fn signed(out: &mut String, list: &[i32]) {
+    small(out, &list.iter().map(|&number| number as u32).collect::<Vec<_>>());
+}
+
 pub fn parse_case(line: &str) -> Result<Case, String> {
     let mut parts = line.split(';');
     let mut head = parts.next().unwrap_or("").split_whitespace();
@@ -66,14 +77,13 @@ pub fn parse_case(line: &str) -> Result<Case, String> {
     let mut case = Case::new(form.call, 0, vec![]);
     for &which in form.numbers {
         let field = head.next().ok_or("a number is missing")?;
-        let number: usize = field.parse().map_err(|_| format!("{field} is no number"))?;
-        let half = || number.try_into().map_err(|_| format!("{field} is above 32 bits"));
         match which {
-            Number::N => case.n = number,
-            Number::X => case.x = number,
-            Number::Y => case.y = number,
-            Number::Bench => case.bench = half()?,
-            Number::Run => case.run = half()?,
+            Number::N => case.n = number(field)?,
+            Number::X => case.x = number(field)?,
+            Number::Y => case.y = number(field)?,
+            Number::Bench => case.bench = number(field)?,
+            Number::Run => case.run = number(field)?,
+            Number::Info => case.info = number(field)?,
         }
     }
     if head.next().is_some() {
@@ -82,19 +92,24 @@ pub fn parse_case(line: &str) -> Result<Case, String> {
     for &slice in form.slices {
         let words = hex_words(parts.next().ok_or("a slice is missing")?)?;
         let floats = || words.iter().map(|&w| f64::from_bits(w)).collect();
-        let halves = || words.iter().map(|&w| w.try_into().map_err(|_| format!("{w:x} is above 32 bits"))).collect::<Result<_, _>>();
+        let halves = || words.iter().map(|&w| w.try_into().map_err(|_| format!("{w:x} is above 32 bits"))).collect::<Result<Vec<u32>, _>>();
         match slice {
             Slice::A => case.a = floats(),
             Slice::B => case.b = floats(),
             Slice::C => case.c = floats(),
             Slice::Record => case.record = halves()?,
             Slice::Benches => case.benches = halves()?,
+            Slice::List => case.list = halves()?.iter().map(|&w| w as i32).collect(),
         }
     }
     match parts.next() {
         None => Ok(case),
         Some(_) => Err("a slice too many".into()),
     }
+}
+
+fn number<T: FromStr>(field: &str) -> Result<T, String> {
+    field.parse().map_err(|_| format!("{field} is no number, or too great"))
 }
 
 fn hex_words(fields: &str) -> Result<Vec<u64>, String> {

@@ -39,7 +39,7 @@ fn number(slice: Slice) -> u64 {
     match slice {
         Slice::A => 0,
         Slice::B => 1,
-        Slice::C | Slice::Benches => 2,
+        Slice::C | Slice::Benches | Slice::List => 2,
         Slice::Record => 3,
     }
 }
@@ -221,7 +221,7 @@ impl<'a> Machine<'a> {
         match slice {
             Slice::A => self.held.a = floats(),
             Slice::B => self.held.b = floats(),
-            Slice::C | Slice::Benches => self.held.c = floats(),
+            Slice::C | Slice::Benches | Slice::List => self.held.c = floats(),
             Slice::Record => self.held.record = words.iter().map(|&w| w as u32).collect(),
         }
     }
@@ -241,7 +241,7 @@ impl<'a> Machine<'a> {
         match slice {
             Slice::A => self.held.a.iter().map(|&x| word(x)).collect(),
             Slice::B => self.held.b.iter().map(|&x| word(x)).collect(),
-            Slice::C | Slice::Benches => self.held.c.iter().map(|&x| word(x)).collect(),
+            Slice::C | Slice::Benches | Slice::List => self.held.c.iter().map(|&x| word(x)).collect(),
             Slice::Record => self.held.record.iter().map(|&w| w as u64).collect(),
         }
     }
@@ -251,11 +251,15 @@ impl<'a> Machine<'a> {
         self.calls_made += 1;
         let form = form(call);
         let (y, bench, run) = if form.numbers.contains(&Number::Run) { (0, (y >> 32) as u32, y as u32) } else { (y, 0, 0) };
-        let benches = self.words(Slice::Benches).iter().map(|&w| w as u32).collect();
-        self.held =
-            Case { call: form.call, n, x, y, bench, run, benches, ..std::mem::replace(&mut self.held, Case::new(form.call, 0, vec![])) };
+        let benches: Vec<u32> = self.words(Slice::C).iter().map(|&w| w as u32).collect();
+        let list = benches.iter().map(|&w| w as i32).collect();
+        let held = std::mem::replace(&mut self.held, Case::new(form.call, 0, vec![]));
+        self.held = Case { call: form.call, n, x, y, bench, run, info: x as i32, benches, list, ..held };
         let (answer, value) = self.held.run_in_place(self.calls);
-        (answer, value.map_or(0, word))
+        if form.slices.contains(&Slice::List) && written(form.call, Slice::List) {
+            self.held.c = self.held.list.iter().map(|&number| f64::from_bits(number as u32 as u64)).collect();
+        }
+        (answer, value.unwrap_or(0))
     }
 
     /// The digest over all that the calls of a library answer and leave at order 2, with `special[first]` as entry (0, 0).
@@ -448,6 +452,7 @@ fn written(call: Call, slice: Slice) -> bool {
     match call {
         Call::LbltFactor => true,
         Call::CholeskyFactor | Call::CholeskyExtend | Call::CholeskyUnpack => true,
-        _ => matches!(slice, Slice::B | Slice::C),
+        Call::PivotsFromLapack => slice == Slice::Record,
+        _ => matches!(slice, Slice::B | Slice::C | Slice::List),
     }
 }

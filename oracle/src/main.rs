@@ -38,7 +38,7 @@ fn answer(calls: &dyn Calls) -> Result<(), Box<dyn std::error::Error>> {
 fn print_family(seed: &str) -> Result<(), Box<dyn std::error::Error>> {
     let mut out = BufWriter::new(io::stdout().lock());
     let seed = seed.parse()?;
-    let parts = [cases::family(seed).cases, cases::solves(seed), cases::twins(seed), cases::benches(seed)];
+    let parts = [cases::family(seed).cases, cases::solves(seed), cases::twins(seed), cases::benches(seed), cases::lists(seed)];
     for case in parts.iter().flatten() {
         writeln!(out, "{}", case_line(case))?;
     }

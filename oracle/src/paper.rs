@@ -1,6 +1,6 @@
 //! The calls, written from document 01's steps and without the text: a matrix is read and written by `a[(i, j)]`, the loops run entry by entry.
-//! Cholesky's solve, the codes of a diagonal that is turned down, the row that a mark may name, the run number and the bench's solve are written
-//! from document 02.
+//! Cholesky's solve, the codes of a diagonal that is turned down, the row that a mark may name, the run number, the bench's solve and LAPACK's lists
+//! are written from document 02.
 //! The calls for rows that came twice are written from what twin rows are: all pairs are compared, one after the other.
 
 // sums and quotients stand as the documents write them
@@ -221,6 +221,45 @@ impl Record<'_> {
             mark if own.contains(&(mark - 1)) => None,
             _ => Some(n),
         }
+    }
+}
+
+/// Document 02: pivots as `dsytrf` writes them for the lower triangle, a signed number for each row. Rows are counted from 1 here.
+struct List<'a>(&'a [i32]);
+
+impl List<'_> {
+    fn rows(&self) -> i64 {
+        self.0.len() as i64
+    }
+
+    fn number(&self, row: i64) -> i64 {
+        self.0[row as usize - 1].into()
+    }
+
+    /// The rows of the block that begins at row k, if it is sound: a positive p swaps k and p; −p, which stands twice, swaps k + 1 and p.
+    fn block(&self, k: i64) -> Option<i64> {
+        match self.number(k) {
+            p if p > 0 => (k <= p && p <= self.rows()).then_some(1),
+            _ if k == self.rows() => None,
+            minus_p => (minus_p == self.number(k + 1) && k < -minus_p && -minus_p <= self.rows()).then_some(2),
+        }
+    }
+
+    /// The first row of the first block that is not sound.
+    fn broken_at(&self) -> Option<i64> {
+        let mut k = 1;
+        while k <= self.rows() {
+            match self.block(k) {
+                Some(rows) => k += rows,
+                None => return Some(k),
+            }
+        }
+        None
+    }
+
+    /// INFO is 0, or a row that is a block by itself and is swapped with no other.
+    fn allows(&self, info: i64) -> bool {
+        info == 0 || (1..=self.rows()).any(|row| row == info && self.number(row) == row)
     }
 }
 
@@ -589,5 +628,48 @@ impl Calls for Paper {
 
     fn first_twin(&self, a: &[f64], room: usize, n: usize) -> u64 {
         self.first_twin_since(a, room, 0, n)
+    }
+
+    fn pivots_from_lapack(&self, list: &[i32], info: i32, record: &mut [u32], n: usize, run: u32) -> u64 {
+        if n > 1024 {
+            return code(1, 0);
+        }
+        if list.len() != n || record.len() != 2 * n + 2 {
+            return code(4, 0);
+        }
+        if let Some(row) = List(list).broken_at() {
+            return code(12, row as usize - 1);
+        }
+        if !List(list).allows(info.into()) {
+            return code(12, n);
+        }
+        for (row, &number) in list.iter().enumerate() {
+            record[2 * row] = number.unsigned_abs() - 1;
+            record[2 * row + 1] = if number < 0 { 2 } else { 1 };
+        }
+        record[2 * n] = info as u32;
+        record[2 * n + 1] = run;
+        0
+    }
+
+    fn pivots_to_lapack(&self, record: &[u32], list: &mut [i32], n: usize) -> (u64, i32, u32) {
+        if n > 1024 {
+            return (code(1, 0), 0, 0);
+        }
+        if record.len() != 2 * n + 2 || list.len() != n {
+            return (code(4, 0), 0, 0);
+        }
+        if let Some(place) = Record(record).broken_at(n) {
+            return (code(5, place), 0, 0);
+        }
+        let record = Record(record);
+        for k in record.blocks() {
+            let p = record.index(k) as i32 + 1;
+            match record.size(k) {
+                1 => list[k] = p,
+                _ => list[k..k + 2].fill(-p),
+            }
+        }
+        (0, record.0[2 * n] as i32, record.0[2 * n + 1])
     }
 }

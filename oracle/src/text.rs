@@ -3,10 +3,11 @@
 //! The text itself answers `LBLT::new`, `solve_mut`, `determinant`, `d`, `l_permuted`, `Cholesky::new`, `l`, `unpack`, `determinant` and
 //! `UDU::new`. What follows document 01 because the text says nothing of it is marked "document 01": the checks before a call, the room, the
 //! further batch, and what stays in the buffers after a refusal. Marked "document 02" are the codes of a diagonal that is turned down, the row that a
-//! mark may name, the run number, and which columns are a bench's. The text has no call for rows that came twice, and its Cholesky solve rests on
-//! triangular solves that it does not contain: the steps answer these calls here too.
+//! mark may name, the run number, which columns are a bench's, and LAPACK's lists: each number of a list is a pair of a record, and the record's rule
+//! is the list's. The text has no call for rows that came twice, and its Cholesky solve rests on triangular solves that it does not contain: the steps
+//! answer these calls here too.
 
-use crate::call::{Calls, record_length};
+use crate::call::{Calls, mark, pairs, record_length};
 use crate::linalg::cholesky::Cholesky;
 use crate::linalg::lblt::{LBLT, parts};
 use crate::linalg::udu::UDU;
@@ -59,7 +60,17 @@ mod checks {
         (record[2 * n + 1] != run).then(|| refusal(13, 0))
     }
 
-    fn rule(record: &[u32], n: usize) -> Option<u64> {
+    pub fn rule(record: &[u32], n: usize) -> Option<u64> {
+        broken(record, n).map(|place| refusal(5, place))
+    }
+
+    /// Document 02: the record that a list stands for keeps the rule.
+    pub fn listed(record: &[u32], n: usize) -> Option<u64> {
+        broken(record, n).map(|place| refusal(12, place))
+    }
+
+    /// The place at which the rule is broken.
+    fn broken(record: &[u32], n: usize) -> Option<usize> {
         let pair = |k: usize| (record[2 * k] as usize, record[2 * k + 1]);
         let mut may_be_marked = vec![false; n];
         let mut k = 0;
@@ -71,7 +82,7 @@ mod checks {
                 _ => false,
             };
             if !sound {
-                return Some(refusal(5, k));
+                return Some(k);
             }
             // document 02: a mark names a row of size 1 whose index is that row
             may_be_marked[k] = pair(k) == (k, 1);
@@ -79,7 +90,7 @@ mod checks {
         }
         let mark = record[2 * n] as usize;
         let sound = mark == 0 || may_be_marked.get(mark - 1) == Some(&true);
-        (!sound).then(|| refusal(5, n))
+        (!sound).then_some(n)
     }
 
     /// The record's length by document 02.
@@ -330,6 +341,38 @@ impl Calls for Text {
 
     fn first_twin(&self, a: &[f64], room: usize, n: usize) -> u64 {
         Paper.first_twin(a, room, n)
+    }
+
+    /// Document 02: a number that is no pair's, and an INFO that is no mark, become words that the rule turns down.
+    fn pivots_from_lapack(&self, list: &[i32], info: i32, record: &mut [u32], n: usize, run: u32) -> u64 {
+        let pair = |&number: &i32| match number {
+            0 => [0, 0],
+            1.. => [number as u32 - 1, 1],
+            _ => [number.unsigned_abs() - 1, 2],
+        };
+        let meant = || [list.iter().flat_map(pair).collect(), vec![info as u32, run]].concat();
+        let refused = checks::counts(&[n])
+            .or_else(|| checks::another(list.len(), n))
+            .or_else(|| checks::another(record.len(), record_length(n)))
+            .or_else(|| checks::listed(&meant(), n));
+        if refused.is_none() {
+            record.copy_from_slice(&meant());
+        }
+        refused.unwrap_or(DONE)
+    }
+
+    /// Document 02: the pair of each row as a number.
+    fn pivots_to_lapack(&self, record: &[u32], list: &mut [i32], n: usize) -> (u64, i32, u32) {
+        let refused = checks::counts(&[n])
+            .or_else(|| checks::another(record.len(), record_length(n)))
+            .or_else(|| checks::another(list.len(), n))
+            .or_else(|| checks::rule(record, n));
+        if let Some(refused) = refused {
+            return (refused, 0, 0);
+        }
+        let number = |pair: &[u32]| if pair[1] == 1 { pair[0] as i32 + 1 } else { -(pair[0] as i32 + 1) };
+        list.copy_from_slice(&pairs(record).map(number).collect::<Vec<_>>());
+        (DONE, mark(record) as i32, record[2 * n + 1])
     }
 }
 

@@ -1,12 +1,13 @@
-//! Document 01's cases and document 02's codes of a diagonal, rows of a mark, run numbers, benches and tails of UDU, answered by the text and by the
-//! steps; Cholesky's solve and rows that came twice, by the steps.
+//! Document 01's cases and document 02's codes of a diagonal, rows of a mark, run numbers, benches, LAPACK's lists and tails of UDU, answered by the
+//! text and by the steps; Cholesky's solve and rows that came twice, by the steps.
 
 use std::hint::black_box;
 
 use oracle::RealField;
+use oracle::back;
 use oracle::call::{Call, Calls, Case, word, words};
 use oracle::cases::{fill, filled};
-use oracle::line::{case_line, parse_case};
+use oracle::line::{case_line, outcome_line, parse_case};
 use oracle::list::Machine;
 use oracle::pair;
 use oracle::paper::Paper;
@@ -270,6 +271,264 @@ fn benches_written_down() {
         let mut machine = Machine::new(calls);
         machine.replay(&list);
         assert_eq!((machine.calls_made, machine.differences), (1, vec![]));
+    }
+}
+
+/// What the reader answers to a list, and the record it leaves. A refusal leaves what was lent.
+fn read(calls: &dyn Calls, list: &[i32], info: i32, run: u32) -> Result<Vec<u32>, u64> {
+    let before: Vec<u32> = (100..102 + 2 * list.len() as u32).collect();
+    let mut record = before.clone();
+    match calls.pivots_from_lapack(list, info, &mut record, list.len(), run) {
+        0 => Ok(record),
+        refused => {
+            assert_eq!(record, before);
+            Err(refused)
+        }
+    }
+}
+
+/// What the writer answers to a record: the list, INFO and the run number. A refusal leaves what was lent and gives 0 twice.
+fn written(calls: &dyn Calls, record: &[u32]) -> Result<(Vec<i32>, i32, u32), u64> {
+    let before: Vec<i32> = (100..99 + record.len() as i32 / 2).collect();
+    let mut list = before.clone();
+    let (answer, info, run) = calls.pivots_to_lapack(record, &mut list, before.len());
+    match answer {
+        0 => Ok((list, info, run)),
+        refused => {
+            assert_eq!((list, info, run), (before, 0, 0));
+            Err(refused)
+        }
+    }
+}
+
+/// Document 02: a list and INFO for each record, and for each record its list and INFO.
+#[test]
+fn lists() {
+    let both_ways: [(&[i32], i32, &[u32]); 14] = [
+        (&[], 0, &[0]),
+        (&[1], 0, &[0, 1, 0]),
+        (&[1], 1, &[0, 1, 1]),
+        (&[-2, -2], 0, &[1, 2, 1, 2, 0]),
+        (&[2, 2], 0, &[1, 1, 1, 1, 0]),
+        (&[2, 2], 2, &[1, 1, 1, 1, 2]),
+        (&[1, 2], 0, &[0, 1, 1, 1, 0]),
+        (&[1, 2], 1, &[0, 1, 1, 1, 1]),
+        (&[1, 2], 2, &[0, 1, 1, 1, 2]),
+        (&[3, -3, -3], 0, &[2, 1, 2, 2, 2, 2, 0]),
+        (&[-3, -3, 3], 3, &[2, 2, 2, 2, 2, 1, 3]),
+        (&[-2, -2, 3], 0, &[1, 2, 1, 2, 2, 1, 0]),
+        (&[-4, -4, -4, -4], 0, &[3, 2, 3, 2, 3, 2, 3, 2, 0]),
+        (&[4, -3, -3, 4], 4, &[3, 1, 2, 2, 2, 2, 3, 1, 4]),
+    ];
+    for calls in BOTH {
+        for (list, info, words) in both_ways {
+            for run in [0, 1, RUN, u32::MAX] {
+                let record = [words, &[run]].concat();
+                assert_eq!(read(calls, list, info, run), Ok(record.clone()));
+                assert_eq!(written(calls, &record), Ok((list.to_vec(), info, run)));
+            }
+        }
+        // what the factor leaves
+        for (n, rows, list, info) in [
+            (2, &[0.0, 1.0, 0.0][..], &[-2, -2][..], 0),
+            (2, &[0.0, 1.0, 4.0], &[2, 2], 0),
+            (2, &[0.0, f64::NAN, 5.0], &[1, 2], 1),
+            (1, &[f64::NAN], &[1], 1),
+            (2, &[4.0, 2.0, 3.0], &[1, 2], 0),
+        ] {
+            let (_, record) = factored(calls, n, rows);
+            assert_eq!(written(calls, &record), Ok((list.to_vec(), info, RUN)));
+            assert_eq!(read(calls, list, info, RUN), Ok(record));
+        }
+    }
+}
+
+/// Document 02: 12 if the list stands for no sound record, place the first row of the first broken block, or n for INFO.
+#[test]
+fn lists_refused() {
+    const AT: u64 = 12 * 4096;
+    const ENDS: [i32; 2] = [i32::MIN, i32::MAX];
+    for calls in BOTH {
+        let at = |place: u64, list: &[i32], info: i32| assert_eq!(read(calls, list, info, RUN), Err(AT + place), "{list:?} {info}");
+        // no number of a row
+        for number in [0, 2, -1, -2].into_iter().chain(ENDS) {
+            at(0, &[number], 0);
+            at(0, &[number], 1);
+        }
+        // a block of size 1: row k is swapped with itself or a later row
+        at(1, &[1, 1], 0);
+        at(1, &[2, 1], 0);
+        at(2, &[3, 3, 2], 0);
+        at(1, &[1, 3], 0);
+        at(1, &[1, 0], 0);
+        // a block of size 2: row k + 1 is swapped with itself or a later row, and the number stands twice
+        at(0, &[-1, -1], 0);
+        at(0, &[-3, -3], 0);
+        at(0, &[-2, 2], 0);
+        at(0, &[-2, 1], 0);
+        at(0, &[-2, 0], 0);
+        at(0, &[-2, -3, 3], 0);
+        at(0, &[-2, -3, -3], 0);
+        at(1, &[2, -2], 0);
+        at(1, &[1, -2, -2], 0);
+        at(2, &[-3, -3, -3], 0);
+        at(2, &[1, 2, -3], 0);
+        at(2, &[-2, -2, -4, -3], 0);
+        for end in ENDS {
+            at(0, &[end, end], 0);
+            at(1, &[1, end], 0);
+            at(0, &[-2, end], 0);
+            at(1, &[1, end, end], 0);
+        }
+        // INFO: 0, or a row that is alone in its block and stays
+        for info in [1, 2] {
+            at(2, &[-2, -2], info);
+        }
+        at(2, &[2, 2], 1);
+        at(3, &[3, -3, -3], 1);
+        at(3, &[1, 3, 3], 2);
+        for info in [-1, -2, 3, 1 << 8, 1 + (1 << 16), 1 - (1 << 16)].into_iter().chain(ENDS) {
+            at(2, &[1, 2], info);
+        }
+        // blocks before INFO
+        at(1, &[1, 1], 7);
+        at(0, &[0], -1);
+        // order 0
+        for info in [-1, 1].into_iter().chain(ENDS) {
+            at(0, &[], info);
+        }
+        // the writer
+        assert_eq!(written(calls, &[1, 1, 0, 1, 0, RUN]), Err(5 * 4096 + 1));
+        assert_eq!(written(calls, &[0, 2, 0, 2, 0, RUN]), Err(5 * 4096));
+        assert_eq!(written(calls, &[1, 2, 1, 1, 0, RUN]), Err(5 * 4096));
+        assert_eq!(written(calls, &[0, 1, 1, 2, 0, RUN]), Err(5 * 4096 + 1));
+        assert_eq!(written(calls, &[0, 0, 1, 1, 0, RUN]), Err(5 * 4096));
+        assert_eq!(written(calls, &[0, 1, 1, 3, 1, RUN]), Err(5 * 4096 + 1));
+        assert_eq!(written(calls, &[1, 1, 1, 1, 1, RUN]), Err(5 * 4096 + 2));
+        assert_eq!(written(calls, &[1, 2, 1, 2, 2, RUN]), Err(5 * 4096 + 2));
+        assert_eq!(written(calls, &[1, 1, 1, 1, 3, RUN]), Err(5 * 4096 + 2));
+        assert_eq!(written(calls, &[u32::MAX, 1, 1, 1, 0, RUN]), Err(5 * 4096));
+        assert_eq!(written(calls, &[u32::MAX, 2, u32::MAX, 2, 0, RUN]), Err(5 * 4096));
+        assert_eq!(written(calls, &[1, RUN]), Err(5 * 4096));
+    }
+}
+
+/// Document 02: 1, then 4, then 12 or 5.
+#[test]
+fn lists_of_other_lengths() {
+    for calls in BOTH {
+        let read = |n: usize, list: usize, words: usize, number: i32| {
+            let mut record = vec![9; words];
+            let answer = calls.pivots_from_lapack(&vec![number; list], number, &mut record, n, RUN);
+            assert!(answer == 0 || record == vec![9; words]);
+            answer
+        };
+        let written = |n: usize, words: usize, list: usize, word: u32| {
+            let mut numbers = vec![9; list];
+            let (answer, info, run) = calls.pivots_to_lapack(&vec![word; words], &mut numbers, n);
+            assert!(answer == 0 || (numbers, info, run) == (vec![9; list], 0, 0));
+            answer
+        };
+        for n in [0, 1, 2, 1024] {
+            let words = 2 * n + 2;
+            for number in [0, -1] {
+                for (list, words) in [(n + 1, words), (n, words - 1), (n, words + 1), (n + 1, words - 1), (n + 2, 2 * n + 1), (words, n)] {
+                    assert_eq!(read(n, list, words, number), 4 * 4096);
+                    assert_eq!(written(n, words, list, number as u32), 4 * 4096);
+                }
+                if n > 0 {
+                    assert_eq!(read(n, n - 1, words, number), 4 * 4096);
+                    assert_eq!(written(n, words, n - 1, number as u32), 4 * 4096);
+                    assert_eq!(read(n, n, words, number), 12 * 4096);
+                    assert_eq!(written(n, words, n, number as u32), 5 * 4096);
+                }
+            }
+        }
+        for n in [1025, 1026, 1 << 32, 1 << 63, usize::MAX] {
+            for (list, words) in [(0, 0), (0, 2), (1, 4), (1024, 2050), (1025, 2052)] {
+                assert_eq!(read(n, list, words, 1), 4096);
+                assert_eq!(written(n, words, list, 1), 4096);
+            }
+        }
+        // the greatest order
+        let list: Vec<i32> = (1..=1024).collect();
+        let mut record = vec![9; 2050];
+        assert_eq!(calls.pivots_from_lapack(&list, 1024, &mut record, 1024, RUN), 0);
+        assert_eq!(record, (0..1024).flat_map(|k| [k, 1]).chain([1024, RUN]).collect::<Vec<u32>>());
+        let mut numbers = vec![9; 1024];
+        assert_eq!(calls.pivots_to_lapack(&record, &mut numbers, 1024), (0, 1024, RUN));
+        assert_eq!(numbers, list);
+        let mut record = vec![9; 2050];
+        assert_eq!(calls.pivots_from_lapack(&list, 1025, &mut record, 1024, RUN), 12 * 4096 + 1024);
+        assert_eq!(calls.pivots_from_lapack(&[-1024; 1024], 0, &mut record, 1024, RUN), 0);
+        let mut numbers = vec![9; 1024];
+        assert_eq!(calls.pivots_to_lapack(&record, &mut numbers, 1024), (0, 0, RUN));
+        assert_eq!(numbers, [-1024; 1024]);
+    }
+}
+
+/// Document 02: sound record to list and back gives the same record, and sound list to record and back the same list.
+#[test]
+fn lists_there_and_back() {
+    for calls in BOTH {
+        let accepted = [
+            back::reader(3, vec![3, -3, -3], 0, 1),
+            back::reader(4, vec![4, -3, -3, 4], 4, u32::MAX),
+            back::writer(3, vec![2, 2, 2, 2, 2, 1, 3, 8]),
+            back::writer(0, vec![0, RUN]),
+        ];
+        for there in accepted {
+            let left = there.outcome(calls);
+            let back = back::back(&there, &left).expect("an accepted call");
+            assert_eq!(back.outcome(calls), back::given(&there, &back));
+        }
+        let refused = [back::reader(2, vec![-1, -1], 0, 1), back::writer(1, vec![0, 2, 0, 1])];
+        assert!(refused.iter().all(|there| back::back(there, &there.outcome(calls)).is_none()));
+    }
+}
+
+/// The lists' calls as lines, and in a stored list: a number of a list is the low half of a word in register C.
+#[test]
+fn lists_written_down() {
+    let line = "pivots_from_lapack 2 -1 4294967295 ; fffffffe fffffffe ; 00000009 00000009 00000009 00000009 00000009 00000009";
+    let case = parse_case(line).unwrap();
+    assert_eq!((case.n, case.info, case.run, &case.list[..]), (2, -1, u32::MAX, &[-2, -2][..]));
+    assert_eq!((case.second(), case.third()), (0xffff_ffff, 0xffff_ffff));
+    assert_eq!(case_line(&case), line);
+    assert!(parse_case(&line.replace("-1", "2147483648")).is_err());
+    assert!(parse_case(&line.replace("fffffffe ;", "1fffffffe ;")).is_err());
+    let written = parse_case("pivots_to_lapack 1 ; 00000000 00000001 00000001 ffffffff ; 80000000").unwrap();
+    assert_eq!(written.list, [i32::MIN]);
+    let set = |register: u64, words: &[u64]| [&[2 | register << 8 | (words.len() as u64) << 16][..], words].concat();
+    let same = |register: u64, words: &[u64]| [&[7 | register << 8 | (words.len() as u64) << 16][..], words].concat();
+    let call = |number: u64, numbers: [u64; 5]| [&[6 | number << 8][..], &numbers].concat();
+    let minus_two = 0xffff_fffe;
+    let list = [
+        set(2, &[minus_two; 2]),
+        set(3, &[9; 6]),
+        // INFO −1, then 0; the run number is the low half of its word
+        call(16, [2, 0xffff_ffff, 3, 12 * 4096 + 2, 0]),
+        same(3, &[9; 6]),
+        call(16, [2, 0, 0xffff_ffff, 0, 0]),
+        same(3, &[1, 2, 1, 2, 0, 0xffff_ffff]),
+        set(2, &[9; 2]),
+        call(17, [2, 0, 0, 0, 0xffff_ffff_0000_0000]),
+        same(2, &[minus_two; 2]),
+        // INFO 2 and run 5 in one word; a refusal has 0
+        set(3, &[1, 1, 1, 1, 2, 5]),
+        call(17, [2, 0, 0, 0, 0x5_0000_0002]),
+        same(2, &[2; 2]),
+        set(3, &[1, 1, 1, 1, 1, 5]),
+        call(17, [2, 0, 0, 5 * 4096 + 2, 0]),
+        same(2, &[2; 2]),
+    ]
+    .concat();
+    for calls in BOTH {
+        assert_eq!(outcome_line(&written, &written.outcome(calls)), "0 1 4294967295 ; 00000000 00000001 00000001 ffffffff ; 00000001");
+        assert_eq!(outcome_line(&case, &case.outcome(calls)), line.replace("pivots_from_lapack 2 -1 4294967295", "49154"));
+        let mut machine = Machine::new(calls);
+        machine.replay(&list);
+        assert_eq!((machine.calls_made, machine.differences), (5, vec![]));
     }
 }
 

@@ -25,6 +25,7 @@ const char *meaning(uint64_t answer)
         return "sizes";
     case URGYELPAT_BAD_RECORD:
     case URGYELPAT_ZERO_MARK:
+    case URGYELPAT_BAD_LIST:
     case URGYELPAT_OTHER_RUN:
         return "record";
     case URGYELPAT_CHOLESKY_ZERO:

@@ -80,6 +80,11 @@ lent lend_words(words given, placement where)
     return lend(given.at, given.length, sizeof(uint32_t), where);
 }
 
+lent lend_wholes(wholes given, placement where)
+{
+    return lend(given.at, given.length, sizeof(int32_t), where);
+}
+
 double *numbers_at(const lent *slice)
 {
     return slice->null ? NULL : (double *)(void *)(slice->open + slice->start);
@@ -88,6 +93,11 @@ double *numbers_at(const lent *slice)
 uint32_t *words_at(const lent *slice)
 {
     return slice->null ? NULL : (uint32_t *)(void *)(slice->open + slice->start);
+}
+
+int32_t *wholes_at(const lent *slice)
+{
+    return slice->null ? NULL : (int32_t *)(void *)(slice->open + slice->start);
 }
 
 void called(const char *function, const char *about, placement where)
@@ -145,6 +155,14 @@ void valued(double got, double wanted)
     printf("value %016lx, should be %016lx\n", (unsigned long)to_bits(got), (unsigned long)to_bits(wanted));
 }
 
+void gave(const char *name, long got, long wanted)
+{
+    if (got == wanted)
+        return;
+    wrong();
+    printf("%s %ld, should be %ld\n", name, got, wanted);
+}
+
 static void give_back(lent slice, const char *name)
 {
     if (memcmp(slice.open, slice.should, slice.open_bytes) != 0) {
@@ -179,6 +197,20 @@ void left_words(lent slice, const char *name, words wanted)
         if (got[i] != wanted.at[i]) {
             wrong();
             printf("%s[%lu] is %u, should be %u\n", name, (unsigned long)i, got[i], wanted.at[i]);
+        }
+    memcpy(slice.should + slice.start, got, slice.length * slice.width);
+    give_back(slice, name);
+}
+
+void left_wholes(lent slice, const char *name, wholes wanted)
+{
+    const int32_t *got = (const int32_t *)(const void *)(slice.open + slice.start);
+    if (wanted.length != slice.length)
+        abort();
+    for (size_t i = 0; i < slice.length; i++)
+        if (got[i] != wanted.at[i]) {
+            wrong();
+            printf("%s[%lu] is %d, should be %d\n", name, (unsigned long)i, got[i], wanted.at[i]);
         }
     memcpy(slice.should + slice.start, got, slice.length * slice.width);
     give_back(slice, name);

@@ -19,11 +19,19 @@ typedef struct {
     size_t length;
 } words;
 
+/* whole numbers, with a sign */
+typedef struct {
+    const int32_t *at;
+    size_t length;
+} wholes;
+
 #define NUMBERS(...) ((numbers){(const double[]){__VA_ARGS__}, sizeof((const double[]){__VA_ARGS__}) / sizeof(double)})
 #define WORDS(...) ((words){(const uint32_t[]){__VA_ARGS__}, sizeof((const uint32_t[]){__VA_ARGS__}) / sizeof(uint32_t)})
+#define WHOLES(...) ((wholes){(const int32_t[]){__VA_ARGS__}, sizeof((const int32_t[]){__VA_ARGS__}) / sizeof(int32_t)})
 /* A slice of length 0, lent as a null pointer. */
 #define NO_NUMBERS ((numbers){NULL, 0})
 #define NO_WORDS ((words){NULL, 0})
+#define NO_WHOLES ((wholes){NULL, 0})
 
 /* The double with these bits. */
 double from_bits(uint64_t bits);
@@ -52,22 +60,26 @@ typedef struct {
 
 lent lend_numbers(numbers given, placement where);
 lent lend_words(words given, placement where);
+lent lend_wholes(wholes given, placement where);
 
 /* The pointer to pass. */
 double *numbers_at(const lent *slice);
 uint32_t *words_at(const lent *slice);
+int32_t *wholes_at(const lent *slice);
 
 /* From here on a touch of a page beside a slice is reported, with the call that did it. */
 void watch_the_pages(void);
 
-/* One call: its function, what it is about, and its answer. */
+/* One call: its function, what it is about, its answer, and what it gives beside that. */
 void called(const char *function, const char *about, placement where);
 void answered(uint64_t got, uint64_t wanted);
 void valued(double got, double wanted);
+void gave(const char *name, long got, long wanted);
 
 /* After the call the slice should hold this, and all around it be as it was. Gives the memory back. */
 void left_numbers(lent slice, const char *name, numbers wanted);
 void left_words(lent slice, const char *name, words wanted);
+void left_wholes(lent slice, const char *name, wholes wanted);
 
 /* How many calls were made, and how many of them did something wrong. */
 extern unsigned long calls_made, calls_wrong;

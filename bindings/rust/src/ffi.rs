@@ -6,6 +6,13 @@ pub struct Determined {
     pub value: f64,
 }
 
+#[repr(C)]
+pub struct Listed {
+    pub answer: u64,
+    pub info: i32,
+    pub run: u32,
+}
+
 extern "C" {
     pub fn urgyelpat_lblt_factor(
         a: *mut f64,
@@ -68,6 +75,22 @@ extern "C" {
         n: usize,
         run: u32,
     ) -> u64;
+    pub fn urgyelpat_pivots_from_lapack(
+        list: *const i32,
+        list_length: usize,
+        info: i32,
+        record: *mut u32,
+        record_length: usize,
+        n: usize,
+        run: u32,
+    ) -> u64;
+    pub fn urgyelpat_pivots_to_lapack(
+        record: *const u32,
+        record_length: usize,
+        list: *mut i32,
+        list_length: usize,
+        n: usize,
+    ) -> Listed;
     pub fn urgyelpat_cholesky_factor(a: *mut f64, a_length: usize, room: usize, n: usize) -> u64;
     pub fn urgyelpat_cholesky_extend(a: *mut f64, a_length: usize, room: usize, earlier: usize, n: usize) -> u64;
     pub fn urgyelpat_cholesky_solve(

@@ -14,9 +14,34 @@
 //! accepted, even if it is damaged or of another matrix: keep a factor and its record together, as [`LBLT`] does.
 //!
 //! The rows of the factor are not in the order in which they came: [`callers_row`] gives the way back.
+//!
+//! # LAPACK's pivot lists
+//!
+//! LAPACK's `dsytrf` and `dsytf2` say their pivots by IPIV, a list of n signed numbers, and by INFO. [`pivots_from_lapack`]
+//! reads them into a record, and [`pivots_to_lapack`] writes a record so. For the lower triangle (UPLO = 'L'), rows counted
+//! from 1:
+//!
+//! - p > 0 at row k is a block of size 1, with rows k and p exchanged. In the record it is the pair (p − 1, 1).
+//! - −p at row k and again at row k + 1 is a block of size 2, with rows k + 1 and p exchanged: the pair (p − 1, 2) at both.
+//! - INFO, 0 or the row of the first diagonal that is exactly zero, is the mark's word, number for number.
+//!
+//! The list is judged by the rule of the record that it stands for: block by block from the first row on, and then INFO, which
+//! is 0 or a row k at which the list has k itself. So a list is read exactly if some record that keeps the rule is written so.
+//! From such a record to its list and back is the same record, its run number too; from such a list to its record and back is
+//! the same list, with the same INFO.
+//!
+//! INFO and the mark need not mean the same. LAPACK says of INFO that this diagonal of D is the first that is exactly zero; the
+//! mark is the first row at which a factor call found no pivot. For the lower rows 0 / 2⁻⁶⁰⁰ 0 / 0 2⁶⁰⁰ 0 the mark is row 2,
+//! counted from 0, and is written as INFO 3, though the factor has a zero at row 0. A list whose INFO is not 0 gives a marked
+//! record, which a solve refuses by [`ZeroMark`](Refusal::ZeroMark).
+//!
+//! The factor beside a list is taken as it is. By LAPACK's documentation it stands in the lower part as that of [`factor`]
+//! does (compared, not proved), if `dsytrf` or `dsytf2` wrote it with UPLO = 'L' and LDA = n (or its columns are copied
+//! together so), and IPIV has 32-bit integers. **Never** hand in lists of UPLO = 'U', nor those of `dsytrf_rook`, `dsytrf_rk`
+//! and `dsytrf_aa`: they mean other things, and are not always refused, those of `dsytrf_aa` hardly ever.
 
 use crate::refusal::{done, value, Refusal};
-use crate::{ffi, kept, whole_columns};
+use crate::{ffi, kept, whole_columns, LARGEST};
 
 /// Factors the lower part of `a` (n·n numbers) in place and writes its pivot record (2n + 2 words), with `run` at its end.
 ///
@@ -205,8 +230,87 @@ pub fn l_permuted(a: &[f64], record: &[u32], l: &mut [f64], n: usize, run: u32) 
     })
 }
 
+/// Reads a LAPACK pivot list (n numbers) and its INFO into a pivot record (2n + 2 words), with `run` at its end: the number
+/// that is then expected where the factor is read. The page of the module says [which lists](self#lapacks-pivot-lists) may be
+/// handed in.
+///
+/// Every `i32` is a content: a 0 in the list, `i32::MIN`, an INFO below 0 (by which LAPACK says that it factored nothing) and
+/// one above n are refused by [`BadList`](Refusal::BadList). It names the first row of the first broken block, counted from 0,
+/// or n for INFO.
+///
+/// Refused by [`OutOfRange`](Refusal::OutOfRange), [`SliceLength`](Refusal::SliceLength), [`BadList`](Refusal::BadList). The
+/// record is then as it was.
+///
+/// ```
+/// use urgyelpat::{lblt, Refusal};
+///
+/// // dsytrf's factor of the lower rows 0 / 1 0, and what it says of its pivots
+/// let (a, list, info) = ([0.0, 1.0, 0.0, 0.0], [-2, -2], 0);
+/// let mut record = [0; 6];
+/// lblt::pivots_from_lapack(&list, info, &mut record, 2, 1116)?; // in run 1116
+/// assert_eq!(record, [1, 2, 1, 2, 0, 1116]);
+/// let mut b = [3.0, 5.0];
+/// lblt::solve_mut(&a, &record, &mut b, 2, 1, 1116)?;
+/// assert_eq!(b, [5.0, 3.0]);
+///
+/// // half a block of two
+/// let refused = lblt::pivots_from_lapack(&[-2, 2], 0, &mut record, 2, 1117);
+/// assert_eq!(refused, Err(Refusal::BadList { row: 0 }));
+/// // row 1, counted from 1, is exchanged with row 2: it cannot be one without a pivot
+/// let refused = lblt::pivots_from_lapack(&[2, 2], 1, &mut record, 2, 1117);
+/// assert_eq!(refused, Err(Refusal::BadList { row: 2 }));
+/// assert_eq!(record, [1, 2, 1, 2, 0, 1116]);
+/// # Ok::<(), Refusal>(())
+/// ```
+pub fn pivots_from_lapack(list: &[i32], info: i32, record: &mut [u32], n: usize, run: u32) -> Result<(), Refusal> {
+    // SAFETY: each pointer and length are a slice's, and what is written is borrowed alone.
+    done(unsafe {
+        ffi::urgyelpat_pivots_from_lapack(
+            list.as_ptr(),
+            list.len(),
+            info,
+            record.as_mut_ptr(),
+            record.len(),
+            n,
+            run,
+        )
+    })
+}
+
+/// What [`pivots_to_lapack`] gives beside the list.
+#[derive(Clone, Copy, Debug, PartialEq, Eq, Hash)]
+pub struct Listed {
+    /// INFO: 0, or the marked row, counted from 1.
+    pub info: i32,
+    /// The run number of the record.
+    pub run: u32,
+}
+
+/// Writes a pivot record as LAPACK's list (n numbers), and gives its INFO and the record's run number. No run number is
+/// expected: compare the one that is given with your own. A marked record is accepted.
+///
+/// Refused by [`OutOfRange`](Refusal::OutOfRange), [`SliceLength`](Refusal::SliceLength), [`BadRecord`](Refusal::BadRecord).
+/// The list is then as it was.
+///
+/// ```
+/// use urgyelpat::lblt::{self, Listed};
+///
+/// // row 0 was exchanged with row 1, and then row 1 had no pivot
+/// let mut list = [0; 2];
+/// let listed = lblt::pivots_to_lapack(&[1, 1, 1, 1, 2, 1116], &mut list, 2)?;
+/// assert_eq!(list, [2, 2]);
+/// assert_eq!(listed, Listed { info: 2, run: 1116 });
+/// # Ok::<(), urgyelpat::Refusal>(())
+/// ```
+pub fn pivots_to_lapack(record: &[u32], list: &mut [i32], n: usize) -> Result<Listed, Refusal> {
+    // SAFETY: each pointer and length are a slice's, and what is written is borrowed alone.
+    let ffi::Listed { answer, info, run } =
+        unsafe { ffi::urgyelpat_pivots_to_lapack(record.as_ptr(), record.len(), list.as_mut_ptr(), list.len(), n) };
+    done(answer).map(|()| Listed { info, run })
+}
+
 /// The row of the given matrix that stands at a row of the factor: the exchanges of the record, taken back from the last to the
-/// first. `record` is one that [`factor`] wrote for order n. Panics where it has fewer than 2n words.
+/// first. `record` is one that [`factor`] or [`pivots_from_lapack`] wrote for order n. Panics where it has fewer than 2n words.
 ///
 /// ```
 /// // the lower rows 1 / 2 4: row 1 is brought to the top, and the factor's row 1 has no pivot
@@ -255,8 +359,18 @@ pub struct LBLT {
     order: usize,
 }
 
-/// Why the calls on an own factor are not refused by size or record: both come from the factor call.
-const OWN: &str = "the factor call's own record and sizes are accepted";
+/// LAPACK's words for the pivots of a factor: [`LBLT::lapack_pivots`] gives them.
+#[derive(Clone, Debug, PartialEq, Eq)]
+pub struct LapackPivots {
+    /// IPIV for the lower triangle: p > 0 at row k, counted from 1, where rows k and p were exchanged for a block of size 1;
+    /// −p at rows k and k + 1 where rows k + 1 and p were exchanged for a block of size 2.
+    pub list: Vec<i32>,
+    /// INFO: 0, or the [`zero_pivot`](LBLT::zero_pivot), counted from 1. It need not be the first zero on the diagonal.
+    pub info: i32,
+}
+
+/// Why the calls on an own factor are not refused by size or record: a call of the library wrote the record for that order.
+const OWN: &str = "a record that the library wrote and its sizes are accepted";
 
 impl LBLT {
     /// Factors a symmetric matrix of order n, n·n numbers, of which the lower part is read. The run number, any number of the
@@ -267,6 +381,43 @@ impl LBLT {
     pub fn new(mut matrix: Vec<f64>, n: usize, run: u32) -> Result<LBLT, Refusal> {
         let mut record = vec![0; 2 * kept(n) + 2];
         factor(&mut matrix, &mut record, n, run)?;
+        Ok(LBLT {
+            matrix,
+            record,
+            order: n,
+        })
+    }
+
+    /// A factor that LAPACK's `dsytrf` or `dsytf2` left in the lower part of `matrix`, n·n numbers, with the pivots that it
+    /// said: IPIV as `list`, n numbers, and INFO. The matrix is taken as it is, and no number of it is looked at. The run
+    /// number stands at the end of the record, as for [`new`](LBLT::new).
+    ///
+    /// Only for UPLO = 'L', LDA = n and 32-bit integers. **Never** hand in what UPLO = 'U', `dsytrf_rook`, `dsytrf_rk` or
+    /// `dsytrf_aa` left: it means other things, and is [not always refused](crate::lblt#lapacks-pivot-lists).
+    ///
+    /// Refused by [`OutOfRange`](Refusal::OutOfRange), [`MatrixLength`](Refusal::MatrixLength),
+    /// [`SliceLength`](Refusal::SliceLength) where the list does not have n numbers, and [`BadList`](Refusal::BadList), in this
+    /// order.
+    ///
+    /// ```
+    /// use urgyelpat::{Refusal, LBLT};
+    ///
+    /// // what dsytrf left of the lower rows 0 / 1 4
+    /// let factor = LBLT::from_lapack(vec![4.0, 0.25, 0.0, -0.25], 2, &[2, 2], 0, 1116)?;
+    /// assert_eq!(factor.solve(&[1.0, 6.0])?, [2.0, 1.0]);
+    /// assert_eq!(factor.determinant(), -1.0);
+    ///
+    /// // a number of the list is damaged
+    /// let refused = LBLT::from_lapack(vec![4.0, 0.25, 0.0, -0.25], 2, &[2, 0], 0, 1116);
+    /// assert_eq!(refused, Err(Refusal::BadList { row: 1 }));
+    /// # Ok::<(), Refusal>(())
+    /// ```
+    pub fn from_lapack(matrix: Vec<f64>, n: usize, list: &[i32], info: i32, run: u32) -> Result<LBLT, Refusal> {
+        if n <= LARGEST && matrix.len() != n * n {
+            return Err(Refusal::MatrixLength);
+        }
+        let mut record = vec![0; 2 * kept(n) + 2];
+        pivots_from_lapack(list, info, &mut record, n, run)?;
         Ok(LBLT {
             matrix,
             record,
@@ -296,9 +447,31 @@ impl LBLT {
             .map(|pivot| (pivot[0] as usize, pivot[1] as usize))
     }
 
+    /// The pivots and the mark in LAPACK's words. With [`matrix`](LBLT::matrix) they are what `dsytrs` takes for UPLO = 'L' and
+    /// LDA = n; they do not hold the run number.
+    ///
+    /// ```
+    /// use urgyelpat::{LapackPivots, LBLT};
+    ///
+    /// let factor = LBLT::new(vec![0.0, 1.0, 0.0, 0.0], 2, 1116)?;
+    /// let LapackPivots { list, info } = factor.lapack_pivots();
+    /// assert_eq!((list, info), (vec![-2, -2], 0));
+    ///
+    /// let marked = LBLT::new(vec![1.0, 2.0, 0.0, 4.0], 2, 1116)?;
+    /// assert_eq!(marked.zero_pivot(), Some(1)); // counted from 0, and INFO from 1
+    /// let LapackPivots { list, info } = marked.lapack_pivots();
+    /// assert_eq!((list, info), (vec![2, 2], 2));
+    /// # Ok::<(), urgyelpat::Refusal>(())
+    /// ```
+    pub fn lapack_pivots(&self) -> LapackPivots {
+        let mut list = vec![0; self.order];
+        let Listed { info, .. } = pivots_to_lapack(&self.record, &mut list, self.order).expect(OWN);
+        LapackPivots { list, info }
+    }
+
     /// The first row of the factor that has no pivot: the diagonal and the largest number below it were both zero in size, or
-    /// one was zero and the other NaN. Below the last row there is nothing, which counts as zero.
-    /// [`callers_row`](LBLT::callers_row) says which row of the given matrix it was.
+    /// one was zero and the other NaN. Below the last row there is nothing, which counts as zero. Of a factor of LAPACK's it is
+    /// the row that INFO named. [`callers_row`](LBLT::callers_row) says which row of the given matrix it was.
     pub fn zero_pivot(&self) -> Option<usize> {
         (self.record[2 * self.order] as usize).checked_sub(1)
     }

@@ -47,7 +47,7 @@ pub mod udu;
 mod twins;
 
 pub use cholesky::{BatchRefusal, Cholesky};
-pub use lblt::LBLT;
+pub use lblt::{LapackPivots, LBLT};
 pub use refusal::Refusal;
 pub use twins::{first_twin, first_twin_since, Twins};
 pub use udu::UDU;

@@ -6,8 +6,9 @@ use crate::ffi::Determined;
 /// Why a call was refused, and where.
 ///
 /// The checks 1 to 5, then 13, then 6 run in that order, and the first that fails is the answer; every slice is then as it
-/// was. Cholesky and UDU go on from there column by column, UDU from the last one back, and the first diagonal that fails gives
-/// its code: for Cholesky just one of 7, 10 and 11 fits it. What 7, 8, 10 and 11 leave is said at the calls that give them.
+/// was. For a LAPACK pivot list, 12 stands where 5 does for a record. Cholesky and UDU go on from there column by column, UDU
+/// from the last one back, and the first diagonal that fails gives its code: for Cholesky just one of 7, 10 and 11 fits it.
+/// What 7, 8, 10 and 11 leave is said at the calls that give them.
 #[derive(Clone, Copy, Debug, PartialEq, Eq, Hash)]
 #[non_exhaustive]
 pub enum Refusal {
@@ -51,6 +52,11 @@ pub enum Refusal {
         /// Its row and column.
         column: usize,
     },
+    /// Code 12: a LAPACK pivot list, with its INFO, stands for no pivot record that keeps its rule.
+    BadList {
+        /// The first row of its first broken block, counted from 0, or the order if INFO alone is wrong.
+        row: usize,
+    },
     /// Code 13: the pivot record has another run number than the one that is expected.
     OtherRun,
 }
@@ -69,6 +75,7 @@ impl Refusal {
             Refusal::ZeroDiagonal { .. } => 8,
             Refusal::CholeskyBelowZero { .. } => 10,
             Refusal::CholeskyNan { .. } => 11,
+            Refusal::BadList { .. } => 12,
             Refusal::OtherRun => 13,
         }
     }
@@ -81,7 +88,7 @@ impl Refusal {
             | Refusal::MatrixLength
             | Refusal::SliceLength
             | Refusal::OtherRun => 0,
-            Refusal::BadRecord { row } | Refusal::ZeroMark { row } => row,
+            Refusal::BadRecord { row } | Refusal::ZeroMark { row } | Refusal::BadList { row } => row,
             Refusal::CholeskyZero { column }
             | Refusal::ZeroDiagonal { column }
             | Refusal::CholeskyBelowZero { column }
@@ -107,7 +114,7 @@ impl fmt::Display for Refusal {
             ),
             Refusal::SliceLength => write!(
                 f,
-                "the pivot record, the right-hand sides, the bench numbers, the new rows or the matrix to fill do not have the length that the order and the columns ask for: check that they belong to this matrix"
+                "the pivot record, the LAPACK pivot list, the right-hand sides, the bench numbers, the new rows or the matrix to fill do not have the length that the order and the columns ask for: check that they belong to this matrix"
             ),
             Refusal::BadRecord { row } => write!(
                 f,
@@ -132,6 +139,10 @@ impl fmt::Display for Refusal {
             Refusal::CholeskyNan { column } => write!(
                 f,
                 "the diagonal of row {column} is NaN, not a number: look for NaN, infinite or far too large numbers, first in that row, and for a broken probe or cable. Measure again"
+            ),
+            Refusal::BadList { row } => write!(
+                f,
+                "the LAPACK pivot list is broken at row {row}, counted from 0 (at its INFO, if the order is {row}), or it was not written by dsytrf for the lower triangle: have the list, its INFO and its factor sent again, or factor the matrix here"
             ),
             Refusal::OtherRun => write!(
                 f,
@@ -158,6 +169,7 @@ pub(crate) fn done(answer: u64) -> Result<(), Refusal> {
         8 => Refusal::ZeroDiagonal { column: place },
         10 => Refusal::CholeskyBelowZero { column: place },
         11 => Refusal::CholeskyNan { column: place },
+        12 => Refusal::BadList { row: place },
         13 => Refusal::OtherRun,
         code => {
             panic!("liburgyelpat.a answers code {code}, which this crate does not know: build both from one version")

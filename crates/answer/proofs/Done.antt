@@ -4,7 +4,7 @@ use mathlib.Core.Bool.{Bool, true, false, cond, true≢false}
 use Prim.Native.Nat.{ℕ}
 use borrow.Author.Tests.{eq-eqb, ne-eqb}
 use Rattle.answer.specs.declared.Answer.{Answer}
-use Rattle.answer.specs.declared.Answer.the-variants.{Done, OutOfRange, OrderAboveRoom, MatrixLength, SliceLength, BadRecord, ZeroMark, CholeskyZero, ZeroDiagonal, CholeskyBelowZero, CholeskyNan, OtherRun, BadLine}
+use Rattle.answer.specs.declared.Answer.the-variants.{Done, OutOfRange, OrderAboveRoom, MatrixLength, SliceLength, BadRecord, ZeroMark, CholeskyZero, ZeroDiagonal, CholeskyBelowZero, CholeskyNan, BadList, OtherRun, BadLine}
 use Rattle.answer.specs.Number.{codeOf, isDone}
 
 -- only `Done` is done
@@ -20,6 +20,7 @@ done-is (CholeskyZero column) e = absurd (true≢false (sym e))
 done-is (ZeroDiagonal column) e = absurd (true≢false (sym e))
 done-is (CholeskyBelowZero column) e = absurd (true≢false (sym e))
 done-is (CholeskyNan column) e = absurd (true≢false (sym e))
+done-is (BadList row) e = absurd (true≢false (sym e))
 done-is OtherRun e = absurd (true≢false (sym e))
 done-is (BadLine line) e = absurd (true≢false (sym e))
 

@@ -3,7 +3,7 @@ use mathlib.Core.Bool.{Bool}
 use Prim.Native.Nat.{ℕ, _+_, _*_}
 use lib.Dec.{eqb}
 use Rattle.answer.specs.declared.Answer.{Answer}
-use Rattle.answer.specs.declared.Answer.the-variants.{Done, OutOfRange, OrderAboveRoom, MatrixLength, SliceLength, BadRecord, ZeroMark, CholeskyZero, ZeroDiagonal, CholeskyBelowZero, CholeskyNan, OtherRun, BadLine}
+use Rattle.answer.specs.declared.Answer.the-variants.{Done, OutOfRange, OrderAboveRoom, MatrixLength, SliceLength, BadRecord, ZeroMark, CholeskyZero, ZeroDiagonal, CholeskyBelowZero, CholeskyNan, BadList, OtherRun, BadLine}
 
 abbrev pub codeOf : Answer → ℕ
 codeOf Done = 0
@@ -17,6 +17,7 @@ codeOf (CholeskyZero column) = 7
 codeOf (ZeroDiagonal column) = 8
 codeOf (CholeskyBelowZero column) = 10
 codeOf (CholeskyNan column) = 11
+codeOf (BadList row) = 12
 codeOf OtherRun = 13
 codeOf (BadLine line) = 20
 
@@ -37,6 +38,7 @@ placeOf (CholeskyZero column) = column
 placeOf (ZeroDiagonal column) = column
 placeOf (CholeskyBelowZero column) = column
 placeOf (CholeskyNan column) = column
+placeOf (BadList row) = row
 placeOf OtherRun = 0
 placeOf (BadLine line) = line
 

@@ -25,6 +25,8 @@ pub enum Answer {
     CholeskyBelowZero(u32),
     // Cholesky: the diagonal at this column is NaN.
     CholeskyNan(u32),
+    // A LAPACK pivot list stands for no sound record: the first row of its first broken block, or the order for INFO.
+    BadList(u32),
     // The pivot record is of another run.
     OtherRun,
     // The sheet's first wrong line, from 1.
@@ -53,6 +55,7 @@ impl Answer {
             Answer::ZeroDiagonal(_) => 8,
             Answer::CholeskyBelowZero(_) => 10,
             Answer::CholeskyNan(_) => 11,
+            Answer::BadList(_) => 12,
             Answer::OtherRun => 13,
             Answer::BadLine(_) => 20,
         }
@@ -73,6 +76,7 @@ impl Answer {
             Answer::ZeroDiagonal(column) => column,
             Answer::CholeskyBelowZero(column) => column,
             Answer::CholeskyNan(column) => column,
+            Answer::BadList(row) => row,
             Answer::OtherRun => 0,
             Answer::BadLine(line) => line,
         }

@@ -5,6 +5,7 @@
 --     boundary-one, boundary-two   the boundary after it
 --     last-one, last-two           the block that ends before k, by the size at k − 1, and the boundary where it starts
 --     Marks, mark-row              what a mark names
+--     mark-within                  it is at most the order
 use mathlib.Core.Bool.{Bool, true, false, _&&_, _||_}
 use mathlib.Core.List.{List}
 use mathlib.Core.Logic.{⊎-elim}
@@ -17,6 +18,7 @@ use lib.Dec.{leb, eqb}
 use Rattle.answer.specs.declared.Answer.the-variants.{Done}
 use Rattle.answer.specs.Number.{isDone}
 use Rattle.answer.proofs.Tested.{AllHold, all-hold}
+use Rattle.answer.proofs.Tests.{eq-or-ne}
 use Rattle.pivots.specs.Words.{indexAt, sizeAt, markAt}
 use Rattle.pivots.specs.Rule.{blockOf, faultFrom, faultOf, ownPivot, recordTests, checked, Accepted}
 use Rattle.pivots.proofs.Blocks.{One, Two, one-rows, two-rows, block-found, first, second}
@@ -187,3 +189,6 @@ mark-row {n} {words} a marked = record {
 
     own : ownPivot words row ≡ true
     own = second (leb (markAt n words) n) _ within-own
+
+pub mark-within : {n : ℕ} {words : List ℕ} → Accepted n words → markAt n words ≤ n
+mark-within {n} {words} a = ⊎-elim (λ (none : markAt n words ≡ 0). omega arith) (λ marked. mark-row a marked .passed) (eq-or-ne (markAt n words) 0)

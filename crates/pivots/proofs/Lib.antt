@@ -1,8 +1,10 @@
 pub mod SamePairs
+pub mod SameWords
 pub mod Blocks
 pub mod Faults
 pub mod Checked
 pub mod Boundaries
+pub mod Rows
 pub mod Written
 pub mod Walks
 pub mod WholeWalks

@@ -2,24 +2,28 @@
 --     Written n words k m     the blocks up to row k are written and sound; m is the first mark: 0, or a row before k, of size 1 and with its own index, plus 1
 --     written-none            nothing written
 --     written-one, written-two, written-zero     one more block: of size 1, of size 2, and a zero column that sets the mark
---     stamped-other, stamped-length     what the run number leaves
+--     paired-kept, paired-index, paired-size     what a pair leaves, and itself
+--     ended-kept, ended-length, ended-mark, ended-run     what the mark and a run number leave, and themselves
+--     stamped-other, stamped-length, stamped-own     what the run number leaves; its own leaves all
 --     written-all, written-run     the mark and a run number are put at the end: the record is accepted, and the number stands in it
+--     stamped-accepted     an accepted record with another run number is accepted
 use mathlib.Core.List.{List}
-use mathlib.Core.Logic.{_⊎_, inl, inr}
+use mathlib.Core.Logic.{_⊎_, inl, inr, ⊎-elim}
 use mathlib.Core.Path.{_≡_, refl, sym, ap, subst, _∙_}
 use Prim.Native.Nat.{ℕ, _+_, _-_, _<_, _≤_}
 use native.Mathlib.Omega.{arith}
 use lib.ListN.{length, getD, set, length-set}
-use lib.Seq.{getD-set-same, getD-set-other}
+use lib.Seq.{getD-set-same, getD-set-other, set-getD}
 use Rattle.answer.specs.declared.Answer.the-variants.{Done}
 use Rattle.answer.specs.Number.{isDone}
-use Rattle.pivots.specs.Words.{indexWord, sizeWord, markWord, runWord, indexAt, sizeAt, markAt, runAt, Sized, paired, marked, stamped}
+use Rattle.answer.proofs.Tests.{eq-or-ne}
+use Rattle.pivots.specs.Words.{wordsOf, indexWord, sizeWord, markWord, runWord, indexAt, sizeAt, markAt, runAt, Sized, paired, marked, stamped}
 use Rattle.pivots.specs.Rule.{faultOf, checked, Accepted}
 use Rattle.pivots.proofs.SamePairs.{SamePairs}
 use Rattle.pivots.proofs.Blocks.{one-rows, two-rows}
 use Rattle.pivots.proofs.Faults.{Going, going-none, going-more, going-all}
 use Rattle.pivots.proofs.Checked.{unmarked, mark-sound}
-use Rattle.pivots.proofs.Boundaries.{Upto, start, one, two, Marks}
+use Rattle.pivots.proofs.Boundaries.{Upto, start, one, two, boundary-all, Marks, mark-row}
 
 pub record Written (n : ℕ) (words : List ℕ) (k m : ℕ) : Type 0 where
   pub sized : Sized n words
@@ -73,7 +77,7 @@ paired-length words row index size = simp length-set
 below : (l : List ℕ) (i j a : ℕ) → j < i → getD (set l i a) j 0 ≡ getD l j 0
 below l i j a h = getD-set-other l i j a 0 (λ (e : j ≡ i). omega arith)
 
-paired-kept : (words : List ℕ) (row index size : ℕ) → Kept words (paired words row index size) row
+pub paired-kept : (words : List ℕ) (row index size : ℕ) → Kept words (paired words row index size) row
 unfolding paired
 paired-kept words row index size = record {
   index = λ r h. below (set words (indexWord row) index) (sizeWord row) (indexWord r) size (omega arith) ∙ below words (indexWord row) (indexWord r) index (omega arith);
@@ -81,22 +85,35 @@ paired-kept words row index size = record {
 }
 
 module _ (words : List ℕ) (row index size : ℕ) (room : sizeWord row < length words) where
-  paired-size : sizeAt (paired words row index size) row ≡ size
+  pub paired-size : sizeAt (paired words row index size) row ≡ size
   unfolding paired
   paired-size = getD-set-same (set words (indexWord row) index) (sizeWord row) size 0 (simp length-set room)
 
-  paired-index : indexAt (paired words row index size) row ≡ index
+  pub paired-index : indexAt (paired words row index size) row ≡ index
   unfolding paired
   paired-index =
       below (set words (indexWord row) index) (sizeWord row) (indexWord row) size (omega arith)
       ∙ getD-set-same words (indexWord row) index 0 (omega arith)
 
-ended-kept : (n : ℕ) (words : List ℕ) (mark run : ℕ) → Kept words (stamped n (marked n words mark) run) n
+pub ended-kept : (n : ℕ) (words : List ℕ) (mark run : ℕ) → Kept words (stamped n (marked n words mark) run) n
 unfolding marked stamped
 ended-kept n words mark run = record {
   index = λ r h. below (set words (markWord n) mark) (runWord n) (indexWord r) run (omega arith) ∙ below words (markWord n) (indexWord r) mark (omega arith);
   size = λ r h. below (set words (markWord n) mark) (runWord n) (sizeWord r) run (omega arith) ∙ below words (markWord n) (sizeWord r) mark (omega arith);
 }
+
+module _ (n : ℕ) (words : List ℕ) (mark run : ℕ) (total : length words ≡ wordsOf n) where
+  pub ended-length : length (stamped n (marked n words mark) run) ≡ wordsOf n
+  unfolding marked stamped
+  ended-length = simp length-set total
+
+  pub ended-mark : markAt n (stamped n (marked n words mark) run) ≡ mark
+  unfolding marked stamped
+  ended-mark = below (set words (markWord n) mark) (runWord n) (markWord n) run (omega arith) ∙ getD-set-same words (markWord n) mark 0 (omega arith)
+
+  pub ended-run : runAt n (stamped n (marked n words mark) run) ≡ run
+  unfolding marked stamped
+  ended-run = getD-set-same (set words (markWord n) mark) (runWord n) run 0 (simp length-set (omega arith))
 
 pub stamped-other : (n : ℕ) (words : List ℕ) (run p : ℕ) → (p ≡ runWord n → ⊥) → getD (stamped n words run) p 0 ≡ getD words p 0
 unfolding stamped
@@ -105,6 +122,10 @@ stamped-other n words run p other = getD-set-other words (runWord n) p run 0 oth
 pub stamped-length : (n : ℕ) (words : List ℕ) (run : ℕ) → length (stamped n words run) ≡ length words
 unfolding stamped
 stamped-length n words run = length-set words (runWord n) run
+
+pub stamped-own : (n : ℕ) (words : List ℕ) → stamped n words (runAt n words) ≡ words
+unfolding stamped
+stamped-own n words = set-getD words (runWord n) 0
 
 paired-sized : {n : ℕ} {words : List ℕ} (row index size : ℕ) → Sized n words → Sized n (paired words row index size)
 paired-sized {n} {words} row index size s = record { order = s .order; total = paired-length words row index size ∙ s .total }
@@ -198,9 +219,8 @@ passed {n} {words} (two {j = j} u t e) h =
     (going-more (passed u (omega arith)) (omega arith) (sym (two-rows n words j t)) (λ z. absurd (omega arith)))
 
 pub written-all : {n : ℕ} {words : List ℕ} {m : ℕ} (run : ℕ) → Written n words n m → Accepted n (stamped n (marked n words m) run)
-unfolding marked stamped
 written-all {n} {words} {m} run w =
-    record { sized = record { order = w .sized .order; total = simp length-set (w .sized .total) }; done = ap isDone (sym (at (w .mark))) }
+    record { sized = record { order = w .sized .order; total = ended-length n words m run (w .sized .total) }; done = ap isDone (sym (at (w .mark))) }
   where
     final : List ℕ
     final = stamped n (marked n words m) run
@@ -212,7 +232,7 @@ written-all {n} {words} {m} run w =
     rows = omega (arith, going-all (passed (kept-upto kept (w .blocks)) (omega arith)) (omega arith))
 
     reads : m ≡ markAt n final
-    reads = sym (below (marked n words m) (runWord n) (markWord n) run (omega arith) ∙ getD-set-same words (markWord n) m 0 (omega (arith, w .sized .total)))
+    reads = sym (ended-mark n words m run (w .sized .total))
 
     at : (m ≡ 0) ⊎ Marks words n m → Done ≡ checked n final
     at (inl none) = unmarked n final rows reads none
@@ -221,5 +241,16 @@ written-all {n} {words} {m} run w =
         mark-sound n final rows reads (mk .set) (mk .passed) (marks .size) (marks .index)
 
 pub written-run : {n : ℕ} {words : List ℕ} {m : ℕ} (run : ℕ) → Written n words n m → runAt n (stamped n (marked n words m) run) ≡ run
-unfolding marked stamped
-written-run {n} {words} {m} run w = getD-set-same (set words (markWord n) m) (runWord n) run 0 (omega (arith, length-set words (markWord n) m, w .sized .total))
+written-run {n} {words} {m} run w = ended-run n words m run (w .sized .total)
+
+pub stamped-accepted : {n : ℕ} {words : List ℕ} (run : ℕ) → Accepted n words → Accepted n (stamped n words run)
+unfolding marked
+stamped-accepted {n} {words} run a =
+    subst (λ (w : List ℕ). Accepted n (stamped n w run)) (set-getD words (markWord n) 0)
+    (written-all run
+    (record {
+      sized = a .sized;
+      within = omega arith;
+      blocks = boundary-all a .before;
+      mark = ⊎-elim (λ (none : markAt n words ≡ 0). inl none) (λ marked. inr (mark-row a marked)) (eq-or-ne (markAt n words) 0);
+    }))

@@ -43,9 +43,12 @@ ownPivot words row = eqb (sizeAt words row) 1 && eqb (indexAt words row) row
 abbrev pub soundMark : ℕ → List ℕ → Bool
 soundMark n words = eqb (markAt n words) 0 || (leb (markAt n words) n && ownPivot words (markAt n words - 1))
 
--- the rows are judged before the mark
+-- the rows are judged before the mark; a broken rule is answered by `broken` with its place
+abbrev pub ruleTests : (ℕ → Answer) → ℕ → List ℕ → List Test
+ruleTests broken n words = (leb n (faultOf n words) otherwise broken (faultOf n words)) ∷ (soundMark n words otherwise broken n) ∷ []
+
 abbrev pub recordTests : ℕ → List ℕ → List Test
-recordTests n words = (leb n (faultOf n words) otherwise BadRecord (faultOf n words)) ∷ (soundMark n words otherwise BadRecord n) ∷ []
+recordTests = ruleTests BadRecord
 
 unfoldable pub checked : ℕ → List ℕ → Answer
 checked n words = tested (recordTests n words) Done

@@ -16,6 +16,9 @@ fn wide(word: u32) -> usize
 // The words of a record of order 64, for a lent array.
 pub const WORDS_OF_64: usize = 2 * 64 + 2;
 
+// The words of the longest record.
+pub const WORDS_OF_1024: usize = 2 * 1024 + 2;
+
 // The words of a record of order n.
 pub fn words(n: usize) -> usize
     requires { ⌜ n ≤ 1024 ⌝ }

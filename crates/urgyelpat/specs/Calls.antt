@@ -1,11 +1,13 @@
 -- What each exported call promises: the numbers of an answer that, with the slices at exit, meets the promise of the call below.
 use mathlib.Core.List.{List}
 use Prim.Native.Nat.{ℕ}
+use lib.IntN.{ℤ}
 use lib.Ieee.{Float}
 use Rattle.answer.specs.declared.Answer.{Answer}
 use Rattle.answer.specs.Number.{numberOf}
 use Rattle.matrix.specs.Grid.{load}
 use Rattle.matrix.specs.Layouts.{full, inRoom, lower}
+use Rattle.lapack_pivots.specs.Calls.{ListRead, ListWritten}
 use Rattle.lblt.specs.Factor as lblt
 use Rattle.lblt_read.specs.Calls.{LbltDetermined, LbltFilled}
 use Rattle.lblt_read.specs.Diagonal.{dOf}
@@ -18,8 +20,9 @@ use Rattle.cholesky.specs.Solve.{CholeskySolved}
 use Rattle.udu.specs.Promise as udu
 use Rattle.twins.specs.First.{FirstTwinSince}
 use Rattle.twins.specs.Number.{twinNumber}
-use Rattle.urgyelpat.specs.Passed.{Passed, determinedOf}
+use Rattle.urgyelpat.specs.Passed.{Passed, determinedOf, listedOf}
 use Rattle.urgyelpat.specs.declared.Determined.{Determined}
+use Rattle.urgyelpat.specs.declared.Listed.{Listed}
 
 -- ---- LBLT
 
@@ -40,6 +43,14 @@ LbltD n run a words d r d' = Passed numberOf (λ (answer : Answer). LbltFilled (
 
 abbrev pub LbltLPermuted : ℕ → ℕ → List Float → List ℕ → List Float → ℕ → List Float → Type 0
 LbltLPermuted n run a words l r l' = Passed numberOf (λ (answer : Answer). LbltFilled (full n) run a words (lPermutedOf n (load (lower (full n)) a) words) l answer l') r
+
+-- ---- LAPACK pivot lists
+
+abbrev pub PivotsFromLapack : ℕ → ℕ → List ℤ → ℤ → List ℕ → ℕ → List ℕ → Type 0
+PivotsFromLapack n run list info words r words' = Passed numberOf (λ (answer : Answer). ListRead n run list info words answer words') r
+
+abbrev pub PivotsToLapack : ℕ → List ℕ → List ℤ → Listed → List ℤ → Type 0
+PivotsToLapack n words list r list' = Passed listedOf (λ listed. ListWritten n words list listed list') r
 
 -- ---- Cholesky
 

@@ -2,7 +2,9 @@
 use mathlib.Core.Path.{_≡_}
 use Rattle.answer.specs.declared.Valued.{Valued}
 use Rattle.answer.specs.Number.{numberOf}
+use Rattle.lapack_pivots.specs.declared.Listed as below
 use Rattle.urgyelpat.specs.declared.Determined.{Determined}
+use Rattle.urgyelpat.specs.declared.Listed.{Listed}
 
 -- r is the numbers of a value that meets the promise of the call below
 pub record Passed {A B : Type 0} (numbers : A → B) (Given : A → Type 0) (r : B) : Type 0 where
@@ -13,3 +15,7 @@ pub record Passed {A B : Type 0} (numbers : A → B) (Given : A → Type 0) (r :
 -- a determinant: its answer as one number, its value as it is
 abbrev pub determinedOf : Valued → Determined
 determinedOf v = record { answer = numberOf (v .answer); value = v .value }
+
+-- INFO and the run number of a list as they are, the answer as one number
+abbrev pub listedOf : below.Listed → Listed
+listedOf l = record { answer = numberOf (l .answer); info = l .info; run = l .run }

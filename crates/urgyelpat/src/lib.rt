@@ -1,7 +1,8 @@
 // The calls through the C convention: a slice is a pointer and then a length, an answer is one number, code·4,096 + place.
 ghost use mathlib.Core.Path.{_≡_};
-ghost use Rattle.urgyelpat.specs.Passed.{determinedOf};
+ghost use Rattle.urgyelpat.specs.Passed.{determinedOf, listedOf};
 ghost use Rattle.urgyelpat.specs.Calls.{LbltFactor, LbltSolve, LbltSolveBench, LbltDeterminant, LbltD, LbltLPermuted};
+ghost use Rattle.urgyelpat.specs.Calls.{PivotsFromLapack, PivotsToLapack};
 ghost use Rattle.urgyelpat.specs.Calls.{CholeskyExtend, CholeskySolve, CholeskyL, CholeskyUnpack, CholeskyDeterminant};
 ghost use Rattle.urgyelpat.specs.Calls.{UduFactor, FirstTwinPair};
 use answer::Valued;
@@ -20,6 +21,25 @@ fn numbered(valued: Valued) -> Determined
     Determined {
         answer: answer.number(),
         value: valued.value,
+    }
+}
+
+// INFO and the run number of a list, 0 where refused, and the number of its answer.
+#[repr(C)]
+pub struct Listed {
+    pub answer: u64,
+    pub info: i32,
+    pub run: u32,
+}
+
+fn list_numbered(list: lapack_pivots::Listed) -> Listed
+    ensures { λ r. ⌜ r ≡ listedOf list ⌝ }
+{
+    let answer = list.answer;
+    Listed {
+        answer: answer.number(),
+        info: list.info,
+        run: list.run,
     }
 }
 
@@ -102,6 +122,28 @@ pub extern "C" fn urgyelpat_lblt_l_permuted(
     ensures { λ r. ⌜ LbltLPermuted n run (now (a .entry)) (now («record» .entry)) (now (l .entry)) r (now (l .exit)) ⌝ }
 {
     lblt_read::l_permuted(a, record, l, n, run).number()
+}
+
+// The record that a LAPACK pivot list and INFO stand for, with a run number.
+#[no_mangle]
+pub extern "C" fn urgyelpat_pivots_from_lapack(
+    list: &[i32],
+    info: i32,
+    record: &mut [u32],
+    n: usize,
+    run: u32,
+) -> u64
+    ensures { λ r. ⌜ PivotsFromLapack n run (now (list .entry)) info (now («record» .entry)) r (now («record» .exit)) ⌝ }
+{
+    lapack_pivots::from_lapack(list, info, record, n, run).number()
+}
+
+// The LAPACK pivot list of a record.
+#[no_mangle]
+pub extern "C" fn urgyelpat_pivots_to_lapack(record: &[u32], list: &mut [i32], n: usize) -> Listed
+    ensures { λ r. ⌜ PivotsToLapack n (now («record» .entry)) (now (list .entry)) r (now (list .exit)) ⌝ }
+{
+    list_numbered(lapack_pivots::to_lapack(record, list, n))
 }
 
 #[no_mangle]

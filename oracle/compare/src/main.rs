@@ -1,7 +1,8 @@
 //! compare paper|port FIRST SEEDS: the text against document 01's steps, or against the port, on the cases that need no chance and on the
-//! families, solves by Cholesky's factor, twin rows and benches of the seeds FIRST, FIRST + 1, .. Every word of every slice is compared, all NaNs
-//! being one. The calls that the steps alone answer are compared with the port. UDU of every block of rows and columns m to n − 1 is held against
-//! those rows and columns of UDU of the whole, and a bench's solve against one that differs only in the columns of the other benches.
+//! families, solves by Cholesky's factor, twin rows, benches and LAPACK's lists of the seeds FIRST, FIRST + 1, .. Every word of every slice is
+//! compared, all NaNs being one. The calls that the steps alone answer are compared with the port. UDU of every block of rows and columns m to n − 1 is
+//! held against those rows and columns of UDU of the whole, a bench's solve against one that differs only in the columns of the other benches, and a list
+//! or a record against what comes back of it.
 
 use std::collections::BTreeMap;
 use std::process::ExitCode;
@@ -11,7 +12,7 @@ use oracle::cases::{self, Chain};
 use oracle::line::{case_line, outcome_line};
 use oracle::paper::Paper;
 use oracle::text::Text;
-use oracle::{pair, tail};
+use oracle::{back, pair, tail};
 
 fn main() -> ExitCode {
     let words: Vec<String> = std::env::args().skip(1).collect();
@@ -39,7 +40,7 @@ fn main() -> ExitCode {
     cases::refusals().iter().for_each(|case| tally.hold(case));
     println!("refusals and records: {} calls", tally.calls() - before);
     let before = tally.calls();
-    let largest = [cases::largest(), cases::largest_solves(), cases::largest_twins(), cases::largest_benches()];
+    let largest = [cases::largest(), cases::largest_solves(), cases::largest_twins(), cases::largest_benches(), cases::largest_lists()];
     largest.iter().flatten().for_each(|case| tally.hold(case));
     println!("orders 1,024 and 1,025: {} calls", tally.calls() - before);
     let before = tally.calls();
@@ -52,6 +53,10 @@ fn main() -> ExitCode {
     cases::bench_lists().iter().chain(&cases::benches_of_all_orders()).for_each(|case| tally.hold(case));
     println!("benches by lists and at all orders: {} calls", tally.calls() - before);
     let before = tally.calls();
+    let lists = [cases::short_lists(), cases::sound_lists(), cases::lists_but_one_bit(), cases::short_records()];
+    lists.iter().flatten().for_each(|case| tally.hold(case));
+    println!("LAPACK's lists of orders up to 5: {} calls", tally.calls() - before);
+    let before = tally.calls();
     for seed in first..first + seeds {
         let family = cases::family(seed);
         family.cases.iter().for_each(|case| tally.hold(case));
@@ -59,6 +64,7 @@ fn main() -> ExitCode {
         cases::solves(seed).iter().for_each(|case| tally.hold(case));
         cases::twins(seed).iter().for_each(|case| tally.hold(case));
         cases::benches(seed).iter().for_each(|case| tally.hold(case));
+        cases::lists(seed).iter().for_each(|case| tally.hold(case));
     }
     println!("seeds {first} to {}: {} calls", (first + seeds).saturating_sub(1), tally.calls() - before);
     tally.print(against);
@@ -77,6 +83,7 @@ struct Tally<'a> {
     chains: u64,
     tails: Tails,
     pairs: Pairs,
+    backs: Backs,
     differences: u64,
     smallest: Option<(usize, String)>,
 }
@@ -97,6 +104,13 @@ struct Pairs {
     refused: u64,
 }
 
+/// Accepted lists that are written again, and records that are read again.
+#[derive(Default)]
+struct Backs {
+    lists: u64,
+    records: u64,
+}
+
 impl<'a> Tally<'a> {
     fn new(other: &'a dyn Calls, steps: bool) -> Self {
         Tally {
@@ -110,6 +124,7 @@ impl<'a> Tally<'a> {
             chains: 0,
             tails: Tails::default(),
             pairs: Pairs::default(),
+            backs: Backs::default(),
             differences: 0,
             smallest: None,
         }
@@ -143,6 +158,9 @@ impl<'a> Tally<'a> {
         }
         if case.call == Call::LbltSolveBench {
             self.hold_pair(case, &text, &other);
+        }
+        if text.answer == 0 && matches!(case.call, Call::PivotsFromLapack | Call::PivotsToLapack) {
+            self.hold_back(case, &text, &other);
         }
     }
 
@@ -184,6 +202,23 @@ impl<'a> Tally<'a> {
                     let said = format!("{}\n{}\nby the {name}\nkept  {kept}\nfound {found}", case_line(first), case_line(run));
                     self.differ(first.size(), said);
                 }
+            }
+        }
+    }
+
+    /// A list to a record and back, or a record to a list and back, by the text and by the other implementation, each by what it gave itself.
+    fn hold_back(&mut self, there: &Case, text: &Outcome, other: &Outcome) {
+        match there.call {
+            Call::PivotsFromLapack => self.backs.lists += 1,
+            _ => self.backs.records += 1,
+        }
+        for (calls, left, name) in [(&Text as &dyn Calls, text, "text"), (self.other, other, "other")] {
+            let Some(back) = back::back(there, left) else { continue };
+            let (given, found) = (back::given(there, &back), back.outcome(calls));
+            if given != found {
+                let [given, found] = [given, found].map(|outcome| outcome_line(&back, &outcome));
+                let said = format!("{}\n{}\nby the {name}\ngiven {given}\nfound {found}", case_line(there), case_line(&back));
+                self.differ(there.size(), said);
             }
         }
     }
@@ -242,12 +277,14 @@ impl<'a> Tally<'a> {
             "  pairs of a bench's runs: {} solved, {} of benches with no column, {} refused",
             self.pairs.solved, self.pairs.without, self.pairs.refused
         );
+        println!("  there and back: {} lists, {} records", self.backs.lists, self.backs.records);
         println!(
-            "text against {against}: {} calls, {} chains, {} blocks, {} pairs, {} differ",
+            "text against {against}: {} calls, {} chains, {} blocks, {} pairs, {} there and back, {} differ",
             self.calls(),
             self.chains,
             self.tails.accepted + self.tails.before + self.tails.within,
             self.pairs.solved + self.pairs.without + self.pairs.refused,
+            self.backs.lists + self.backs.records,
             self.differences
         );
         if let Some((_, said)) = &self.smallest {

@@ -8,6 +8,13 @@ struct Determinant {
     value: f64,
 }
 
+#[repr(C)]
+struct Listed {
+    answer: u64,
+    info: i32,
+    run: u32,
+}
+
 unsafe extern "C" {
     fn urgyelpat_lblt_factor(a: *mut f64, a_len: usize, record: *mut u32, record_len: usize, n: usize, run: u32) -> u64;
     fn urgyelpat_lblt_solve(
@@ -65,6 +72,16 @@ unsafe extern "C" {
     fn urgyelpat_udu_factor(p: *const f64, p_len: usize, u: *mut f64, u_len: usize, d: *mut f64, d_len: usize, n: usize) -> u64;
     fn urgyelpat_first_twin_since(a: *const f64, a_len: usize, room: usize, earlier: usize, n: usize) -> u64;
     fn urgyelpat_first_twin(a: *const f64, a_len: usize, room: usize, n: usize) -> u64;
+    fn urgyelpat_pivots_from_lapack(
+        list: *const i32,
+        list_len: usize,
+        info: i32,
+        record: *mut u32,
+        record_len: usize,
+        n: usize,
+        run: u32,
+    ) -> u64;
+    fn urgyelpat_pivots_to_lapack(record: *const u32, record_len: usize, list: *mut i32, list_len: usize, n: usize) -> Listed;
 }
 
 pub struct Port;
@@ -171,5 +188,16 @@ impl Calls for Port {
     #[inline]
     fn first_twin(&self, a: &[f64], room: usize, n: usize) -> u64 {
         unsafe { urgyelpat_first_twin(a.as_ptr(), a.len(), room, n) }
+    }
+
+    #[inline]
+    fn pivots_from_lapack(&self, list: &[i32], info: i32, record: &mut [u32], n: usize, run: u32) -> u64 {
+        unsafe { urgyelpat_pivots_from_lapack(list.as_ptr(), list.len(), info, record.as_mut_ptr(), record.len(), n, run) }
+    }
+
+    #[inline]
+    fn pivots_to_lapack(&self, record: &[u32], list: &mut [i32], n: usize) -> (u64, i32, u32) {
+        let r = unsafe { urgyelpat_pivots_to_lapack(record.as_ptr(), record.len(), list.as_mut_ptr(), list.len(), n) };
+        (r.answer, r.info, r.run)
     }
 }

@@ -5,6 +5,7 @@ use std::path::Path;
 use std::process::ExitCode;
 use std::{env, fs, io};
 
+use oracle::back::reader;
 use oracle::call::{Call, Calls, Case, Slice, record_length};
 use oracle::cases::{self, SPECIAL, fill, filled};
 use oracle::list::{MOST, Machine, Pattern, Spot, Writer};
@@ -70,12 +71,15 @@ fn emit(w: &mut Writer, case: &Case) -> u64 {
             Slice::C => case.c.iter().map(|x| x.to_bits()).collect(),
             Slice::Record => halves(&case.record),
             Slice::Benches => halves(&case.benches),
+            Slice::List => signed(&case.list),
         };
-        if w.words(slice) != words {
-            w.set_or_fill(slice, &words);
-        }
+        set_unless_there(w, slice, &words);
     }
-    w.call(case.call, case.n, case.x, case.third())
+    w.call(case.call, case.n, case.second(), case.third())
+}
+
+fn signed(list: &[i32]) -> Vec<u64> {
+    list.iter().map(|&number| number as u32 as u64).collect()
 }
 
 fn halves(words: &[u32]) -> Vec<u64> {
@@ -90,7 +94,8 @@ fn emit_all<'a>(w: &mut Writer, cases: impl IntoIterator<Item = &'a Case>) {
 }
 
 fn fits(case: &Case) -> bool {
-    case.a.len().max(case.b.len()) <= MOST[0] && case.c.len().max(case.benches.len()) <= MOST[1] && case.record.len() <= MOST[2]
+    let in_c = case.c.len().max(case.benches.len()).max(case.list.len());
+    case.a.len().max(case.b.len()) <= MOST[0] && in_c <= MOST[1] && case.record.len() <= MOST[2]
 }
 
 /// Families of this library with orders from `orders`, until `words` more have been written.
@@ -110,7 +115,7 @@ fn families(w: &mut Writer, first: Call, orders: std::ops::RangeInclusive<usize>
 fn refusals(w: &mut Writer, calls: &[Call]) {
     let all: Vec<Case> = cases::refusals().into_iter().filter(|c| calls.contains(&c.call) && fits(c)).collect();
     for &call in calls {
-        for code in (1..=6).chain([13]) {
+        for code in (1..=6).chain([12, 13]) {
             let of_code = |c: &&Case| c.call == call && c.outcome(&Text).answer / 4096 == code;
             let some: Vec<&Case> = all.iter().filter(of_code).collect();
             for at in 0..some.len().min(4) {
@@ -224,6 +229,7 @@ fn lblt(w: &mut Writer) {
     }
     w.sweep(1, &SPECIAL);
     benches(w);
+    lists(w);
 }
 
 /// A bench's call on what the registers hold.
@@ -355,6 +361,118 @@ fn benches(w: &mut Writer) {
                 solve_bench(w, n, list.len(), bench, run);
             }
         }
+    }
+}
+
+/// Reads what register C holds, beside INFO.
+fn read(w: &mut Writer, n: usize, info: i32, run: u32) -> u64 {
+    w.call(Call::PivotsFromLapack, n, info as u32 as usize, run as usize)
+}
+
+/// Writes what register R holds over a list of nines.
+fn written(w: &mut Writer, n: usize) -> u64 {
+    set_unless_there(w, Slice::List, &vec![9; n]);
+    w.call(Call::PivotsToLapack, n, 0, 0)
+}
+
+fn set_unless_there(w: &mut Writer, slice: Slice, words: &[u64]) {
+    if w.words(slice) != words {
+        w.set_or_fill(slice, words);
+    }
+}
+
+/// Lists and records of the seeds from `seed` on with orders from `orders`, until `words` more have been written.
+fn list_families(w: &mut Writer, orders: std::ops::RangeInclusive<usize>, words: usize, seed: u64) {
+    let end = w.list.len() + words;
+    let mut seed = seed;
+    while w.list.len() < end {
+        let cases = cases::lists(seed);
+        if orders.contains(&cases[0].n) && cases.iter().all(fits) {
+            emit_all(w, &cases);
+        }
+        seed += 1;
+    }
+}
+
+fn lists(w: &mut Writer) {
+    let run = 7;
+    // every list over a few numbers, and every sound one of order 3; the sound ones beside other numbers as INFO too, and then written again
+    let few: [(usize, &[i32], &[i32]); 4] = [
+        (0, &[], &[-1, 1, i32::MIN, i32::MAX]),
+        (1, &[1, -1, 0, 2, -2, i32::MIN, i32::MAX], &[-1, 1, 2, i32::MIN, i32::MAX]),
+        (2, &[1, 2, 3, 0, -1, -2, -3], &[-1, 1, 2, 3, i32::MIN]),
+        (3, &[1, 2, 3, -2, -3], &[1, 2, 3, 4]),
+    ];
+    for (n, numbers, infos) in few {
+        let before = vec![9; record_length(n)];
+        let sound = |list: &[i32]| reader(n, list.to_vec(), 0, run).outcome(&Text).answer == 0;
+        for list in cases::lists_over(n, numbers).filter(|list| n < 3 || !list.contains(&2) || sound(list)) {
+            w.case();
+            set_unless_there(w, Slice::Record, &before);
+            set_unless_there(w, Slice::List, &signed(&list));
+            if read(w, n, 0, run) == 0 {
+                for &info in infos {
+                    read(w, n, info, run + 1);
+                }
+                written(w, n);
+            }
+        }
+    }
+    // a broken block beside an INFO that names no row
+    w.case();
+    w.set(Slice::Record, &[9; 6]);
+    w.set(Slice::List, &[1, 1]);
+    for info in [3, -1] {
+        read(w, 2, info, run);
+    }
+    // sound records with each word changed to each of a few
+    for record in [[1, 1, 1, 1, 2], [1, 2, 1, 2, 0]] {
+        for at in 0..record.len() {
+            for word in [0, 1, 2, 3, u32::MAX] {
+                let mut changed = record.to_vec();
+                changed[at] = word;
+                changed.push(run);
+                w.case();
+                w.set(Slice::Record, &halves(&changed));
+                written(w, 2);
+            }
+        }
+    }
+    refusals(w, &[Call::PivotsFromLapack, Call::PivotsToLapack]);
+    // each count by itself at the most, above it, and not that of what is lent
+    w.case();
+    w.set(Slice::List, &[1]);
+    w.set(Slice::Record, &[0, 1, 0, run as u64]);
+    for n in [1, 0, 2, 1024, 1025, 1 << 32, 1 << 63, usize::MAX] {
+        read(w, n, 0, run);
+        w.call(Call::PivotsToLapack, n, 0, 0);
+    }
+    // one length at a time that is not the order's, with what is sound and what is not
+    w.case();
+    for number in [1, 0] {
+        for (list, words) in [(0, 4), (2, 4), (1, 3), (1, 5)] {
+            w.set(Slice::List, &[number; 2][..list]);
+            w.set(Slice::Record, &[0, number, 0, run as u64, run as u64][..words]);
+            read(w, 1, 0, run);
+            w.call(Call::PivotsToLapack, 1, 0, 0);
+        }
+    }
+    list_families(w, 1..=4, 400, 7_000_000);
+    list_families(w, 5..=12, 600, 7_100_000);
+    // what a factor leaves, written and read again with another run number; then with a number of the list changed
+    for n in [5, 9, 16, 20, 33, 60, 64] {
+        w.case();
+        w.random(Slice::A, n * n, 30 + n as u64);
+        w.set_or_fill(Slice::Record, &(0..record_length(n) as u64).collect::<Vec<_>>());
+        w.call(Call::LbltFactor, n, 0, run as usize);
+        w.set_or_fill(Slice::List, &(0..n as u64).collect::<Vec<_>>());
+        w.call(Call::PivotsToLapack, n, 0, 0);
+        w.set_or_fill(Slice::Record, &(0..record_length(n) as u64).collect::<Vec<_>>());
+        read(w, n, 0, u32::MAX);
+        let mut list = w.words(Slice::List);
+        list[n / 2] = (list[n / 2] as i32).wrapping_neg() as u32 as u64;
+        w.set(Slice::List, &list);
+        read(w, n, 0, run);
     }
 }
 

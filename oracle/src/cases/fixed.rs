@@ -1,5 +1,6 @@
 //! Cases that need no chance: special numbers at orders 1 and 2, and every way to be refused.
 
+use crate::back::{reader, writer};
 use crate::call::{Call, Calls, Case, Number, Slice, record_length};
 use crate::cases::filled;
 use crate::text::Text;
@@ -133,6 +134,7 @@ pub fn refusals() -> Vec<Case> {
             }
         }
         spoiled(&mut out, &Case { b: filled(n * n), c: filled(n), ..Case::new(Call::UduFactor, n, filled(n * n)) });
+        list_refusals(&mut out, n);
     }
     out.retain(fits);
     records(&mut out);
@@ -160,6 +162,19 @@ fn bench_refusals(out: &mut Vec<Case>) {
         let solve = Case { x: 2, b: filled(2 * n), run: RUN, record, ..Case::new(Call::LbltSolve, n, filled(n * n)) };
         spoiled(out, &by(1, &solve));
         spoiled(out, &by(3, &solve));
+    }
+}
+
+/// A list of rows that stay and one that ends in a block of size 2, read, and as records written.
+fn list_refusals(out: &mut Vec<Case>, n: usize) {
+    let alone: Vec<i32> = (1..=n as i32).collect();
+    let mut block = alone.clone();
+    block.iter_mut().rev().take(2).for_each(|number| *number = -(n as i32));
+    for list in [alone, block] {
+        let mut record: Vec<u32> = list.iter().flat_map(|p| [p.unsigned_abs() - 1, if *p < 0 { 2 } else { 1 }]).collect();
+        record.extend([0, RUN]);
+        spoiled(out, &reader(n, list, 0, RUN));
+        spoiled(out, &writer(n, record));
     }
 }
 
@@ -193,6 +208,9 @@ enum Edit {
     Run(u32),
     BenchesLength(isize),
     Bench(u32),
+    ListLength(isize),
+    ListNumber(usize, i32),
+    Info(i32),
 }
 
 fn edits(base: &Case) -> Vec<Edit> {
@@ -219,6 +237,15 @@ fn edits(base: &Case) -> Vec<Edit> {
         out.extend([-2, -1, 1].map(Edit::BenchesLength));
         out.extend([0, 2, 1 + (1 << 16), 1 + (1 << 31)].map(Edit::Bench));
     }
+    if base.call.form().slices.contains(&Slice::List) {
+        out.extend([-2, -1, 1].map(Edit::ListLength));
+    }
+    if base.call == Call::PivotsFromLapack {
+        let n = base.n as i32;
+        let numbers = [i32::MIN, -n - 1, -n, -1, 0, 1, n, n + 1, i32::MAX];
+        out.extend((0..base.n).flat_map(|at| numbers.map(|number| Edit::ListNumber(at, number))));
+        out.extend(numbers.map(Edit::Info));
+    }
     out
 }
 
@@ -241,6 +268,16 @@ impl Edit {
                 case.benches.resize(len, case.bench);
             }
             Edit::Bench(bench) => case.bench = bench,
+            Edit::ListLength(by) => {
+                let len = case.list.len().saturating_add_signed(by);
+                case.list.resize(len, 1);
+            }
+            Edit::ListNumber(at, number) => {
+                if let Some(place) = case.list.get_mut(at) {
+                    *place = number;
+                }
+            }
+            Edit::Info(info) => case.info = info,
             Edit::RecordWord(at, word) => {
                 if let Some(place) = case.record.get_mut(at) {
                     *place = word;
@@ -281,6 +318,9 @@ fn taken(mut case: Case) -> Case {
     }
     if !form.slices.contains(&Slice::Benches) {
         case.benches.clear();
+    }
+    if !form.slices.contains(&Slice::List) {
+        case.list.clear();
     }
     case
 }
@@ -331,7 +371,7 @@ pub fn runs() -> Vec<Case> {
 }
 
 /// All pairs of the rows from k on that keep the rule.
-fn pairs_from(k: usize, n: usize) -> Vec<Vec<u32>> {
+pub(super) fn pairs_from(k: usize, n: usize) -> Vec<Vec<u32>> {
     let mut out = if k == n { vec![vec![]] } else { vec![] };
     for size in 1..=2usize {
         for index in k + size - 1..n {

@@ -3,6 +3,7 @@
 mod benches;
 mod families;
 mod fixed;
+mod lists;
 mod matrices;
 mod rng;
 mod solves;
@@ -11,6 +12,7 @@ mod twins;
 pub use benches::{bench_lists, benches, benches_of_all_orders, largest_benches};
 pub use families::{Chain, Family, alpha_case, family, largest, many_columns};
 pub use fixed::{SPECIAL, marks, refusals, runs, sweep};
+pub use lists::{largest_lists, lists, lists_but_one_bit, lists_over, short_lists, short_records, sound_lists};
 pub use matrices::{fill, filled};
 pub use rng::Rng;
 pub use solves::{largest_solves, solves, solves_of_all_orders};

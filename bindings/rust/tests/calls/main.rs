@@ -4,6 +4,7 @@ mod batches;
 mod benches;
 mod cholesky;
 mod lblt;
+mod lists;
 mod numbers;
 mod refusals;
 mod runs;

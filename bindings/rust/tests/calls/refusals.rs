@@ -17,6 +17,7 @@ fn all() -> Vec<Refusal> {
         udu::factor(&[1.0, 0.0, 1.0, 0.0], &mut u, &mut b, 2).unwrap_err(),
         cholesky::factor(&mut [1.0, 2.0, 0.0, 1.0], 2, 2).unwrap_err(),
         cholesky::factor(&mut [1.0, f64::NAN, 0.0, 1.0], 2, 2).unwrap_err(),
+        lblt::pivots_from_lapack(&[1, 1], 0, &mut [0; 6], 2, 7).unwrap_err(),
         lblt::determinant(&a, &[0, 1, 1, 1, 0, 7], 2, 8).unwrap_err(),
     ]
 }
@@ -34,11 +35,12 @@ fn each_has_its_code_and_place() {
         Refusal::ZeroDiagonal { column: 1 },
         Refusal::CholeskyBelowZero { column: 1 },
         Refusal::CholeskyNan { column: 1 },
+        Refusal::BadList { row: 1 },
         Refusal::OtherRun,
     ];
     assert_eq!(all(), expected);
-    assert_eq!(expected.map(Refusal::code), [1, 2, 3, 4, 5, 6, 7, 8, 10, 11, 13]);
-    assert_eq!(expected.map(Refusal::place), [0, 0, 0, 0, 1, 1, 1, 1, 1, 1, 0]);
+    assert_eq!(expected.map(Refusal::code), [1, 2, 3, 4, 5, 6, 7, 8, 10, 11, 12, 13]);
+    assert_eq!(expected.map(Refusal::place), [0, 0, 0, 0, 1, 1, 1, 1, 1, 1, 1, 0]);
 }
 
 #[test]
@@ -52,6 +54,7 @@ fn each_says_what_to_do_and_where() {
             (7, "exactly zero"),
             (10, "fell below zero"),
             (11, "is NaN"),
+            (12, "list is broken"),
             (13, "in another run"),
         ] {
             assert_eq!(sentence.contains(words), refusal.code() == code, "{sentence}");
