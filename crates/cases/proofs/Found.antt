@@ -5,7 +5,11 @@ use mathlib.Core.List.{List, [], _∷_}
 use Prim.Native.Nat.{ℕ, _*_, _%_, _/_}
 use native.Mathlib.Nat.{le-refl}
 use lib.ListN.{length, length-replicate}
+use lib.IntN.{ℤ, pos}
 use lib.Ieee.{Float, binary64, ofBits, toBits}
+use mir.Syntax.{w32}
+use mir.Val.{ofZ}
+use Rattle.pivots.specs.Words.{markAt, runAt}
 use Rattle.answer.specs.declared.Answer.{Answer}
 use Rattle.answer.specs.declared.Answer.the-variants.{Done}
 use Rattle.answer.specs.declared.Valued.{Valued}
@@ -17,6 +21,10 @@ use Rattle.matrix.specs.Grid.{load, mask}
 use Rattle.matrix.specs.Layouts.{full, inRoom, lower, square}
 use Rattle.matrix.specs.Sizes.{sizeTests}
 use Rattle.matrix.proofs.Sizes.{done-fits}
+use Rattle.lapack_pivots.specs.declared.Listed.{Listed}
+use Rattle.lapack_pivots.specs.Numbers.{markOf}
+use Rattle.lapack_pivots.specs.Lists.{recordOf, listOf}
+use Rattle.lapack_pivots.specs.Calls.{readTests, writeTests, ListRead, ListWritten}
 use Rattle.lblt_choice.specs.Choice.{columnMax}
 use Rattle.lblt.specs.Factor.{factorTests, finalState, recorded, Factored}
 use Rattle.lblt.proofs.Done.{Same}
@@ -29,7 +37,7 @@ use Rattle.lblt_bench.specs.Bench.{owns, benchTests, BenchSolved}
 use Rattle.cholesky.specs.Promise.{batch, Extended}
 use Rattle.cholesky.specs.Solve.{sidesTests, solveSides, CholeskySolved}
 use Rattle.udu.specs.Promise.{uduTests, uduOf, uduAnswer, factorsOf, UduFactored}
-use Rattle.cases.specs.Calls.{stray, floats, bitsOf, answered, lentWords, lentFloats, Call, lbltFactor, lbltDeterminant, lbltSolve, lbltSolveBench, lbltReaders, lbltLargest, choleskyFactor, choleskySolve, choleskySolveSizes, uduFactor, root, Gives}
+use Rattle.cases.specs.Calls.{stray, floats, bitsOf, signedBits, answered, lentWords, lentList, lentFloats, Call, lbltFactor, lbltDeterminant, lbltSolve, lbltSolveBench, lbltReaders, lbltLargest, pivotsFromLapack, pivotsToLapack, choleskyFactor, choleskySolve, choleskySolveSizes, uduFactor, root, Gives}
 use Rattle.matrix.proofs.Slices.{listed, is-listed, overlaid, holds-overlaid, fills-listed}
 use Rattle.matrix.specs.Rounded.{plusZero}
 
@@ -91,6 +99,27 @@ module _ (n run : ℕ) (a : List Float) (words : List ℕ) where
       → (answered r ∷ bitsOf b' ∷ []) ≡ benchNumbers columns bench benches b
   unfolding benchNumbers
   solves-bench s = rw (s .sides, s .answer)
+
+-- ---- LAPACK pivot lists
+
+module _ (n : ℕ) (words : List ℕ) (list : List ℤ) where
+  unfoldable pub readNumbers : ℕ → ℤ → List (List ℕ)
+  readNumbers run info =
+      let r = tested (readTests n run list info words) Done in
+      answered r ∷ cond (isDone r) (recordOf list (markOf n info) run) words ∷ []
+
+  pub reads : {run : ℕ} {info : ℤ} {r : Answer} {words' : List ℕ} → ListRead n run list info words r words' → (answered r ∷ words' ∷ []) ≡ readNumbers run info
+  unfolding readNumbers
+  reads d = rw (d .pivots, d .answer)
+
+  unfoldable pub writtenNumbers : List (List ℕ)
+  writtenNumbers =
+      let r = tested (writeTests n words list) Done in
+      answered r ∷ signedBits (cond (isDone r) (listOf n words) list) ∷ (ofZ w32 (cond (isDone r) (pos (markAt n words)) (pos 0)) ∷ cond (isDone r) (runAt n words) 0 ∷ []) ∷ []
+
+  pub writes : {r : Listed} {list' : List ℤ} → ListWritten n words list r list' → (answered (r .answer) ∷ signedBits list' ∷ (ofZ w32 (r .info) ∷ r .run ∷ []) ∷ []) ≡ writtenNumbers
+  unfolding writtenNumbers
+  writes d = rw (d .numbers, d .info, d .run, d .answer)
 
 -- ---- Cholesky's factor, and its solve
 
@@ -162,6 +191,8 @@ found (lbltReaders n expected words) =
     let filled = answered (tested (columnTests (full n) n expected matrix words matrix) Done) in
     answered (tested (solveTests (full n) 1 expected matrix words (lentFloats n)) Done) ∷ answered (tested (readerTests (full n) expected matrix words) Done) ∷ filled ∷ filled ∷ []
 found (lbltLargest n a k) = (columnMax n (load (lower (full n)) (floats a)) k .imax ∷ []) ∷ []
+found (pivotsFromLapack n run list info) = readNumbers n (lentWords n) list run info
+found (pivotsToLapack n words) = writtenNumbers n words (lentList n)
 found (choleskyFactor room n a) = answered (choleskyAnswer room n (floats a)) ∷ bitsOf (choleskySlice room n (floats a)) ∷ []
 found (choleskySolve room n a b) = choleskySolveNumbers room n (choleskySlice room n (floats a)) (floats b)
 found (choleskySolveSizes room n columns factor sides) = answered (tested (sidesTests (inRoom n room) columns factor sides) Done) ∷ []
@@ -185,6 +216,8 @@ gives (lbltSolveBench n run expected columns bench benches a b) = λ r s a' b' w
 gives (lbltReaders n expected words) = λ r s t v a b b' d d' l l' long-a long-b long-d long-l solved determined d-filled l-filled.
     rw (solved .answer, determined .answer, d-filled .answer, l-filled .answer, long-a, long-b, long-d, long-l, length-replicate (n * n) (ofBits binary64 stray), length-replicate n (ofBits binary64 stray))
 gives (lbltLargest n a k) = λ r e. rw e
+gives (pivotsFromLapack n run list info) = λ r words d. reads n (lentWords n) list d
+gives (pivotsToLapack n words) = λ r list d. writes n words (lentList n) d
 gives (choleskyFactor room n a) = λ r l f. let g = extends room n (floats a) f in rw (g .0, g .1)
 gives (choleskySolve room n a b) = λ r s l c f d.
     let by : CholeskySolved (inRoom n room) 1 (choleskySlice room n (floats a)) (floats b) c s = rw (extends room n (floats a) f .1) at d in

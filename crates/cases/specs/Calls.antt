@@ -1,10 +1,13 @@
 -- What a worked case says: any answer and memory that meet the promises of its calls, and so what the calls answer and leave, are the numbers beside it.
--- A float is given by its bits; a matrix by the slice that is lent, column by column.
-use mathlib.Core.List.{List, [], _∷_}
+-- A float is given by its bits, and so is a signed number; a matrix by the slice that is lent, column by column.
+use mathlib.Core.List.{List, [], _∷_, map}
 use mathlib.Core.Path.{_≡_}
 use Prim.Native.Nat.{ℕ, _*_}
 use lib.ListN.{length, replicate}
+use lib.IntN.{ℤ, pos}
 use lib.Ieee.{Float, binary64, ofBits, toBits}
+use mir.Syntax.{w32}
+use mir.Val.{ofZ}
 use Rattle.answer.specs.declared.Answer.{Answer}
 use Rattle.answer.specs.declared.Valued.{Valued}
 use Rattle.answer.specs.Number.{codeOf, placeOf}
@@ -12,6 +15,8 @@ use Rattle.leaf.specs.Root.{rootOf}
 use Rattle.matrix.specs.Grid.{load}
 use Rattle.matrix.specs.Layouts.{full, inRoom, lower}
 use Rattle.pivots.specs.Words.{wordsOf}
+use Rattle.lapack_pivots.specs.declared.Listed.{Listed}
+use Rattle.lapack_pivots.specs.Calls.{ListRead, ListWritten}
 use Rattle.lblt_choice.specs.declared.Largest.{Largest}
 use Rattle.lblt_choice.specs.Choice.{columnMax}
 use Rattle.lblt.specs.Factor.{Factored}
@@ -32,6 +37,9 @@ unfoldable pub bitsOf : List Float → List ℕ
 bitsOf [] = []
 bitsOf (x ∷ xs) = toBits binary64 x ∷ bitsOf xs
 
+abbrev pub signedBits : List ℤ → List ℕ
+signedBits = map (ofZ w32)
+
 -- an answer's code and place
 abbrev pub answered : Answer → List ℕ
 answered a = codeOf a ∷ placeOf a ∷ []
@@ -42,6 +50,9 @@ stray = 0x4058_c000_0000_0000
 
 abbrev pub lentWords : ℕ → List ℕ
 lentWords n = replicate (wordsOf n) 99
+
+abbrev pub lentList : ℕ → List ℤ
+lentList n = replicate n (pos 99)
 
 abbrev pub lentFloats : ℕ → List Float
 lentFloats count = replicate count (ofBits binary64 stray)
@@ -55,6 +66,8 @@ pub data Call : Type 0 where
   lbltSolveBench : (n run expected columns bench : ℕ) (benches a b : List ℕ) → Call
   lbltReaders : (n expected : ℕ) (words : List ℕ) → Call
   lbltLargest : (n : ℕ) (a : List ℕ) (k : ℕ) → Call
+  pivotsFromLapack : (n run : ℕ) (list : List ℤ) (info : ℤ) → Call
+  pivotsToLapack : (n : ℕ) (words : List ℕ) → Call
   choleskyFactor : (room n : ℕ) (a : List ℕ) → Call
   choleskySolve : (room n : ℕ) (a b : List ℕ) → Call
   choleskySolveSizes : (room n columns factor sides : ℕ) → Call
@@ -86,6 +99,13 @@ Gives (lbltReaders n expected words) numbers =
     → LbltFilled (full n) expected a words (dOf n (load (lower (full n)) a) words) d s d'
     → LbltFilled (full n) expected a words (lPermutedOf n (load (lower (full n)) a) words) l t l'
     → (answered r ∷ answered (v .answer) ∷ answered s ∷ answered t ∷ []) ≡ numbers
+-- the answer, the record
+Gives (pivotsFromLapack n run list info) numbers =
+    (r : Answer) (words : List ℕ) → ListRead n run list info (lentWords n) r words → (answered r ∷ words ∷ []) ≡ numbers
+-- the answer, the list, INFO and the run number
+Gives (pivotsToLapack n words) numbers =
+    (r : Listed) (list : List ℤ) → ListWritten n words (lentList n) r list
+    → (answered (r .answer) ∷ signedBits list ∷ (ofZ w32 (r .info) ∷ r .run ∷ []) ∷ []) ≡ numbers
 -- the row imax of column k
 Gives (lbltLargest n a k) numbers = (r : Largest) → r ≡ columnMax n (load (lower (full n)) (floats a)) k → ((r .imax ∷ []) ∷ []) ≡ numbers
 -- the answer, the slice

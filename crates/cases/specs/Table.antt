@@ -1,8 +1,9 @@
--- Document 01's starred cases, those of Cholesky's solve, of the codes of a diagonal, of the row that a mark names, of the run number and of UDU's tail, and one of a mark after an interchange.
+-- Document 01's starred cases, those of Cholesky's solve, of the codes of a diagonal, of the row that a mark names, of the run number, of LAPACK pivot lists and of UDU's tail, and one of a mark after an interchange.
 use mathlib.Core.List.{List, [], _∷_}
-use Prim.Native.Nat.{ℕ}
+use Prim.Native.Nat.{ℕ, _-_}
+use lib.IntN.{ℤ, pos, negℤ}
 use Rattle.cases.specs.Bits as bits
-use Rattle.cases.specs.Calls.{stray, lbltFactor, lbltDeterminant, lbltSolve, lbltSolveBench, lbltReaders, lbltLargest, choleskyFactor, choleskySolve, choleskySolveSizes, uduFactor, root, Case, _⇒_}
+use Rattle.cases.specs.Calls.{stray, lbltFactor, lbltDeterminant, lbltSolve, lbltSolveBench, lbltReaders, lbltLargest, pivotsFromLapack, pivotsToLapack, choleskyFactor, choleskySolve, choleskySolveSizes, uduFactor, root, Case, _⇒_}
 
 -- ---- answers: a code and its place
 
@@ -11,6 +12,14 @@ done = 0 ∷ 0 ∷ []
 
 abbrev pub refused : ℕ → ℕ → List ℕ
 refused code place = code ∷ place ∷ []
+
+-- ---- numbers of a list, and the bits of one below 0
+
+abbrev pub minus : ℕ → ℤ
+minus p = negℤ (pos p)
+
+abbrev pub minusBits : ℕ → ℕ
+minusBits p = 4294967296 - p
 
 -- A case is a call and, after the arrow, what it gives (`Gives`): code and place, then the lent slices as they are left; or a number.
 -- A record is index and size of each row, the mark (0, or the marked row + 1), the run number. Comments give a matrix by its lower rows.
@@ -54,6 +63,35 @@ table =
     ∷ (lbltSolveBench 2 7 8 1 7 (5 ∷ []) (bits.zero ∷ bits.one ∷ stray ∷ bits.zero ∷ []) (bits.three ∷ bits.five ∷ []) ⇒ refused 13 0 ∷ (bits.three ∷ bits.five ∷ []) ∷ [])
     ∷ (lbltSolveBench 2 7 7 1 7 (5 ∷ []) (bits.one ∷ bits.two ∷ stray ∷ bits.four ∷ []) (bits.three ∷ bits.five ∷ []) ⇒ refused 6 1 ∷ (bits.three ∷ bits.five ∷ []) ∷ [])
     ∷ (lbltSolveBench 2 7 8 1 5 (5 ∷ 5 ∷ []) (bits.one ∷ bits.two ∷ stray ∷ bits.four ∷ []) (bits.three ∷ bits.five ∷ []) ⇒ refused 4 0 ∷ (bits.three ∷ bits.five ∷ []) ∷ [])
+    -- LAPACK pivot lists. The record of [0 / 1 0] is −2 −2, that of [1 / 2 4] is 2 2 with INFO 2; the starred case with the ratio that underflows: 1 2 3 with INFO 3.
+    -- A record that breaks its rule: code 5, the list as lent, INFO and run number 0
+    ∷ (pivotsToLapack 2 (1 ∷ 2 ∷ 1 ∷ 2 ∷ 0 ∷ 7 ∷ []) ⇒ done ∷ (minusBits 2 ∷ minusBits 2 ∷ []) ∷ (0 ∷ 7 ∷ []) ∷ [])
+    ∷ (pivotsToLapack 2 (1 ∷ 1 ∷ 1 ∷ 1 ∷ 2 ∷ 7 ∷ []) ⇒ done ∷ (2 ∷ 2 ∷ []) ∷ (2 ∷ 7 ∷ []) ∷ [])
+    ∷ (pivotsToLapack 3 (0 ∷ 1 ∷ 1 ∷ 1 ∷ 2 ∷ 1 ∷ 3 ∷ 7 ∷ []) ⇒ done ∷ (1 ∷ 2 ∷ 3 ∷ []) ∷ (3 ∷ 7 ∷ []) ∷ [])
+    ∷ (pivotsToLapack 2 (1 ∷ 1 ∷ 1 ∷ 1 ∷ 1 ∷ 7 ∷ []) ⇒ refused 5 2 ∷ (99 ∷ 99 ∷ []) ∷ (0 ∷ 0 ∷ []) ∷ [])
+    ∷ (pivotsToLapack 2 (0 ∷ 1 ∷ 0 ∷ 1 ∷ 0 ∷ 7 ∷ []) ⇒ refused 5 1 ∷ (99 ∷ 99 ∷ []) ∷ (0 ∷ 0 ∷ []) ∷ [])
+    -- and back; 1 −3 −3 with INFO 1
+    ∷ (pivotsFromLapack 2 7 (minus 2 ∷ minus 2 ∷ []) (pos 0) ⇒ done ∷ (1 ∷ 2 ∷ 1 ∷ 2 ∷ 0 ∷ 7 ∷ []) ∷ [])
+    ∷ (pivotsFromLapack 2 7 (pos 2 ∷ pos 2 ∷ []) (pos 2) ⇒ done ∷ (1 ∷ 1 ∷ 1 ∷ 1 ∷ 2 ∷ 7 ∷ []) ∷ [])
+    ∷ (pivotsFromLapack 3 7 (pos 1 ∷ minus 3 ∷ minus 3 ∷ []) (pos 1) ⇒ done ∷ (0 ∷ 1 ∷ 2 ∷ 2 ∷ 2 ∷ 2 ∷ 1 ∷ 7 ∷ []) ∷ [])
+    -- broken blocks: −1 −1, an exchange of row k in a block of two; −2 −3; −2 at the last row; a number before its row, 0 and above the order; the least i32
+    ∷ (pivotsFromLapack 2 7 (minus 1 ∷ minus 1 ∷ []) (pos 0) ⇒ refused 12 0 ∷ (99 ∷ 99 ∷ 99 ∷ 99 ∷ 99 ∷ 99 ∷ []) ∷ [])
+    ∷ (pivotsFromLapack 3 7 (minus 2 ∷ minus 3 ∷ pos 3 ∷ []) (pos 0) ⇒ refused 12 0 ∷ (99 ∷ 99 ∷ 99 ∷ 99 ∷ 99 ∷ 99 ∷ 99 ∷ 99 ∷ []) ∷ [])
+    ∷ (pivotsFromLapack 2 7 (pos 1 ∷ minus 2 ∷ []) (pos 0) ⇒ refused 12 1 ∷ (99 ∷ 99 ∷ 99 ∷ 99 ∷ 99 ∷ 99 ∷ []) ∷ [])
+    ∷ (pivotsFromLapack 2 7 (pos 1 ∷ pos 1 ∷ []) (pos 0) ⇒ refused 12 1 ∷ (99 ∷ 99 ∷ 99 ∷ 99 ∷ 99 ∷ 99 ∷ []) ∷ [])
+    ∷ (pivotsFromLapack 2 7 (pos 1 ∷ pos 0 ∷ []) (pos 0) ⇒ refused 12 1 ∷ (99 ∷ 99 ∷ 99 ∷ 99 ∷ 99 ∷ 99 ∷ []) ∷ [])
+    ∷ (pivotsFromLapack 2 7 (pos 3 ∷ pos 2 ∷ []) (pos 0) ⇒ refused 12 0 ∷ (99 ∷ 99 ∷ 99 ∷ 99 ∷ 99 ∷ 99 ∷ []) ∷ [])
+    ∷ (pivotsFromLapack 1 7 (minus 2147483648 ∷ []) (pos 0) ⇒ refused 12 0 ∷ (99 ∷ 99 ∷ 99 ∷ 99 ∷ []) ∷ [])
+    -- INFO on a row of a block of two, on a row whose number is another, above the order, below 0; a broken block comes before it. Order 0
+    ∷ (pivotsFromLapack 2 7 (minus 2 ∷ minus 2 ∷ []) (pos 2) ⇒ refused 12 2 ∷ (99 ∷ 99 ∷ 99 ∷ 99 ∷ 99 ∷ 99 ∷ []) ∷ [])
+    ∷ (pivotsFromLapack 2 7 (pos 2 ∷ pos 2 ∷ []) (pos 1) ⇒ refused 12 2 ∷ (99 ∷ 99 ∷ 99 ∷ 99 ∷ 99 ∷ 99 ∷ []) ∷ [])
+    ∷ (pivotsFromLapack 2 7 (pos 1 ∷ pos 2 ∷ []) (pos 3) ⇒ refused 12 2 ∷ (99 ∷ 99 ∷ 99 ∷ 99 ∷ 99 ∷ 99 ∷ []) ∷ [])
+    ∷ (pivotsFromLapack 2 7 (pos 1 ∷ pos 2 ∷ []) (minus 1) ⇒ refused 12 2 ∷ (99 ∷ 99 ∷ 99 ∷ 99 ∷ 99 ∷ 99 ∷ []) ∷ [])
+    ∷ (pivotsFromLapack 2 7 (pos 1 ∷ pos 1 ∷ []) (minus 1) ⇒ refused 12 1 ∷ (99 ∷ 99 ∷ 99 ∷ 99 ∷ 99 ∷ 99 ∷ []) ∷ [])
+    ∷ (pivotsFromLapack 0 7 [] (pos 0) ⇒ done ∷ (0 ∷ 7 ∷ []) ∷ [])
+    ∷ (pivotsFromLapack 0 7 [] (pos 1) ⇒ refused 12 0 ∷ (99 ∷ 99 ∷ []) ∷ [])
+    -- two numbers for order 1: code 4
+    ∷ (pivotsFromLapack 1 7 (pos 1 ∷ pos 2 ∷ []) (pos 0) ⇒ refused 4 0 ∷ (99 ∷ 99 ∷ 99 ∷ 99 ∷ []) ∷ [])
     -- column 0, 3, −3: imax is 1, and so is the first pivot's index
     ∷ (lbltLargest 3 (bits.zero ∷ bits.three ∷ bits.minusThree ∷ stray ∷ bits.zero ∷ bits.zero ∷ stray ∷ stray ∷ bits.zero ∷ []) 0 ⇒ (1 ∷ []) ∷ [])
     ∷ (lbltFactor 3 7 (bits.zero ∷ bits.three ∷ bits.minusThree ∷ stray ∷ bits.zero ∷ bits.zero ∷ stray ∷ stray ∷ bits.zero ∷ [])

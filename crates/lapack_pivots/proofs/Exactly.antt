@@ -37,19 +37,20 @@ module _ {n run : ℕ} {list : List ℤ} {info : ℤ} {words : List ℕ} {r : An
       let known = slices-then n list words (ruleTests BadList n spelled) (read .answer) done in
       let long = known .0 .long in
       let a : Accepted n spelled =
-          record {
-            sized = record { order = known .0 .sized .order; total = record-length n list (markOf n info) run long };
-            done = rule-done n spelled (known .1);
-          }
+      record {
+        sized = record { order = known .0 .sized .order; total = record-length n list (markOf n info) run long };
+        done = rule-done n spelled (known .1);
+      }
       in
       let is : words' ≡ spelled = read .pivots ∙ rw done in
-      rw is
-      (record {
-        accepted = a;
-        numbers = sym (list-back n list (markOf n info) run long a);
-        mark = info-back n list (markOf n info) run long a info refl;
-      },
-      record-run n list (markOf n info) run long)
+      rw is (
+        record {
+          accepted = a;
+          numbers = sym (list-back n list (markOf n info) run long a);
+          mark = info-back n list (markOf n info) run long a info refl;
+        },
+        record-run n list (markOf n info) run long,
+      )
 
   pub sound-read : length words ≡ wordsOf n → (sound : List ℕ) → WrittenAs n sound list info → (r ≡ Done) × (words' ≡ stamped n sound run)
   sound-read total sound w =
@@ -57,13 +58,13 @@ module _ {n run : ℕ} {list : List ℤ} {info : ℤ} {words : List ℕ} {r : An
       let long : length list ≡ n = ap length (sym (w .numbers)) ∙ list-length n sound in
       let marks : markOf n info ≡ markAt n sound = ap (markOf n) (sym (w .mark)) in
       let is : spelled ≡ stamped n sound run =
-          rw (marks, ← w .numbers)
-          (sym (ap (λ (v : List ℕ). stamped n v run) (sym (record-back a)) ∙ record-stamped n (listOf n sound) (markAt n sound) (runAt n sound) (list-length n sound) run))
+      rw (marks, ← w .numbers)
+      (sym (ap (λ (v : List ℕ). stamped n v run) (sym (record-back a)) ∙ record-stamped n (listOf n sound) (markAt n sound) (runAt n sound) (list-length n sound) run))
       in
       let sizes = slices-fit n list words (a .sized .order) long total in
       let kept = rule-kept n spelled refl (rw is (stamped-accepted run a .done)) in
       let done : r ≡ Done =
-          read .answer ∙ sym (slices-passed n list words (ruleTests BadList n spelled) sizes refl kept) ∙ done-is (checked n spelled) (rw is (stamped-accepted run a .done))
+      read .answer ∙ sym (slices-passed n list words (ruleTests BadList n spelled) sizes refl kept) ∙ done-is (checked n spelled) (rw is (stamped-accepted run a .done))
       in
       (done, read .pivots ∙ rw done is)
 

@@ -99,3 +99,12 @@ module _ {z : ℤ} {i : ℕ} (is : z ≡ pos (i + 1)) (small : i < 1024) where
 
   pub negated : seen (pos 0 -ℤ seen z) ≡ negℤ (pos (i + 1))
   negated = toZ-ofZ w32 (pos 0 -ℤ seen z) negated-fits ∙ minus ∙ rw add-one
+
+-- ---- −1 − i
+
+pub under-fits : {z : ℤ} {i : ℕ} → z ≡ pos i → i < 2 ^ 31 → SFits w32 (negsuc 0 -ℤ z)
+under-fits {z} {i} is small = rw is (by i small)
+  where
+    by : (j : ℕ) → j < 2 ^ 31 → SFits w32 (negsuc 0 -ℤ pos j)
+    by zero h = record { sfits = omega arith }
+    by (suc j) h = record { sfits = omega arith }

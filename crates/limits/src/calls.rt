@@ -1,6 +1,7 @@
 // The calls, each on slices for order 1, and for up to 1,024 columns.
 use answer::Answer;
 use answer::Valued;
+use lapack_pivots::Listed;
 use twins::Twin;
 
 pub enum Call {
@@ -10,6 +11,8 @@ pub enum Call {
     LbltDeterminant,
     LbltD,
     LbltLPermuted,
+    PivotsFromLapack,
+    PivotsToLapack,
     CholeskyFactor,
     CholeskyExtend,
     CholeskySolve,
@@ -31,6 +34,8 @@ impl Call {
             Call::LbltDeterminant => io::write_all(1, b"lblt_determinant"),
             Call::LbltD => io::write_all(1, b"lblt_d"),
             Call::LbltLPermuted => io::write_all(1, b"lblt_l_permuted"),
+            Call::PivotsFromLapack => io::write_all(1, b"pivots_from_lapack"),
+            Call::PivotsToLapack => io::write_all(1, b"pivots_to_lapack"),
             Call::CholeskyFactor => io::write_all(1, b"cholesky_factor"),
             Call::CholeskyExtend => io::write_all(1, b"cholesky_extend"),
             Call::CholeskySolve => io::write_all(1, b"cholesky_solve"),
@@ -52,6 +57,7 @@ impl Call {
         // A sound record of order 1, with the run number 7.
         let mut record = [0u32, 1, 0, 7];
         let benches = [5u32; 1024];
+        let mut list = [1i32];
         match self {
             Call::LbltFactor => plain(lblt::factor(&mut a, &mut record, n, 7)),
             Call::LbltSolve => plain(lblt_solve::solve_mut(&a, &record, &mut b, n, columns, 7)),
@@ -68,6 +74,14 @@ impl Call {
             Call::LbltDeterminant => valued(lblt_read::determinant(&a, &record, n, 7)),
             Call::LbltD => plain(lblt_read::d(&a, &record, &mut u, n, 7)),
             Call::LbltLPermuted => plain(lblt_read::l_permuted(&a, &record, &mut u, n, 7)),
+            Call::PivotsFromLapack => plain(lapack_pivots::from_lapack(
+                &list,
+                0,
+                &mut record,
+                n,
+                7,
+            )),
+            Call::PivotsToLapack => listed(lapack_pivots::to_lapack(&record, &mut list, n)),
             Call::CholeskyFactor => plain(cholesky::factor(&mut a, room, n)),
             Call::CholeskyExtend => plain(cholesky::extend(&mut a, room, earlier, n)),
             Call::CholeskySolve => plain(cholesky::solve_mut(&a, &mut b, room, n, columns)),
@@ -87,6 +101,11 @@ fn plain(answer: Answer) -> u64 {
 
 fn valued(v: Valued) -> u64 {
     let answer = v.answer;
+    plain(answer)
+}
+
+fn listed(l: Listed) -> u64 {
+    let answer = l.answer;
     plain(answer)
 }
 

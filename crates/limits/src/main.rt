@@ -1,11 +1,12 @@
 // 1,024 is accepted and 1,025 refused, in every order, room and column count of every call. An accepted order or room is seen by the next
-// refusal, code 3, since no matrix of such a length is lent here; oracle/longrun has whole runs at order 1,024.
+// refusal, code 3 or for a pivot list 4, since nothing of such a length is lent here; oracle/longrun has whole runs at order 1,024.
 mod calls;
 
 use calls::Call;
 
 fn main() {
     lblt();
+    lists();
     cholesky();
     order(Call::UduFactor);
     twins();
@@ -20,6 +21,11 @@ fn lblt() {
     order(Call::LbltDeterminant);
     order(Call::LbltD);
     order(Call::LbltLPermuted);
+}
+
+fn lists() {
+    order(Call::PivotsFromLapack);
+    order(Call::PivotsToLapack);
 }
 
 fn cholesky() {

@@ -1,4 +1,5 @@
 // The calls by number, on what the registers hold.
+use crate::lists;
 use crate::registers::halves;
 use crate::registers::low;
 use crate::registers::part;
@@ -77,6 +78,8 @@ pub fn call(
             part(c, s.c),
             part_words(r, s.r),
         ),
+        16 => lists::read(n, x as u64, y as u64, part(c, s.c), part_words(r, s.r)),
+        17 => lists::write(n, part(c, s.c), part_words(r, s.r)),
         _ => no_call(),
     }
 }

@@ -1,6 +1,7 @@
 // Replays a stored list of answers: oracle/README.md has the format.
 mod calls;
 mod list;
+mod lists;
 mod machine;
 mod registers;
 mod repeat;

@@ -81,10 +81,15 @@ pub fn part_words(x: &mut [u32], held: usize) -> &mut [u32] {
     x
 }
 
+// The low half of word i.
+pub fn half(x: &[f64], i: usize) -> u32 {
+    low(bits(x, i))
+}
+
 // The low halves of the first `count` words.
 pub fn halves(x: &[f64], count: usize, out: &mut [u32]) {
     for i in 0..count {
-        put_word(out, i, low(bits(x, i)));
+        put_word(out, i, half(x, i));
     }
 }
 

@@ -4,6 +4,7 @@ use mathlib.Core.List.{List}
 use mathlib.Core.Path.{_≡_, sym, ap, subst}
 use Prim.Native.Nat.{ℕ, _+_, _/_, _%_, _<_}
 use native.Mathlib.Omega.{arith}
+use lib.IntN.{ℤ}
 use lib.Ieee.{Float}
 use Rattle.answer.specs.declared.Answer.{Answer}
 use Rattle.answer.specs.Number.{codeOf, placeOf, numberOf}
@@ -13,11 +14,14 @@ use Rattle.twins.specs.declared.Twin.{Twin}
 use Rattle.twins.specs.declared.Twin.the-variants.{Nothing, Pair, Refused}
 use Rattle.twins.specs.Number.{twinNumber}
 use Rattle.urgyelpat.specs.declared.Determined.{Determined}
+use Rattle.urgyelpat.specs.declared.Listed.{Listed}
 use Rattle.urgyelpat.specs.Calls.{LbltFactor, LbltSolve, LbltSolveBench, LbltDeterminant, LbltD, LbltLPermuted}
+use Rattle.urgyelpat.specs.Calls.{PivotsFromLapack, PivotsToLapack}
 use Rattle.urgyelpat.specs.Calls.{CholeskyExtend, CholeskySolve, CholeskyL, CholeskyUnpack, CholeskyDeterminant}
 use Rattle.urgyelpat.specs.Calls.{UduFactor, FirstTwinPair}
 use Rattle.urgyelpat.proofs.FactorPlaces as lblt
 use Rattle.urgyelpat.proofs.ReaderPlaces as readers
+use Rattle.urgyelpat.proofs.ListPlaces.{read-within, written-within}
 use Rattle.urgyelpat.proofs.CholeskyPlaces as cholesky
 use Rattle.urgyelpat.proofs.UduPlaces as udu
 use Rattle.urgyelpat.proofs.TwinPlaces.{Small, twin-small}
@@ -51,6 +55,15 @@ module _ {n run : ℕ} {a : List Float} {words : List ℕ} where
 
   pub lblt-l-permuted-back : {l l' : List Float} {r : ℕ} (c : LbltLPermuted n run a words l r l') → Back (c .below) r
   lblt-l-permuted-back c = number-back (c .result) (readers.filled-within (c .given))
+
+-- ---- LAPACK pivot lists
+
+pub pivots-from-lapack-back
+    : {n run : ℕ} {list : List ℤ} {info : ℤ} {words words' : List ℕ} {r : ℕ} (c : PivotsFromLapack n run list info words r words') → Back (c .below) r
+pivots-from-lapack-back c = number-back (c .result) (read-within (c .given))
+
+pub pivots-to-lapack-back : {n : ℕ} {words : List ℕ} {list list' : List ℤ} {r : Listed} (c : PivotsToLapack n words list r list') → Back (c .below .answer) (r .answer)
+pivots-to-lapack-back c = number-back (ap (λ (l : Listed). l .answer) (c .result)) (written-within (c .given))
 
 -- ---- Cholesky
 

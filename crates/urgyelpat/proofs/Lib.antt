@@ -1,7 +1,9 @@
 pub mod Unique
+pub mod Lists
 pub mod Runs
 pub mod FactorPlaces
 pub mod ReaderPlaces
+pub mod ListPlaces
 pub mod CholeskyPlaces
 pub mod UduPlaces
 pub mod TwinPlaces

@@ -1,16 +1,17 @@
--- A record that a factor call made with a run number, in a later call whose slices fit, whatever numbers they hold: one that expects this number accepts
--- it (a solve then goes on to the mark), one that expects another answers 13, place 0, and writes nothing. Assumes nothing.
+-- A record that a factor call made with a run number, or that was read from a LAPACK pivot list with one, in a later call whose slices fit, whatever numbers they
+-- hold: one that expects this number accepts it (a solve then goes on to the mark), one that expects another answers 13, place 0, and writes nothing. The list of
+-- such a record is written, and the number handed back. Assumes nothing.
 use mathlib.Core.Bool.{true}
 use mathlib.Core.List.{List}
 use mathlib.Core.Path.{_≡_, refl, sym, ap, _∙_}
 use Prim.Native.Nat.{ℕ, _+_, _-_, _*_, _≤_}
 use native.Mathlib.Omega.{arith}
-use borrow.Author.Tests.{eq-eqb}
+use lib.IntN.{ℤ}
 use lib.Ieee.{Float}
 use lib.ListN.{length}
 use Rattle.answer.specs.declared.Answer.{Answer}
 use Rattle.answer.specs.declared.Answer.the-variants.{Done, ZeroMark, OtherRun}
-use Rattle.answer.specs.Number.{codeOf, isDone, numberOf}
+use Rattle.answer.specs.Number.{isDone, numberOf}
 use Rattle.answer.specs.Refusals.{tested}
 use Rattle.matrix.specs.Layouts.{full}
 use Rattle.matrix.specs.Matrix.{Matrix}
@@ -19,6 +20,7 @@ use Rattle.matrix.specs.Rounded.{plusZero}
 use Rattle.matrix.proofs.Sizes.{full-fits}
 use Rattle.pivots.specs.Words.{markAt, runAt}
 use Rattle.pivots.specs.Rule.{Accepted}
+use Rattle.lapack_pivots.proofs.Exactly.{read-sound, sound-written}
 use Rattle.lblt.proofs.Accepted.{factor-accepted, factor-run}
 use Rattle.lblt_read.specs.Calls.{columnTests, LbltFilled}
 use Rattle.lblt_read.proofs.Runs.{reader-expected, reader-other, columns-expected, columns-other}
@@ -26,8 +28,10 @@ use Rattle.lblt_solve.specs.Solve.{solveTests}
 use Rattle.lblt_solve.proofs.Marked.{unmarked, marked, solve-answers}
 use Rattle.lblt_bench.proofs.Listed.{as-solve}
 use Rattle.urgyelpat.specs.declared.Determined.{Determined}
+use Rattle.urgyelpat.specs.declared.Listed.{Listed}
 use Rattle.urgyelpat.specs.Passed.{Passed}
-use Rattle.urgyelpat.specs.Calls.{LbltFactor, LbltSolve, LbltSolveBench, LbltDeterminant, LbltD, LbltLPermuted}
+use Rattle.urgyelpat.specs.Calls.{LbltFactor, LbltSolve, LbltSolveBench, LbltDeterminant, LbltD, LbltLPermuted, PivotsFromLapack, PivotsToLapack}
+use Rattle.urgyelpat.proofs.Lists.{zero-done}
 
 abbrev pub refusedByRun : ℕ
 refusedByRun = 13 * 4096
@@ -36,16 +40,33 @@ refusedByRun = 13 * 4096
 abbrev Filled : ℕ → ℕ → List Float → List ℕ → Matrix → List Float → ℕ → List Float → Type 0
 Filled n run m words M f r f' = Passed numberOf (λ (answer : Answer). LbltFilled (full n) run m words M f answer f') r
 
--- a and the words are what the factor call was given; the number 0 is its answer
-module _ {n run : ℕ} {a a' : List Float} {words words' : List ℕ} (made : LbltFactor n run a words 0 a' words') where
-  made-done : isDone (made .below) ≡ true
-  made-done = eq-eqb (codeOf (made .below)) 0 (omega (arith, made .result))
+-- a record of this order that keeps the rule, with this run number
+pub record Made (n run : ℕ) (words : List ℕ) : Type 0 where
+  pub accepted : Accepted n words
+  pub stamp : runAt n words ≡ run
 
+-- the number 0 is the answer of the call that made it
+pub factor-made : {n run : ℕ} {a a' : List Float} {words words' : List ℕ} → LbltFactor n run a words 0 a' words' → Made n run words'
+factor-made c =
+    let done = zero-done (c .below) (c .result) in
+    record { accepted = factor-accepted (c .given) done; stamp = factor-run (c .given) done }
+
+pub read-made : {n run : ℕ} {list : List ℤ} {info : ℤ} {words words' : List ℕ} → PivotsFromLapack n run list info words 0 words' → Made n run words'
+read-made c =
+    let sound = read-sound (c .given) (zero-done (c .below) (c .result)) in
+    record { accepted = sound .0 .accepted; stamp = sound .1 }
+
+module _ {n run : ℕ} {words' : List ℕ} (made : Made n run words') where
   accepted : Accepted n words'
-  accepted = factor-accepted (made .given) made-done
+  accepted = made .accepted
 
   stamp : runAt n words' ≡ run
-  stamp = factor-run (made .given) made-done
+  stamp = made .stamp
+
+  pub to-lapack-accepts : {list list' : List ℤ} {v : Listed} → length list ≡ n → PivotsToLapack n words' list v list' → (v .answer ≡ 0) × (v .run ≡ run)
+  to-lapack-accepts long c =
+      let handed = sound-written accepted long (c .given) in
+      (ap (λ (l : Listed). l .answer) (c .result) ∙ ap numberOf (handed .done), ap (λ (l : Listed). l .run) (c .result) ∙ handed .same-run ∙ stamp)
 
   -- m is the factor that is lent: this one, or any other
   module _ (m : List Float) (square : length m ≡ n * n) where

@@ -2,9 +2,12 @@
 use mathlib.Core.List.{List}
 use mathlib.Core.Path.{_≡_, sym, _∙_, ap}
 use Prim.Native.Nat.{ℕ}
+use lib.IntN.{ℤ}
 use lib.Ieee.{Float}
 use Rattle.answer.specs.declared.Answer.{Answer}
 use Rattle.answer.specs.declared.Valued.{Valued}
+use Rattle.lapack_pivots.specs.declared.Listed as below
+use Rattle.lapack_pivots.proofs.Once.{WrittenOnce, read-once, written-once}
 use Rattle.lblt.proofs.Done as lblt
 use Rattle.lblt_read.proofs.Once.{determined-once, filled-once}
 use Rattle.lblt_solve.proofs.Once.{solved-once}
@@ -15,8 +18,10 @@ use Rattle.cholesky.proofs.ReaderPromises.{determined-unique, copied-unique, un
 use Rattle.udu.proofs.Unique as udu
 use Rattle.twins.proofs.Unique.{first-twin-since-unique}
 use Rattle.urgyelpat.specs.declared.Determined.{Determined}
+use Rattle.urgyelpat.specs.declared.Listed.{Listed}
 use Rattle.urgyelpat.specs.Passed.{Passed}
 use Rattle.urgyelpat.specs.Calls.{LbltFactor, LbltSolve, LbltSolveBench, LbltDeterminant, LbltD, LbltLPermuted}
+use Rattle.urgyelpat.specs.Calls.{PivotsFromLapack, PivotsToLapack}
 use Rattle.urgyelpat.specs.Calls.{CholeskyExtend, CholeskySolve, CholeskyL, CholeskyUnpack, CholeskyDeterminant}
 use Rattle.urgyelpat.specs.Calls.{UduFactor, FirstTwinPair}
 
@@ -63,6 +68,31 @@ module _ {n run : ℕ} {a : List Float} {words : List ℕ} where
   lblt-l-permuted-unique p q =
       let same = filled-once (p .given) (q .given) in
       (passed-same p q (same .0), same .1)
+
+-- ---- LAPACK pivot lists
+
+pub pivots-from-lapack-unique
+    : {n run : ℕ} {list : List ℤ} {info : ℤ} {words words₁ words₂ : List ℕ} {r s : ℕ}
+    → PivotsFromLapack n run list info words r words₁ → PivotsFromLapack n run list info words s words₂
+    → (r ≡ s) × (words₁ ≡ words₂)
+pivots-from-lapack-unique p q =
+    let same = read-once (p .given) (q .given) in
+    (passed-same p q (same .0), same .1)
+
+abbrev listed-by : Answer → ℤ → ℕ → below.Listed
+listed-by answer info run = record { answer = answer; info = info; run = run }
+
+listed-same : {v w : below.Listed} {list₁ list₂ : List ℤ} → WrittenOnce v w list₁ list₂ → v ≡ w
+listed-same {v} {w} once =
+    ap (λ (x : Answer). listed-by x (v .info) (v .run)) (once .answer) ∙ ap (λ (x : ℤ). listed-by (w .answer) x (v .run)) (once .info)
+    ∙ ap (listed-by (w .answer) (w .info)) (once .run)
+
+pub pivots-to-lapack-unique
+    : {n : ℕ} {words : List ℕ} {list list₁ list₂ : List ℤ} {r s : Listed} → PivotsToLapack n words list r list₁ → PivotsToLapack n words list s list₂
+    → (r ≡ s) × (list₁ ≡ list₂)
+pivots-to-lapack-unique p q =
+    let once = written-once (p .given) (q .given) in
+    (passed-same p q (listed-same once), once .numbers)
 
 -- ---- Cholesky
 

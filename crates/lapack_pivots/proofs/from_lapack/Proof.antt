@@ -21,7 +21,7 @@ same-length : tie.Need-same-length
 same-length c = search needs
 
 returns : tie.Need-returns
-returns c = 
+returns c =
     let refused = code-refused (c .before .before .check-slices .result) (c .before .code .ensures) (c .if1 .taken) in
     record { answer = slices-refused (c .before .before .before .before .before .args .n) (c .before .before .before .before .before .args .list .now) (c .before .before .before .before .before .args .words .now) (ruleTests BadList (c .before .before .before .before .before .args .n) (recordOf (c .before .before .before .before .before .args .list .now) (markOf (c .before .before .before .before .before .args .n) (c .before .before .before .before .before .args .info)) (c .before .before .before .before .before .args .run))) (c .before .before .check-slices .ensures) refused; pivots = rw refused }
 
@@ -41,7 +41,7 @@ same-length-2 : tie.Need-same-length-2
 same-length-2 c = search needs
 
 returns-2 : tie.Need-returns-2
-returns-2 c = 
+returns-2 c =
     let passed = code-done (c .before .before .before .before .before .before .before .before .check-slices .result) (c .before .before .before .before .before .before .before .code .ensures) (c .before .before .before .before .before .before .if1 .left) in
     let mark = c .before .before .before .before .before .mark .ensures ∙ ap (markOf (c .before .before .before .before .before .before .before .before .before .before .before .args .n)) (itself (c .before .before .before .before .before .before .before .before .before .before .before .args .info) (c .before .before .before .before .before .before .before .before .before .before .before .fits .info .sfits)) in
     record { answer = slices-passed (c .before .before .before .before .before .before .before .before .before .before .before .args .n) (c .before .before .before .before .before .before .before .before .before .before .before .args .list .now) (c .before .before .before .before .before .before .before .before .before .before .before .args .words .now) (ruleTests BadList (c .before .before .before .before .before .before .before .before .before .before .before .args .n) (recordOf (c .before .before .before .before .before .before .before .before .before .before .before .args .list .now) (markOf (c .before .before .before .before .before .before .before .before .before .before .before .args .n) (c .before .before .before .before .before .before .before .before .before .before .before .args .info)) (c .before .before .before .before .before .before .before .before .before .before .before .args .run))) (c .before .before .before .before .before .before .before .before .check-slices .ensures) passed (rw mark at (c .before .before .before .judge .ensures)); pivots = rw (code-refused (c .before .before .before .judge .result) (c .before .code2 .ensures) (c .if2 .taken)) }
@@ -53,7 +53,7 @@ same-length-3 : tie.Need-same-length-3
 same-length-3 c = search needs
 
 returns-3 : tie.Need-returns-3
-returns-3 c = 
+returns-3 c =
     let passed = code-done (c .before .before .before .before .before .before .before .before .before .before .before .before .check-slices .result) (c .before .before .before .before .before .before .before .before .before .before .before .code .ensures) (c .before .before .before .before .before .before .before .before .before .before .if1 .left) in
     let mark = c .before .before .before .before .before .before .before .before .before .mark .ensures ∙ ap (markOf (c .before .before .before .before .before .before .before .before .before .before .before .before .before .before .before .args .n)) (itself (c .before .before .before .before .before .before .before .before .before .before .before .before .before .before .before .args .info) (c .before .before .before .before .before .before .before .before .before .before .before .before .before .before .before .fits .info .sfits)) in
     record { answer = slices-passed (c .before .before .before .before .before .before .before .before .before .before .before .before .before .before .before .args .n) (c .before .before .before .before .before .before .before .before .before .before .before .before .before .before .before .args .list .now) (c .before .before .before .before .before .before .before .before .before .before .before .before .before .before .before .args .words .now) (ruleTests BadList (c .before .before .before .before .before .before .before .before .before .before .before .before .before .before .before .args .n) (recordOf (c .before .before .before .before .before .before .before .before .before .before .before .before .before .before .before .args .list .now) (markOf (c .before .before .before .before .before .before .before .before .before .before .before .before .before .before .before .args .n) (c .before .before .before .before .before .before .before .before .before .before .before .before .before .before .before .args .info)) (c .before .before .before .before .before .before .before .before .before .before .before .before .before .before .before .args .run))) (c .before .before .before .before .before .before .before .before .before .before .before .before .check-slices .ensures) passed (rw mark at (c .before .before .before .before .before .before .before .judge .ensures)); pivots = rw (code-done (c .before .before .before .before .before .before .before .judge .result) (c .before .before .before .before .before .code2 .ensures) (c .before .before .before .before .if2 .left)) (rw mark at (c .before .before .put-record .ensures)) }

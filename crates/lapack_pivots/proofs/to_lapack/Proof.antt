@@ -21,7 +21,7 @@ same-length : tie.Need-same-length
 same-length c = search needs
 
 returns : tie.Need-returns
-returns c = 
+returns c =
     let refused = code-refused (c .before .before .check-record .result) (c .before .code .ensures) (c .if1 .taken) in
     record { answer = c .before .before .check-record .ensures; numbers = rw refused; info = rw refused; run = rw refused }
 
@@ -32,7 +32,7 @@ mark-requires : tie.Need-mark-requires
 mark-requires c κs = omega (arith, write-done (c .before .before .before .before .before .before .before .before .args .n) (c .before .before .before .before .before .before .before .before .args .words .now) (c .before .before .before .before .before .before .before .before .args .list .now) (c .before .before .before .before .before .check-record .ensures) (code-done (c .before .before .before .before .before .check-record .result) (c .before .before .before .before .code .ensures) (c .before .before .before .if1 .left)) .accepted .sized .total)
 
 cast-info : tie.Need-cast-info
-cast-info c = 
+cast-info c =
     let a = write-done (c .before .before .before .before .before .before .before .before .before .args .n) (c .before .before .before .before .before .before .before .before .before .args .words .now) (c .before .before .before .before .before .before .before .before .before .args .list .now) (c .before .before .before .before .before .before .check-record .ensures) (code-done (c .before .before .before .before .before .before .check-record .result) (c .before .before .before .before .before .code .ensures) (c .before .before .before .before .if1 .left)) .accepted in
     record { sfits = omega (arith, mark-within a, c .mark .ensures, a .sized .order) }
 
@@ -43,7 +43,7 @@ same-length-2 : tie.Need-same-length-2
 same-length-2 c = search needs
 
 returns-2 : tie.Need-returns-2
-returns-2 c = 
+returns-2 c =
     let done = code-done (c .before .before .before .before .before .before .before .check-record .result) (c .before .before .before .before .before .before .code .ensures) (c .before .before .before .before .before .if1 .left) in
     let a = write-done (c .before .before .before .before .before .before .before .before .before .before .args .n) (c .before .before .before .before .before .before .before .before .before .before .args .words .now) (c .before .before .before .before .before .before .before .before .before .before .args .list .now) (c .before .before .before .before .before .before .before .check-record .ensures) (code-done (c .before .before .before .before .before .before .before .check-record .result) (c .before .before .before .before .before .before .code .ensures) (c .before .before .before .before .before .if1 .left)) .accepted in
     record { answer = c .before .before .before .before .before .before .before .check-record .ensures; numbers = rw done (c .before .before .before .put-numbers .ensures); info = rw done (toZ-pos w32 (c .before .mark .result) (omega (arith, mark-within a, c .before .mark .ensures, a .sized .order)) ∙ ap pos (c .before .mark .ensures)); run = rw done (c .run .ensures) }

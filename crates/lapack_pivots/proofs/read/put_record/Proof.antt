@@ -38,7 +38,7 @@ loop-less : tie.Need-loop-less Inv-loop μ-loop
 loop-less c = search needs
 
 loop-again : tie.Need-loop-again Inv-loop μ-loop
-loop-again c = 
+loop-again c =
     let same = itself (numberIn (c .before .before .before .before .before .before .before .before .before .args .list .now) (c .before .before .before .before .before .before .before .loop .row)) (c .before .before .before .before .before .pair-of-arg .given) in
     rw (c .before .before .put-pair .ensures) (paired-more (c .before .before .before .before .before .before .before .loop .inv) (c .before .before .before .before .before .before .loop-test .taken) (c .before .before .before .before .pair-of .ensures .0 ∙ ap indexOf same) (c .before .before .before .before .pair-of .ensures .1 ∙ ap sizeOf same))
 
@@ -52,7 +52,7 @@ same-length : tie.Need-same-length Inv-loop μ-loop
 same-length c = search needs
 
 returns : tie.Need-returns Inv-loop μ-loop
-returns c = 
+returns c =
     c .before .before .put-run .ensures ∙ ap (λ (w : List ℕ). stamped (c .before .before .before .before .before .before .before .before .before .before .before .args .n) w (c .before .before .before .before .before .before .before .before .before .before .before .args .run)) (c .before .before .before .before .before .before .put-mark .ensures)
     ∙ paired-all (c .before .before .before .before .before .before .before .before .before .before .before .args .mark) (c .before .before .before .before .before .before .before .before .before .before .before .args .run) (c .before .before .before .before .before .before .before .before .before .loop .inv) (c .before .before .before .before .before .before .before .before .loop-test .left) (c .before .before .before .before .before .before .before .before .before .before .before .pre .0)
 

@@ -15,11 +15,8 @@ abbrev μ-loop : tie.MeasureT-loop
 loop-holds : tie.Need-loop-holds Inv-loop μ-loop
 loop-holds c = search needs
 
-bits-requires : tie.Need-bits-requires Inv-loop μ-loop
-bits-requires c κs = search needs
-
-low-requires : tie.Need-low-requires Inv-loop μ-loop
-low-requires c κs = search needs
+half-requires : tie.Need-half-requires Inv-loop μ-loop
+half-requires c κs = search needs
 
 put-word-requires : tie.Need-put-word-requires Inv-loop μ-loop
 put-word-requires c κs = search needs
@@ -46,8 +43,7 @@ halves-spec =
     Inv-loop
     μ-loop
     loop-holds
-    bits-requires
-    low-requires
+    half-requires
     put-word-requires
     add-i
     loop-less
