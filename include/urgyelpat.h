@@ -202,8 +202,10 @@ URGYELPAT_MUST_USE uint64_t urgyelpat_lblt_l_permuted(const double *a, size_t a_
  *
  * WHICH LISTS. The factor beside a list is taken as it is. By LAPACK's documentation it stands in the lower part as that of
  * urgyelpat_lblt_factor does (compared, not proved), if dsytrf or dsytf2 wrote it with UPLO = 'L' and LDA = n (or its columns
- * are copied together so), and IPIV has 32-bit integers. NEVER hand in lists of UPLO = 'U', nor those of dsytrf_rook, dsytrf_rk
- * and dsytrf_aa: they mean other things, and are not always refused, those of dsytrf_aa hardly ever. */
+ * are copied together so), and IPIV has 32-bit integers. Use it where INFO is 0. With another INFO a solve is refused, and the
+ * determinant, d and l_permuted are not: where dsytrf works by blocks it may leave in that column what is not its D and L.
+ * NEVER hand in lists of UPLO = 'U', nor those of dsytrf_rook, dsytrf_rk and dsytrf_aa: they can mean other things, and are not
+ * always refused, those of dsytrf_aa hardly ever. docs/DIFFERENCES.md has what was seen. */
 
 /* Reads a list (n numbers) and its INFO into a record (2n + 2 words), with `run` at its end: the number that is then expected
  * where the factor is read. Every int32_t is a content: a 0 in the list, INT32_MIN, an INFO below 0 (by which LAPACK says that

@@ -37,8 +37,11 @@
 //!
 //! The factor beside a list is taken as it is. By LAPACK's documentation it stands in the lower part as that of [`factor`]
 //! does (compared, not proved), if `dsytrf` or `dsytf2` wrote it with UPLO = 'L' and LDA = n (or its columns are copied
-//! together so), and IPIV has 32-bit integers. **Never** hand in lists of UPLO = 'U', nor those of `dsytrf_rook`, `dsytrf_rk`
-//! and `dsytrf_aa`: they mean other things, and are not always refused, those of `dsytrf_aa` hardly ever.
+//! together so), and IPIV has 32-bit integers. Use it where INFO is 0. With another INFO a solve is refused, and
+//! [`determinant`], [`d`] and [`l_permuted`] are not: where `dsytrf` works by blocks it may leave in that column what is not
+//! its D and L. **Never** hand in lists of UPLO = 'U', nor those of `dsytrf_rook`, `dsytrf_rk` and `dsytrf_aa`: they can mean
+//! other things, and are not always refused, those of `dsytrf_aa` hardly ever. docs/DIFFERENCES.md of the repository has what
+//! was seen.
 
 use crate::refusal::{done, value, Refusal};
 use crate::{ffi, kept, whole_columns, LARGEST};
@@ -392,8 +395,9 @@ impl LBLT {
     /// said: IPIV as `list`, n numbers, and INFO. The matrix is taken as it is, and no number of it is looked at. The run
     /// number stands at the end of the record, as for [`new`](LBLT::new).
     ///
-    /// Only for UPLO = 'L', LDA = n and 32-bit integers. **Never** hand in what UPLO = 'U', `dsytrf_rook`, `dsytrf_rk` or
-    /// `dsytrf_aa` left: it means other things, and is [not always refused](crate::lblt#lapacks-pivot-lists).
+    /// Only for UPLO = 'L', LDA = n, 32-bit integers and, where it is to be read, INFO 0. **Never** hand in what UPLO = 'U',
+    /// `dsytrf_rook`, `dsytrf_rk` or `dsytrf_aa` left: it can mean other things, and is
+    /// [not always refused](crate::lblt#lapacks-pivot-lists).
     ///
     /// Refused by [`OutOfRange`](Refusal::OutOfRange), [`MatrixLength`](Refusal::MatrixLength),
     /// [`SliceLength`](Refusal::SliceLength) where the list does not have n numbers, and [`BadList`](Refusal::BadList), in this
