@@ -20,7 +20,7 @@
 //! # Two faces
 //!
 //! - [`LBLT`], [`Cholesky`] and [`UDU`] own their numbers and carry nalgebra's names.
-//! - The modules [`lblt`], [`cholesky`] and [`udu`] have a function for each call of the library, over slices that the caller
+//! - The modules [`lblt`], [`pivots`], [`cholesky`] and [`udu`] have a function for each call of the library, over slices that the caller
 //!   lends; two stand at the crate's root, in no module: [`first_twin`] and [`first_twin_since`]. They take no memory.
 //!
 //! # Matrices
@@ -42,6 +42,7 @@ mod refusal;
 
 pub mod cholesky;
 pub mod lblt;
+pub mod pivots;
 pub mod udu;
 
 mod twins;

@@ -14,7 +14,7 @@ use Rattle.matrix.specs.Grid.{load, mask}
 use Rattle.matrix.specs.Layouts.{sizeOf, lower, upper, square}
 use Rattle.pivots.specs.Words.{paired, marked, stamped}
 use Rattle.pivots.specs.Rule.{blockOf, faultFrom, checked}
-use Rattle.lapack_pivots.specs.Lists.{recordOf, listOf}
+use Rattle.pivots_lapack.specs.Lists.{recordOf, listOf}
 use Rattle.lblt_choice.specs.Choice.{choose, choiceBy, contest, rowMax, alongRow, downColumn, columnMax, greater}
 use Rattle.lblt.specs.Factor.{firstState, finalState, recorded}
 use Rattle.lblt_pivot.specs.Interchange.{interchange, brought1, brought2}

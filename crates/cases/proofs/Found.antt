@@ -21,10 +21,10 @@ use Rattle.matrix.specs.Grid.{load, mask}
 use Rattle.matrix.specs.Layouts.{full, inRoom, lower, square}
 use Rattle.matrix.specs.Sizes.{sizeTests}
 use Rattle.matrix.proofs.Sizes.{done-fits}
-use Rattle.lapack_pivots.specs.declared.Listed.{Listed}
-use Rattle.lapack_pivots.specs.Numbers.{markOf}
-use Rattle.lapack_pivots.specs.Lists.{recordOf, listOf}
-use Rattle.lapack_pivots.specs.Calls.{readTests, writeTests, ListRead, ListWritten}
+use Rattle.pivots_lapack.specs.declared.Listed.{Listed}
+use Rattle.pivots_lapack.specs.Numbers.{markOf}
+use Rattle.pivots_lapack.specs.Lists.{recordOf, listOf}
+use Rattle.pivots_lapack.specs.Calls.{readTests, writeTests, ListRead, ListWritten}
 use Rattle.lblt_choice.specs.Choice.{columnMax}
 use Rattle.lblt.specs.Factor.{factorTests, finalState, recorded, Factored}
 use Rattle.lblt.proofs.Done.{Same}

@@ -15,8 +15,8 @@ use Rattle.leaf.specs.Root.{rootOf}
 use Rattle.matrix.specs.Grid.{load}
 use Rattle.matrix.specs.Layouts.{full, inRoom, lower}
 use Rattle.pivots.specs.Words.{wordsOf}
-use Rattle.lapack_pivots.specs.declared.Listed.{Listed}
-use Rattle.lapack_pivots.specs.Calls.{ListRead, ListWritten}
+use Rattle.pivots_lapack.specs.declared.Listed.{Listed}
+use Rattle.pivots_lapack.specs.Calls.{ListRead, ListWritten}
 use Rattle.lblt_choice.specs.declared.Largest.{Largest}
 use Rattle.lblt_choice.specs.Choice.{columnMax}
 use Rattle.lblt.specs.Factor.{Factored}

@@ -1,7 +1,7 @@
 // The calls, each on slices for order 1, and for up to 1,024 columns.
 use answer::Answer;
 use answer::Valued;
-use lapack_pivots::Listed;
+use pivots_lapack::Listed;
 use twins::Twin;
 
 pub enum Call {
@@ -74,14 +74,14 @@ impl Call {
             Call::LbltDeterminant => valued(lblt_read::determinant(&a, &record, n, 7)),
             Call::LbltD => plain(lblt_read::d(&a, &record, &mut u, n, 7)),
             Call::LbltLPermuted => plain(lblt_read::l_permuted(&a, &record, &mut u, n, 7)),
-            Call::PivotsFromLapack => plain(lapack_pivots::from_lapack(
+            Call::PivotsFromLapack => plain(pivots_lapack::from_lapack(
                 &list,
                 0,
                 &mut record,
                 n,
                 7,
             )),
-            Call::PivotsToLapack => listed(lapack_pivots::to_lapack(&record, &mut list, n)),
+            Call::PivotsToLapack => listed(pivots_lapack::to_lapack(&record, &mut list, n)),
             Call::CholeskyFactor => plain(cholesky::factor(&mut a, room, n)),
             Call::CholeskyExtend => plain(cholesky::extend(&mut a, room, earlier, n)),
             Call::CholeskySolve => plain(cholesky::solve_mut(&a, &mut b, room, n, columns)),

@@ -68,7 +68,7 @@ fn read_list(n: usize, info: i32, run: u32, c: &[f64], r: &mut [u32], list: &mut
     load(c, list);
     let numbers = part(list, c.len());
     Outcome {
-        answer: lapack_pivots::from_lapack(numbers, info, r, n, run).number(),
+        answer: pivots_lapack::from_lapack(numbers, info, r, n, run).number(),
         value: 0,
     }
 }
@@ -81,7 +81,7 @@ pub fn write(n: usize, c: &mut [f64], r: &mut [u32]) -> Outcome {
 
 fn write_list(n: usize, c: &mut [f64], r: &[u32], list: &mut [i32]) -> Outcome {
     load(c, list);
-    let listed = lapack_pivots::to_lapack(r, part(list, c.len()), n);
+    let listed = pivots_lapack::to_lapack(r, part(list, c.len()), n);
     store(list, c);
     let answer = listed.answer;
     Outcome {

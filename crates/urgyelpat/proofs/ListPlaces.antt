@@ -13,8 +13,8 @@ use Rattle.answer.specs.Refusals.{Test, tested}
 use Rattle.answer.proofs.Tested.{tested-join}
 use Rattle.answer.proofs.Within.{Within, within-none, within-test, within-tested}
 use Rattle.pivots.specs.Rule.{faultOf, soundMark, ruleTests}
-use Rattle.lapack_pivots.specs.declared.Listed.{Listed}
-use Rattle.lapack_pivots.specs.Calls.{sliceTests, ListRead, ListWritten}
+use Rattle.pivots_lapack.specs.declared.Listed.{Listed}
+use Rattle.pivots_lapack.specs.Calls.{sliceTests, ListRead, ListWritten}
 
 -- the rule answers a row, or the order
 rule-within : (broken : ℕ → Answer) → ((place : ℕ) → placeOf (broken place) ≡ place) → (n : ℕ) (words : List ℕ) → Within n (tested (ruleTests broken n words) Done)

@@ -12,8 +12,8 @@ use lib.ListN.{length}
 use Rattle.answer.specs.declared.Answer.{Answer}
 use Rattle.answer.specs.Number.{codeOf, isDone, numberOf}
 use Rattle.pivots.specs.Words.{wordsOf}
-use Rattle.lapack_pivots.specs.Calls.{ListRead}
-use Rattle.lapack_pivots.proofs.Exactly.{record-returns, list-returns}
+use Rattle.pivots_lapack.specs.Calls.{ListRead}
+use Rattle.pivots_lapack.proofs.Exactly.{record-returns, list-returns}
 use Rattle.urgyelpat.specs.declared.Listed.{Listed}
 use Rattle.urgyelpat.specs.Calls.{PivotsFromLapack, PivotsToLapack}
 

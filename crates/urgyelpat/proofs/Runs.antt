@@ -20,7 +20,7 @@ use Rattle.matrix.specs.Rounded.{plusZero}
 use Rattle.matrix.proofs.Sizes.{full-fits}
 use Rattle.pivots.specs.Words.{markAt, runAt}
 use Rattle.pivots.specs.Rule.{Accepted}
-use Rattle.lapack_pivots.proofs.Exactly.{read-sound, sound-written}
+use Rattle.pivots_lapack.proofs.Exactly.{read-sound, sound-written}
 use Rattle.lblt.proofs.Accepted.{factor-accepted, factor-run}
 use Rattle.lblt_read.specs.Calls.{columnTests, LbltFilled}
 use Rattle.lblt_read.proofs.Runs.{reader-expected, reader-other, columns-expected, columns-other}

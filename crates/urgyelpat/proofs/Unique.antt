@@ -6,8 +6,8 @@ use lib.IntN.{ℤ}
 use lib.Ieee.{Float}
 use Rattle.answer.specs.declared.Answer.{Answer}
 use Rattle.answer.specs.declared.Valued.{Valued}
-use Rattle.lapack_pivots.specs.declared.Listed as below
-use Rattle.lapack_pivots.proofs.Once.{WrittenOnce, read-once, written-once}
+use Rattle.pivots_lapack.specs.declared.Listed as below
+use Rattle.pivots_lapack.proofs.Once.{WrittenOnce, read-once, written-once}
 use Rattle.lblt.proofs.Done as lblt
 use Rattle.lblt_read.proofs.Once.{determined-once, filled-once}
 use Rattle.lblt_solve.proofs.Once.{solved-once}

@@ -7,7 +7,7 @@ use Rattle.answer.specs.declared.Answer.{Answer}
 use Rattle.answer.specs.Number.{numberOf}
 use Rattle.matrix.specs.Grid.{load}
 use Rattle.matrix.specs.Layouts.{full, inRoom, lower}
-use Rattle.lapack_pivots.specs.Calls.{ListRead, ListWritten}
+use Rattle.pivots_lapack.specs.Calls.{ListRead, ListWritten}
 use Rattle.lblt.specs.Factor as lblt
 use Rattle.lblt_read.specs.Calls.{LbltDetermined, LbltFilled}
 use Rattle.lblt_read.specs.Diagonal.{dOf}

@@ -2,7 +2,7 @@
 use mathlib.Core.Path.{_≡_}
 use Rattle.answer.specs.declared.Valued.{Valued}
 use Rattle.answer.specs.Number.{numberOf}
-use Rattle.lapack_pivots.specs.declared.Listed as below
+use Rattle.pivots_lapack.specs.declared.Listed as below
 use Rattle.urgyelpat.specs.declared.Determined.{Determined}
 use Rattle.urgyelpat.specs.declared.Listed.{Listed}
 

@@ -32,7 +32,7 @@ pub struct Listed {
     pub run: u32,
 }
 
-fn list_numbered(list: lapack_pivots::Listed) -> Listed
+fn list_numbered(list: pivots_lapack::Listed) -> Listed
     ensures { λ r. ⌜ r ≡ listedOf list ⌝ }
 {
     let answer = list.answer;
@@ -135,7 +135,7 @@ pub extern "C" fn urgyelpat_pivots_from_lapack(
 ) -> u64
     ensures { λ r. ⌜ PivotsFromLapack n run (now (list .entry)) info (now («record» .entry)) r (now («record» .exit)) ⌝ }
 {
-    lapack_pivots::from_lapack(list, info, record, n, run).number()
+    pivots_lapack::from_lapack(list, info, record, n, run).number()
 }
 
 // The LAPACK pivot list of a record.
@@ -143,7 +143,7 @@ pub extern "C" fn urgyelpat_pivots_from_lapack(
 pub extern "C" fn urgyelpat_pivots_to_lapack(record: &[u32], list: &mut [i32], n: usize) -> Listed
     ensures { λ r. ⌜ PivotsToLapack n (now («record» .entry)) (now (list .entry)) r (now (list .exit)) ⌝ }
 {
-    list_numbered(lapack_pivots::to_lapack(record, list, n))
+    list_numbered(pivots_lapack::to_lapack(record, list, n))
 }
 
 #[no_mangle]

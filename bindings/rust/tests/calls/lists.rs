@@ -2,8 +2,8 @@
 
 use crate::numbers::{apart, bits, product, Numbers};
 use std::collections::HashSet;
-use urgyelpat::lblt::{self, Listed};
-use urgyelpat::{LapackPivots, Refusal, LARGEST, LBLT};
+use urgyelpat::pivots::{self, Listed};
+use urgyelpat::{lblt, LapackPivots, Refusal, LARGEST, LBLT};
 
 const RUNS: [u32; 6] = [0, 1, 7, 0x8000_0000, u32::MAX - 1, u32::MAX];
 
@@ -14,7 +14,7 @@ const OLD_NUMBER: i32 = -0x5e5e_5e5e;
 /// A record of so many words, filled by the reader where that is done; a refusal leaves it.
 fn read_into(words: usize, list: &[i32], info: i32, n: usize, run: u32) -> Result<Vec<u32>, Refusal> {
     let mut record = vec![OLD_WORD; words];
-    let answer = lblt::pivots_from_lapack(list, info, &mut record, n, run);
+    let answer = pivots::from_lapack(list, info, &mut record, n, run);
     if answer.is_err() {
         assert_eq!(record, vec![OLD_WORD; words], "{list:?}, INFO {info}");
     }
@@ -28,7 +28,7 @@ fn read(list: &[i32], info: i32, run: u32) -> Result<Vec<u32>, Refusal> {
 /// A list of so many numbers, filled by the writer where that is done; a refusal leaves it.
 fn write_into(numbers: usize, record: &[u32], n: usize) -> Result<(Vec<i32>, Listed), Refusal> {
     let mut list = vec![OLD_NUMBER; numbers];
-    let answer = lblt::pivots_to_lapack(record, &mut list, n);
+    let answer = pivots::to_lapack(record, &mut list, n);
     if answer.is_err() {
         assert_eq!(list, vec![OLD_NUMBER; numbers], "{record:?}");
     }
@@ -461,12 +461,12 @@ fn lengths_that_do_not_fit_the_order_are_refused() {
 fn what_stood_there_does_not_matter() {
     for old in [0, 1, 2, u32::MAX] {
         let mut record = [old; 6];
-        lblt::pivots_from_lapack(&[2, 2], 2, &mut record, 2, 7).unwrap();
+        pivots::from_lapack(&[2, 2], 2, &mut record, 2, 7).unwrap();
         assert_eq!(record, [1, 1, 1, 1, 2, 7]);
     }
     for old in [0, 1, -2, i32::MIN] {
         let mut list = [old; 2];
-        let listed = lblt::pivots_to_lapack(&[1, 2, 1, 2, 0, 7], &mut list, 2);
+        let listed = pivots::to_lapack(&[1, 2, 1, 2, 0, 7], &mut list, 2);
         assert_eq!((list, listed), ([-2, -2], Ok(Listed { info: 0, run: 7 })));
     }
 }
@@ -474,7 +474,7 @@ fn what_stood_there_does_not_matter() {
 #[test]
 fn a_refused_list_leaves_the_record_of_another_run() {
     let mut record = [1, 2, 1, 2, 0, 8];
-    let refused = lblt::pivots_from_lapack(&[2, 0], 0, &mut record, 2, 7);
+    let refused = pivots::from_lapack(&[2, 0], 0, &mut record, 2, 7);
     assert_eq!(refused, Err(Refusal::BadList { row: 1 }));
     assert_eq!(record, [1, 2, 1, 2, 0, 8]);
 }

@@ -4,7 +4,7 @@ use mathlib.Core.Path.{ap, _∙_}
 use Prim.Native.Nat.{ℕ}
 use lib.IntN.{ℤ}
 use Rattle.answer.specs.Number.{numberOf}
-use Rattle.lapack_pivots.proofs.Signed.{seen, itself}
+use Rattle.pivots_lapack.proofs.Signed.{seen, itself}
 use Rattle.urgyelpat.specs.declared.Listed.{Listed}
 use Rattle.urgyelpat.proofs.list_numbered.Statement.{statement}
 use Rattle.urgyelpat.proofs.list_numbered.Tie as tie

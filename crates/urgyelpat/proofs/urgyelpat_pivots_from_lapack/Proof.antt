@@ -1,5 +1,5 @@
 -- The record that is read, its answer as one number.
-use Rattle.lapack_pivots.proofs.Signed.{itself}
+use Rattle.pivots_lapack.proofs.Signed.{itself}
 use borrow.Author.Needs.{needs}
 use Rattle.urgyelpat.proofs.urgyelpat_pivots_from_lapack.Statement.{statement}
 use Rattle.urgyelpat.proofs.urgyelpat_pivots_from_lapack.Tie as tie

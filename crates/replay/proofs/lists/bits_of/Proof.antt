@@ -2,7 +2,7 @@
 use borrow.Author.Needs.{needs}
 use Prim.Native.Nat.{_-_}
 use native.Mathlib.Omega.{arith}
-use Rattle.lapack_pivots.proofs.Signed.{fits-pos, casts, cast-is, below, marks}
+use Rattle.pivots_lapack.proofs.Signed.{fits-pos, casts, cast-is, below, marks}
 use Rattle.replay.proofs.lists.bits_of.Statement.{statement}
 use Rattle.replay.proofs.lists.bits_of.Tie as tie
 

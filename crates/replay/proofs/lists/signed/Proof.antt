@@ -4,7 +4,7 @@ use Prim.Native.Nat.{_-_, _<_}
 use native.Mathlib.Omega.{arith}
 use mir.Syntax.{w32}
 use mir.ValLaws.{toZ-pos}
-use Rattle.lapack_pivots.proofs.Signed.{under-fits}
+use Rattle.pivots_lapack.proofs.Signed.{under-fits}
 use Rattle.replay.proofs.lists.signed.Statement.{statement}
 use Rattle.replay.proofs.lists.signed.Tie as tie
 
