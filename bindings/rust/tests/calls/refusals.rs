@@ -1,6 +1,6 @@
 //! Each refusal through the library, with its code, its place and its sentence.
 
-use urgyelpat::{cholesky, lblt, udu, Refusal};
+use urgyelpat::{cholesky, lblt, pivots, udu, Refusal};
 
 fn all() -> Vec<Refusal> {
     let a = [1.0, 0.0, 0.0, 1.0];
@@ -17,7 +17,7 @@ fn all() -> Vec<Refusal> {
         udu::factor(&[1.0, 0.0, 1.0, 0.0], &mut u, &mut b, 2).unwrap_err(),
         cholesky::factor(&mut [1.0, 2.0, 0.0, 1.0], 2, 2).unwrap_err(),
         cholesky::factor(&mut [1.0, f64::NAN, 0.0, 1.0], 2, 2).unwrap_err(),
-        lblt::pivots_from_lapack(&[1, 1], 0, &mut [0; 6], 2, 7).unwrap_err(),
+        pivots::from_lapack(&[1, 1], 0, &mut [0; 6], 2, 7).unwrap_err(),
         lblt::determinant(&a, &[0, 1, 1, 1, 0, 7], 2, 8).unwrap_err(),
     ]
 }
