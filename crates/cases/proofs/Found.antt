@@ -22,7 +22,7 @@ use Rattle.matrix.specs.Layouts.{full, inRoom, lower, square}
 use Rattle.matrix.specs.Sizes.{sizeTests}
 use Rattle.matrix.proofs.Sizes.{done-fits}
 use Rattle.pivots_lapack.specs.declared.Listed.{Listed}
-use Rattle.pivots_lapack.specs.Numbers.{markOf}
+use Rattle.pivots_lapack.specs.Numbers.{markMeant}
 use Rattle.pivots_lapack.specs.Lists.{recordOf, listOf}
 use Rattle.pivots_lapack.specs.Calls.{readTests, writeTests, ListRead, ListWritten}
 use Rattle.lblt_choice.specs.Choice.{columnMax}
@@ -106,7 +106,7 @@ module _ (n : ℕ) (words : List ℕ) (list : List ℤ) where
   unfoldable pub readNumbers : ℕ → ℤ → List (List ℕ)
   readNumbers run info =
       let r = tested (readTests n run list info words) Done in
-      answered r ∷ cond (isDone r) (recordOf list (markOf n info) run) words ∷ []
+      answered r ∷ cond (isDone r) (recordOf list (markMeant n info) run) words ∷ []
 
   pub reads : {run : ℕ} {info : ℤ} {r : Answer} {words' : List ℕ} → ListRead n run list info words r words' → (answered r ∷ words' ∷ []) ≡ readNumbers run info
   unfolding readNumbers

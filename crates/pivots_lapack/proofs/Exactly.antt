@@ -7,7 +7,7 @@
 -- Assumes nothing.
 use mathlib.Core.Bool.{true}
 use mathlib.Core.List.{List}
-use mathlib.Core.Path.{_≡_, refl, sym, ap, subst, _∙_}
+use mathlib.Core.Path.{_≡_, refl, sym, ap, _∙_}
 use Prim.Native.Nat.{ℕ}
 use lib.IntN.{ℤ, pos}
 use lib.ListN.{length}
@@ -19,9 +19,9 @@ use Rattle.pivots.specs.Words.{wordsOf, markAt, runAt, stamped}
 use Rattle.pivots.specs.Rule.{ruleTests, recordTests, checked, Accepted}
 use Rattle.pivots.proofs.Written.{stamped-own, stamped-accepted}
 use Rattle.pivots_lapack.specs.declared.Listed.{Listed}
-use Rattle.pivots_lapack.specs.Numbers.{markOf}
+use Rattle.pivots_lapack.specs.Numbers.{markMeant}
 use Rattle.pivots_lapack.specs.Lists.{recordOf, listOf}
-use Rattle.pivots_lapack.specs.Calls.{sliceTests, ListRead, ListWritten}
+use Rattle.pivots_lapack.specs.Calls.{ListRead, ListWritten}
 use Rattle.pivots_lapack.specs.Meaning.{WrittenAs}
 use Rattle.pivots_lapack.proofs.Records.{record-length, record-run, record-stamped}
 use Rattle.pivots_lapack.proofs.Lists.{list-length}
@@ -30,7 +30,7 @@ use Rattle.pivots_lapack.proofs.Tests.{slices-fit, slices-passed, slice
 
 module _ {n run : ℕ} {list : List ℤ} {info : ℤ} {words : List ℕ} {r : Answer} {words' : List ℕ} (read : ListRead n run list info words r words') where
   abbrev spelled : List ℕ
-  spelled = recordOf list (markOf n info) run
+  spelled = recordOf list (markMeant n info) run
 
   pub read-sound : isDone r ≡ true → WrittenAs n words' list info × (runAt n words' ≡ run)
   read-sound done =
@@ -38,7 +38,7 @@ module _ {n run : ℕ} {list : List ℤ} {info : ℤ} {words : List ℕ} {r : An
       let long = known .0 .long in
       let a : Accepted n spelled =
       record {
-        sized = record { order = known .0 .sized .order; total = record-length n list (markOf n info) run long };
+        sized = record { order = known .0 .sized .order; total = record-length n list (markMeant n info) run long };
         done = rule-done n spelled (known .1);
       }
       in
@@ -46,17 +46,17 @@ module _ {n run : ℕ} {list : List ℤ} {info : ℤ} {words : List ℕ} {r : An
       rw is (
         record {
           accepted = a;
-          numbers = sym (list-back n list (markOf n info) run long a);
-          mark = info-back n list (markOf n info) run long a info refl;
+          numbers = sym (list-back n list (markMeant n info) run long a);
+          mark = info-back n list (markMeant n info) run long a info refl;
         },
-        record-run n list (markOf n info) run long,
+        record-run n list (markMeant n info) run long,
       )
 
   pub sound-read : length words ≡ wordsOf n → (sound : List ℕ) → WrittenAs n sound list info → (r ≡ Done) × (words' ≡ stamped n sound run)
   sound-read total sound w =
       let a = w .accepted in
       let long : length list ≡ n = ap length (sym (w .numbers)) ∙ list-length n sound in
-      let marks : markOf n info ≡ markAt n sound = ap (markOf n) (sym (w .mark)) in
+      let marks : markMeant n info ≡ markAt n sound = ap (markMeant n) (sym (w .mark)) in
       let is : spelled ≡ stamped n sound run =
       rw (marks, ← w .numbers)
       (sym (ap (λ (v : List ℕ). stamped n v run) (sym (record-back a)) ∙ record-stamped n (listOf n sound) (markAt n sound) (runAt n sound) (list-length n sound) run))
@@ -88,7 +88,7 @@ record-returns {n} {words} {r = r} written done total read =
     (result .0, result .1 ∙ ap (stamped n words) run ∙ stamped-own n words)
 
 -- the call is done, and hands back this list, this INFO and this run number
-pub record Handed (list : List ℤ) (info : ℤ) (run : ℕ) (r : Listed) (list' : List ℤ) : Type 0 where
+pub record HandedBack (list : List ℤ) (info : ℤ) (run : ℕ) (r : Listed) (list' : List ℤ) : Type 0 where
   pub done : r .answer ≡ Done
   pub numbers : list' ≡ list
   pub same-info : r .info ≡ info
@@ -97,7 +97,7 @@ pub record Handed (list : List ℤ) (info : ℤ) (run : ℕ) (r : Listed) (list'
 -- the writer accepts every sound record
 pub sound-written
     : {n : ℕ} {words : List ℕ} {list list' : List ℤ} {r : Listed} → Accepted n words → length list ≡ n → ListWritten n words list r list'
-    → Handed (listOf n words) (pos (markAt n words)) (runAt n words) r list'
+    → HandedBack (listOf n words) (pos (markAt n words)) (runAt n words) r list'
 unfolding checked
 sound-written {n} {words} {list} {r = r} a long written =
     let sizes = slices-fit n list words (a .sized .order) long (a .sized .total) in
@@ -108,7 +108,7 @@ pub list-returns
     : {n run : ℕ} {list : List ℤ} {info : ℤ} {words words' : List ℕ} {r : Answer} {lent list' : List ℤ} {q : Listed}
     → ListRead n run list info words r words' → isDone r ≡ true
     → length lent ≡ n → ListWritten n words' lent q list'
-    → Handed list info run q list'
+    → HandedBack list info run q list'
 list-returns read done long written =
     let known = read-sound read done in
     let handed = sound-written (known .0 .accepted) long written in

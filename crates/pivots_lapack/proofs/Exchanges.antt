@@ -14,7 +14,7 @@ use Rattle.pivots.proofs.Rows.{row-sound}
 use Rattle.pivots.proofs.Walks.{size-two}
 use Rattle.pivots_lapack.specs.Numbers.{numberAt}
 use Rattle.pivots_lapack.specs.Meaning.{WrittenAs, Exchange, lapackSays, recordSays}
-use Rattle.pivots_lapack.proofs.Records.{numberIn}
+use Rattle.pivots_lapack.proofs.Records.{inList}
 use Rattle.pivots_lapack.proofs.Lists.{list-at}
 use Rattle.pivots_lapack.proofs.Rounds.{PairOf, number-pair}
 
@@ -32,16 +32,16 @@ by-number (pos (suc i)) words k p sound = alike (p .size) (omega (arith, p .size
 by-number (negsuc i) words k p sound = alike (p .size) (omega (arith, p .size)) (p .index)
 
 module _ {n : ℕ} {words : List ℕ} {list : List ℤ} {info : ℤ} (w : WrittenAs n words list info) where
-  in-list : (k : ℕ) → k < n → numberIn list k ≡ numberAt words k
-  in-list k below = ap (λ (l : List ℤ). numberIn l k) (sym (w .numbers)) ∙ list-at n words k below
+  number-there : (k : ℕ) → k < n → inList list k ≡ numberAt words k
+  number-there k below = ap (λ (l : List ℤ). inList l k) (sym (w .numbers)) ∙ list-at n words k below
 
-  pub exchanges-named : (k : ℕ) → k < n → lapackSays (numberIn list k) k ≡ recordSays words k
+  pub exchanges-named : (k : ℕ) → k < n → lapackSays (inList list k) k ≡ recordSays words k
   exchanges-named k below =
       let sound = row-sound (w .accepted) k below in
-      ap (λ (z : ℤ). lapackSays z k) (in-list k below) ∙ by-number (numberAt words k) words k (number-pair sound) (sound .size)
+      ap (λ (z : ℤ). lapackSays z k) (number-there k below) ∙ by-number (numberAt words k) words k (number-pair sound) (sound .size)
 
-  pub named-twice : (k : ℕ) → Two n words k → numberIn list (k + 1) ≡ numberIn list k
-  named-twice k t = in-list (k + 1) (t .room) ∙ same ∙ sym (in-list k (omega (arith, t .room)))
+  pub named-twice : (k : ℕ) → Two n words k → inList list (k + 1) ≡ inList list k
+  named-twice k t = number-there (k + 1) (t .room) ∙ same ∙ sym (number-there k (omega (arith, t .room)))
     where
       minus : ℕ → ℤ
       minus index = negℤ (pos (index + 1))

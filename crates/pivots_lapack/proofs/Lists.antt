@@ -1,6 +1,6 @@
 -- The list of a record, number by number, and as it is written row by row.
 --     list-length, list-at                                    its numbers
---     Numbered, numbered-none, numbered-more, numbered-all    the rows before k are written; the whole list
+--     NumbersWritten, numbers-none, numbers-more, numbers-all    the rows before k are written; the whole list
 -- Assumes nothing.
 use mathlib.Core.List.{List}
 use mathlib.Core.Logic.{⊎-elim}
@@ -13,13 +13,13 @@ use lib.ListN.{length, set, length-set}
 use lib.Seq.{getD-set-same, getD-set-other, ext-getD}
 use Rattle.pivots_lapack.specs.Numbers.{numberAt}
 use Rattle.pivots_lapack.specs.Lists.{numbersFrom, listOf}
-use Rattle.pivots_lapack.proofs.Records.{numberIn}
+use Rattle.pivots_lapack.proofs.Records.{inList}
 
 from-length : (words : List ℕ) (count row : ℕ) → length (numbersFrom words count row) ≡ count
 from-length words zero row = refl
 from-length words (suc count) row = ap suc (from-length words count (row + 1))
 
-from-at : (words : List ℕ) (count row k : ℕ) → k < count → numberIn (numbersFrom words count row) k ≡ numberAt words (row + k)
+from-at : (words : List ℕ) (count row k : ℕ) → k < count → inList (numbersFrom words count row) k ≡ numberAt words (row + k)
 from-at words zero row k below = absurd (omega arith)
 from-at words (suc count) row zero below = ap (numberAt words) (omega arith)
 from-at words (suc count) row (suc k) below = from-at words count (row + 1) k (omega arith) ∙ ap (numberAt words) (omega arith)
@@ -28,28 +28,28 @@ pub list-length : (n : ℕ) (words : List ℕ) → length (listOf n words) ≡ n
 unfolding listOf
 list-length n words = from-length words n 0
 
-pub list-at : (n : ℕ) (words : List ℕ) (row : ℕ) → row < n → numberIn (listOf n words) row ≡ numberAt words row
+pub list-at : (n : ℕ) (words : List ℕ) (row : ℕ) → row < n → inList (listOf n words) row ≡ numberAt words row
 unfolding listOf
 list-at n words row below = from-at words n 0 row below ∙ ap (numberAt words) (omega arith)
 
 -- a list of n numbers by its numbers
-pub list-is : {n : ℕ} (words : List ℕ) {list : List ℤ} → length list ≡ n → ((row : ℕ) → row < n → numberIn list row ≡ numberAt words row) → list ≡ listOf n words
+pub list-is : {n : ℕ} (words : List ℕ) {list : List ℤ} → length list ≡ n → ((row : ℕ) → row < n → inList list row ≡ numberAt words row) → list ≡ listOf n words
 list-is {n} words {list} long each =
     ext-getD (pos 0) list (listOf n words) (long ∙ sym (list-length n words)) (λ row h. each row (omega arith) ∙ sym (list-at n words row (omega arith)))
 
 -- ---- row by row
 
-pub record Numbered (n : ℕ) (words : List ℕ) (row : ℕ) (list : List ℤ) : Type 0 where
+pub record NumbersWritten (n : ℕ) (words : List ℕ) (row : ℕ) (list : List ℤ) : Type 0 where
   pub within : row ≤ n
   pub long : length list ≡ n
-  pub numbers : (r : ℕ) → r < row → numberIn list r ≡ numberAt words r
+  pub numbers : (r : ℕ) → r < row → inList list r ≡ numberAt words r
 
-pub numbered-none : {n : ℕ} {words : List ℕ} {list : List ℤ} → length list ≡ n → Numbered n words 0 list
-numbered-none long = record { within = omega arith; long = long; numbers = λ r h. absurd (omega arith) }
+pub numbers-none : {n : ℕ} {words : List ℕ} {list : List ℤ} → length list ≡ n → NumbersWritten n words 0 list
+numbers-none long = record { within = omega arith; long = long; numbers = λ r h. absurd (omega arith) }
 
 module _ {n : ℕ} {words : List ℕ} {row : ℕ} {list : List ℤ} where
-  pub numbered-more : {number : ℤ} → Numbered n words row list → row < n → number ≡ numberAt words row → Numbered n words (row + 1) (set list row number)
-  numbered-more {number} p below is =
+  pub numbers-more : {number : ℤ} → NumbersWritten n words row list → row < n → number ≡ numberAt words row → NumbersWritten n words (row + 1) (set list row number)
+  numbers-more {number} p below is =
       record {
         within = omega arith;
         long = length-set list row number ∙ p .long;
@@ -59,5 +59,5 @@ module _ {n : ℕ} {words : List ℕ} {row : ℕ} {list : List ℤ} where
             (eq-or-lt-of-le (omega arith));
       }
 
-  pub numbered-all : Numbered n words row list → n ≤ row → list ≡ listOf n words
-  numbered-all p whole = list-is words (p .long) (λ r h. p .numbers r (omega (arith, whole)))
+  pub numbers-all : NumbersWritten n words row list → n ≤ row → list ≡ listOf n words
+  numbers-all p whole = list-is words (p .long) (λ r h. p .numbers r (omega (arith, whole)))

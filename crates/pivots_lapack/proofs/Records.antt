@@ -1,11 +1,11 @@
 -- The record that a list stands for, word by word, and as it is written row by row.
 --     record-length, record-index, record-size, record-mark, record-run     where its words stand
 --     record-stamped                                                        the record with another run number
---     Paired, paired-none, paired-more, paired-all                          the rows before k are written; the whole record
+--     PairsWritten, pairs-none, pairs-more, pairs-all                          the rows before k are written; the whole record
 -- Assumes nothing.
 use mathlib.Core.List.{List, [], _∷_, _++_, append-assoc}
 use mathlib.Core.Logic.{⊎-elim}
-use mathlib.Core.Path.{_≡_, refl, sym, ap, subst, _∙_}
+use mathlib.Core.Path.{_≡_, refl, sym, ap, _∙_}
 use Prim.Native.Nat.{ℕ, zero, suc, _+_, _*_, _<_, _≤_}
 use native.Mathlib.Nat.{eq-or-lt-of-le}
 use native.Mathlib.Omega.{arith}
@@ -15,12 +15,12 @@ use lib.Seq.{getD-append-add, set-at}
 use Rattle.pivots.specs.Words.{indexWord, sizeWord, markWord, runWord, wordsOf, indexAt, sizeAt, markAt, runAt, paired, marked, stamped}
 use Rattle.pivots.proofs.SameWords.{same-words}
 use Rattle.pivots.proofs.Written.{paired-length, paired-kept, paired-index, paired-size, ended-kept, ended-length, ended-mark, ended-run}
-use Rattle.pivots_lapack.specs.Numbers.{indexOf, sizeOf}
+use Rattle.pivots_lapack.specs.Numbers.{indexMeant, sizeMeant}
 use Rattle.pivots_lapack.specs.Lists.{pairsOf, recordOf}
 
 -- the number of a row
-abbrev pub numberIn : List ℤ → ℕ → ℤ
-numberIn list row = getD list row (pos 0)
+abbrev pub inList : List ℤ → ℕ → ℤ
+inList list row = getD list row (pos 0)
 
 -- ---- where its words stand
 
@@ -28,18 +28,18 @@ pairs-length : (list : List ℤ) → length (pairsOf list) ≡ 2 * length list
 pairs-length [] = refl
 pairs-length (number ∷ list) = omega (arith, pairs-length list)
 
-pair-index : (list : List ℤ) (row : ℕ) → row < length list → getD (pairsOf list) (indexWord row) 0 ≡ indexOf (numberIn list row)
+pair-index : (list : List ℤ) (row : ℕ) → row < length list → getD (pairsOf list) (indexWord row) 0 ≡ indexMeant (inList list row)
 pair-index [] row below = absurd (omega arith)
 pair-index (number ∷ list) zero below = refl
 pair-index (number ∷ list) (suc row) below =
-    ap (λ (i : ℕ). getD (indexOf number ∷ sizeOf number ∷ pairsOf list) i 0) (let e : indexWord (suc row) ≡ suc (suc (indexWord row)) = omega arith in e)
+    ap (λ (i : ℕ). getD (indexMeant number ∷ sizeMeant number ∷ pairsOf list) i 0) (let e : indexWord (suc row) ≡ suc (suc (indexWord row)) = omega arith in e)
     ∙ pair-index list row (omega arith)
 
-pair-size : (list : List ℤ) (row : ℕ) → row < length list → getD (pairsOf list) (sizeWord row) 0 ≡ sizeOf (numberIn list row)
+pair-size : (list : List ℤ) (row : ℕ) → row < length list → getD (pairsOf list) (sizeWord row) 0 ≡ sizeMeant (inList list row)
 pair-size [] row below = absurd (omega arith)
 pair-size (number ∷ list) zero below = refl
 pair-size (number ∷ list) (suc row) below =
-    ap (λ (i : ℕ). getD (indexOf number ∷ sizeOf number ∷ pairsOf list) i 0) (let e : sizeWord (suc row) ≡ suc (suc (sizeWord row)) = omega arith in e)
+    ap (λ (i : ℕ). getD (indexMeant number ∷ sizeMeant number ∷ pairsOf list) i 0) (let e : sizeWord (suc row) ≡ suc (suc (sizeWord row)) = omega arith in e)
     ∙ pair-size list row (omega arith)
 
 module _ (n : ℕ) (list : List ℤ) (mark run : ℕ) (long : length list ≡ n) where
@@ -55,10 +55,10 @@ module _ (n : ℕ) (list : List ℤ) (mark run : ℕ) (long : length list ≡ n)
   unfolding recordOf
   inside i below = List·getD-append (pairsOf list) ended 0 i (omega (arith, pairs-length list))
 
-  pub record-index : (row : ℕ) → row < n → indexAt (recordOf list mark run) row ≡ indexOf (numberIn list row)
+  pub record-index : (row : ℕ) → row < n → indexAt (recordOf list mark run) row ≡ indexMeant (inList list row)
   record-index row below = inside (indexWord row) (omega arith) ∙ pair-index list row (omega arith)
 
-  pub record-size : (row : ℕ) → row < n → sizeAt (recordOf list mark run) row ≡ sizeOf (numberIn list row)
+  pub record-size : (row : ℕ) → row < n → sizeAt (recordOf list mark run) row ≡ sizeMeant (inList list row)
   record-size row below = inside (sizeWord row) (omega arith) ∙ pair-size list row (omega arith)
 
   -- one of the two after them
@@ -84,20 +84,20 @@ module _ (n : ℕ) (list : List ℤ) (mark run : ℕ) (long : length list ≡ n)
 
 -- ---- row by row
 
-pub record Paired (n : ℕ) (list : List ℤ) (row : ℕ) (words : List ℕ) : Type 0 where
+pub record PairsWritten (n : ℕ) (list : List ℤ) (row : ℕ) (words : List ℕ) : Type 0 where
   pub within : row ≤ n
   pub total : length words ≡ wordsOf n
-  pub index : (r : ℕ) → r < row → indexAt words r ≡ indexOf (numberIn list r)
-  pub size : (r : ℕ) → r < row → sizeAt words r ≡ sizeOf (numberIn list r)
+  pub index : (r : ℕ) → r < row → indexAt words r ≡ indexMeant (inList list r)
+  pub size : (r : ℕ) → r < row → sizeAt words r ≡ sizeMeant (inList list r)
 
-pub paired-none : (n : ℕ) (list : List ℤ) (words : List ℕ) → length words ≡ wordsOf n → Paired n list 0 words
-paired-none n list words total = record { within = omega arith; total = total; index = λ r h. absurd (omega arith); size = λ r h. absurd (omega arith) }
+pub pairs-none : (n : ℕ) (list : List ℤ) (words : List ℕ) → length words ≡ wordsOf n → PairsWritten n list 0 words
+pairs-none n list words total = record { within = omega arith; total = total; index = λ r h. absurd (omega arith); size = λ r h. absurd (omega arith) }
 
 module _ {n : ℕ} {list : List ℤ} {row : ℕ} {words : List ℕ} where
-  pub paired-more
-      : {index size : ℕ} → Paired n list row words → row < n → index ≡ indexOf (numberIn list row) → size ≡ sizeOf (numberIn list row)
-      → Paired n list (row + 1) (paired words row index size)
-  paired-more {index} {size} p below i s =
+  pub pairs-more
+      : {index size : ℕ} → PairsWritten n list row words → row < n → index ≡ indexMeant (inList list row) → size ≡ sizeMeant (inList list row)
+      → PairsWritten n list (row + 1) (paired words row index size)
+  pairs-more {index} {size} p below i s =
       let room : sizeWord row < length words = omega (arith, p .total) in
       record {
         within = omega arith;
@@ -112,8 +112,8 @@ module _ {n : ℕ} {list : List ℤ} {row : ℕ} {words : List ℕ} where
             (eq-or-lt-of-le (omega arith));
       }
 
-  pub paired-all : (mark run : ℕ) → Paired n list row words → n ≤ row → length list ≡ n → stamped n (marked n words mark) run ≡ recordOf list mark run
-  paired-all mark run p whole long =
+  pub pairs-all : (mark run : ℕ) → PairsWritten n list row words → n ≤ row → length list ≡ n → stamped n (marked n words mark) run ≡ recordOf list mark run
+  pairs-all mark run p whole long =
       same-words (ended-length n words mark run (p .total)) (record-length n list mark run long)
       (record {
         index = λ r h. ended-kept n words mark run .index r h ∙ p .index r (omega (arith, whole)) ∙ sym (record-index n list mark run long r h);

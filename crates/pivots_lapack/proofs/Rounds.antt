@@ -3,33 +3,31 @@
 --     list-back       the list of the record that a list stands for is that list, where this record is sound
 --     info-back       and its mark is the list's INFO
 -- Assumes nothing.
-use mathlib.Core.Bool.{true}
 use mathlib.Core.List.{List}
 use mathlib.Core.Logic.{_⊎_, inl, inr}
 use mathlib.Core.Path.{_≡_, refl, sym, ap, _∙_}
-use Prim.Native.Nat.{ℕ, zero, suc, _+_, _<_, _≤_}
+use Prim.Native.Nat.{ℕ, zero, suc, _+_}
 use native.Mathlib.Numerals.{add-one}
 use native.Mathlib.Omega.{arith}
 use lib.IntN.{ℤ, pos, negsuc, negℤ}
 use lib.ListN.{length}
 use Rattle.pivots.specs.Words.{indexAt, sizeAt, markAt, runAt}
 use Rattle.pivots.specs.Rule.{Accepted}
-use Rattle.pivots.specs.Blocks.{bySize}
 use Rattle.pivots.proofs.Boundaries.{mark-within}
 use Rattle.pivots.proofs.Rows.{Row, row-sound}
 use Rattle.pivots.proofs.SameWords.{same-words}
 use Rattle.pivots.proofs.Walks.{size-one, size-two}
-use Rattle.pivots_lapack.specs.Numbers.{indexOf, sizeOf, numberAt, markOf}
+use Rattle.pivots_lapack.specs.Numbers.{indexMeant, sizeMeant, numberAt, markMeant}
 use Rattle.pivots_lapack.specs.Lists.{recordOf, listOf}
-use Rattle.pivots_lapack.proofs.Records.{numberIn, record-length, record-index, record-size, record-mark, record-run}
+use Rattle.pivots_lapack.proofs.Records.{inList, record-length, record-index, record-size, record-mark, record-run}
 use Rattle.pivots_lapack.proofs.Lists.{list-length, list-at, list-is}
 
 -- ---- a number and its pair
 
 -- the number of a row of size 1 or 2 stands for the row's pair
 pub record PairOf (number : ℤ) (words : List ℕ) (row : ℕ) : Type 0 where
-  pub index : indexOf number ≡ indexAt words row
-  pub size : sizeOf number ≡ sizeAt words row
+  pub index : indexMeant number ≡ indexAt words row
+  pub size : sizeMeant number ≡ sizeAt words row
 
 pub number-pair : {n : ℕ} {words : List ℕ} {row : ℕ} → Row n words row → PairOf (numberAt words row) words row
 number-pair {n} {words} {row} sound = by (sound .size)
@@ -50,15 +48,15 @@ record-back {n} {words} a =
     let run = runAt n words in
     same-words (record-length n list mark run long) (a .sized .total)
     (record {
-      index = λ row h. record-index n list mark run long row h ∙ ap indexOf (list-at n words row h) ∙ number-pair (row-sound a row h) .index;
-      size = λ row h. record-size n list mark run long row h ∙ ap sizeOf (list-at n words row h) ∙ number-pair (row-sound a row h) .size;
+      index = λ row h. record-index n list mark run long row h ∙ ap indexMeant (list-at n words row h) ∙ number-pair (row-sound a row h) .index;
+      size = λ row h. record-size n list mark run long row h ∙ ap sizeMeant (list-at n words row h) ∙ number-pair (row-sound a row h) .size;
     })
     (record-mark n list mark run long) (record-run n list mark run long)
 
 -- ---- list to record and back
 
 -- a number other than 0 is that of its pair
-by-pair : (z : ℤ) (words : List ℕ) (row : ℕ) → indexAt words row ≡ indexOf z → sizeAt words row ≡ sizeOf z → (sizeAt words row ≡ 1) ⊎ (sizeAt words row ≡ 2) → numberAt words row ≡ z
+by-pair : (z : ℤ) (words : List ℕ) (row : ℕ) → indexAt words row ≡ indexMeant z → sizeAt words row ≡ sizeMeant z → (sizeAt words row ≡ 1) ⊎ (sizeAt words row ≡ 2) → numberAt words row ≡ z
 by-pair (pos zero) words row i s (inl one) = absurd (omega arith)
 by-pair (pos zero) words row i s (inr two) = absurd (omega arith)
 by-pair (pos (suc p)) words row i s sound = size-one words row _ _ s ∙ rw (i, add-one)
@@ -68,9 +66,9 @@ module _ (n : ℕ) (list : List ℤ) (mark run : ℕ) (long : length list ≡ n)
   pub list-back : list ≡ listOf n (recordOf list mark run)
   list-back =
       list-is (recordOf list mark run) long
-      (λ row h. sym (by-pair (numberIn list row) (recordOf list mark run) row (record-index n list mark run long row h) (record-size n list mark run long row h) (row-sound a row h .size)))
+      (λ row h. sym (by-pair (inList list row) (recordOf list mark run) row (record-index n list mark run long row h) (record-size n list mark run long row h) (row-sound a row h .size)))
 
   -- of an INFO that is this mark
-  pub info-back : (info : ℤ) → mark ≡ markOf n info → pos (markAt n (recordOf list mark run)) ≡ info
+  pub info-back : (info : ℤ) → mark ≡ markMeant n info → pos (markAt n (recordOf list mark run)) ≡ info
   info-back (pos m) is = ap pos (record-mark n list mark run long ∙ is)
   info-back (negsuc m) is = absurd (omega (arith, mark-within a, record-mark n list mark run long, is))

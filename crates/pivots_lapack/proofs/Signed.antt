@@ -1,8 +1,10 @@
 -- Signed numbers of 32 bits as the code reads and computes them.
 --     seen, itself                a number read back from its bits, which is itself
 --     fits-pos, casts, cast-is    a number that is i, which is not below 0: it fits, and so does its cast, which is i
---     above, below, neither       by the two tests of a sign: what is computed, and what the number stands for
---     negated                     the number −(i + 1)
+--     above-zero, below-zero, zero-itself     by the two tests of a sign: what is computed, and what the number stands for
+--     not-below                   an INFO that is not below 0
+--     negated-fits, negated       −(i + 1) from i + 1
+--     under-fits                  −1 − i
 -- Assumes nothing.
 use mathlib.Core.Bool.{true, false, true≢false}
 use mathlib.Core.Path.{_≡_, refl, sym, ap, _∙_}
@@ -16,7 +18,7 @@ use lib.Signed.{mag, ltZ, nonNeg}
 use mir.Syntax.{w32}
 use mir.Val.{Fits, SFits, toZ, ofZ}
 use mir.ValLaws.{toZ-ofZ}
-use Rattle.pivots_lapack.specs.Numbers.{indexOf, sizeOf, markOf}
+use Rattle.pivots_lapack.specs.Numbers.{indexMeant, sizeMeant, markMeant}
 
 abbrev pub seen : ℤ → ℤ
 seen z = toZ w32 (ofZ w32 z)
@@ -41,50 +43,50 @@ module _ {z : ℤ} {i : ℕ} (is : z ≡ pos i) (small : i < 2 ^ 31) where
 
 -- ---- by the tests of a sign
 
-pub record Above (z : ℤ) : Type 0 where
-  pub down : seen z -ℤ pos 1 ≡ pos (indexOf z)
-  pub small : indexOf z < 2 ^ 31
-  pub size : 1 ≡ sizeOf z
+pub record AboveZero (z : ℤ) : Type 0 where
+  pub down : seen z -ℤ pos 1 ≡ pos (indexMeant z)
+  pub small : indexMeant z < 2 ^ 31
+  pub size : 1 ≡ sizeMeant z
 
-pub record Below (z : ℤ) : Type 0 where
-  pub up : negsuc 0 -ℤ seen z ≡ pos (indexOf z)
-  pub small : indexOf z < 2 ^ 31
-  pub size : 2 ≡ sizeOf z
-  pub no-row : (n : ℕ) → n + 1 ≡ markOf n z
+pub record BelowZero (z : ℤ) : Type 0 where
+  pub up : negsuc 0 -ℤ seen z ≡ pos (indexMeant z)
+  pub small : indexMeant z < 2 ^ 31
+  pub size : 2 ≡ sizeMeant z
+  pub no-row : (n : ℕ) → n + 1 ≡ markMeant n z
 
-pub above : (z : ℤ) → SFits w32 z → ltZ (pos 0) (seen z) ≡ true → Above z
-above z fits test = by z fits (toZ-ofZ w32 z fits) test
+pub above-zero : (z : ℤ) → SFits w32 z → ltZ (pos 0) (seen z) ≡ true → AboveZero z
+above-zero z fits test = by z fits (toZ-ofZ w32 z fits) test
   where
-    by : (y : ℤ) → SFits w32 y → seen y ≡ y → ltZ (pos 0) (seen y) ≡ true → Above y
+    by : (y : ℤ) → SFits w32 y → seen y ≡ y → ltZ (pos 0) (seen y) ≡ true → AboveZero y
     by (pos zero) f same t = absurd (true≢false (sym t))
     by (pos (suc i)) f same t =
         record { down = rw same (rw (le-ltb (suc i) 1 (omega arith)) (ap pos (omega arith))); small = omega (arith, f .sfits); size = refl }
     by (negsuc i) f same t = absurd (true≢false (sym (rw same at t)))
 
-pub below : (z : ℤ) → SFits w32 z → ltZ (seen z) (pos 0) ≡ true → Below z
-below z fits test = by z fits (toZ-ofZ w32 z fits) test
+pub below-zero : (z : ℤ) → SFits w32 z → ltZ (seen z) (pos 0) ≡ true → BelowZero z
+below-zero z fits test = by z fits (toZ-ofZ w32 z fits) test
   where
-    by : (y : ℤ) → SFits w32 y → seen y ≡ y → ltZ (seen y) (pos 0) ≡ true → Below y
+    by : (y : ℤ) → SFits w32 y → seen y ≡ y → ltZ (seen y) (pos 0) ≡ true → BelowZero y
     by (pos i) f same t = absurd (true≢false (sym (rw same at t) ∙ le-ltb i 0 (omega arith)))
     by (negsuc i) f same t =
         record { up = rw same (rw (le-ltb (suc i) 1 (omega arith)) (ap pos (omega arith))); small = f .sfits; size = refl; no-row = λ n. refl }
 
-pub neither : (z : ℤ) → SFits w32 z → ltZ (pos 0) (seen z) ≡ false → ltZ (seen z) (pos 0) ≡ false → (0 ≡ indexOf z) × (0 ≡ sizeOf z)
-neither z fits over under = by z (toZ-ofZ w32 z fits) over under
+pub zero-itself : (z : ℤ) → SFits w32 z → ltZ (pos 0) (seen z) ≡ false → ltZ (seen z) (pos 0) ≡ false → (0 ≡ indexMeant z) × (0 ≡ sizeMeant z)
+zero-itself z fits over under = by z (toZ-ofZ w32 z fits) over under
   where
-    by : (y : ℤ) → seen y ≡ y → ltZ (pos 0) (seen y) ≡ false → ltZ (seen y) (pos 0) ≡ false → (0 ≡ indexOf y) × (0 ≡ sizeOf y)
+    by : (y : ℤ) → seen y ≡ y → ltZ (pos 0) (seen y) ≡ false → ltZ (seen y) (pos 0) ≡ false → (0 ≡ indexMeant y) × (0 ≡ sizeMeant y)
     by (pos zero) same s t = (refl, refl)
     by (pos (suc i)) same s t = absurd (true≢false (sym (lt-ltb 0 (suc i) (omega arith)) ∙ (rw same at s)))
     by (negsuc i) same s t = absurd (true≢false (rw same at t))
 
-pub record Mark (n : ℕ) (z : ℤ) : Type 0 where
-  pub is : z ≡ pos (markOf n z)
-  pub small : markOf n z < 2 ^ 31
+pub record NotBelow (n : ℕ) (z : ℤ) : Type 0 where
+  pub is : z ≡ pos (markMeant n z)
+  pub small : markMeant n z < 2 ^ 31
 
-pub marks : (n : ℕ) (z : ℤ) → SFits w32 z → ltZ (seen z) (pos 0) ≡ false → Mark n z
-marks n z fits test = by z fits (toZ-ofZ w32 z fits) test
+pub not-below : (n : ℕ) (z : ℤ) → SFits w32 z → ltZ (seen z) (pos 0) ≡ false → NotBelow n z
+not-below n z fits test = by z fits (toZ-ofZ w32 z fits) test
   where
-    by : (y : ℤ) → SFits w32 y → seen y ≡ y → ltZ (seen y) (pos 0) ≡ false → Mark n y
+    by : (y : ℤ) → SFits w32 y → seen y ≡ y → ltZ (seen y) (pos 0) ≡ false → NotBelow n y
     by (pos i) f same t = record { is = refl; small = f .sfits }
     by (negsuc i) f same t = absurd (true≢false (rw same at t))
 

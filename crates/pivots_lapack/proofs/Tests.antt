@@ -1,5 +1,5 @@
 -- What the tests of the two calls answer.
---     order-above, list-wrong, record-wrong, slices-fit     the order and the two slices
+--     order-above, numbers-wrong, words-wrong, slices-fit     the order and the two slices
 --     Fit, slices-done                                      what is known where these hold
 --     slices-refused, slices-passed                         the answer of all tests of a call: theirs, or that of the others
 --     slices-then                                           what is known where all hold
@@ -38,11 +38,11 @@ module _ (n : ℕ) (list : List ℤ) (words : List ℕ) where
   order-above above = sym (tested-at (sliceTests n list words) Done (here (lt-leb n 1024 above) refl))
 
   module _ (order : n ≤ 1024) where
-    pub list-wrong : (length list ≡ n → ⊥) → Answers SliceLength
-    list-wrong other = sym (tested-at (sliceTests n list words) Done (later (le-leb n 1024 order) (here (ne-eqb (length list) n other) refl)))
+    pub numbers-wrong : (length list ≡ n → ⊥) → Answers SliceLength
+    numbers-wrong other = sym (tested-at (sliceTests n list words) Done (later (le-leb n 1024 order) (here (ne-eqb (length list) n other) refl)))
 
-    pub record-wrong : length list ≡ n → (length words ≡ wordsOf n → ⊥) → Answers SliceLength
-    record-wrong long other =
+    pub words-wrong : length list ≡ n → (length words ≡ wordsOf n → ⊥) → Answers SliceLength
+    words-wrong long other =
         sym (tested-at (sliceTests n list words) Done (later (le-leb n 1024 order) (later (eq-eqb (length list) n long) (here (ne-eqb (length words) (wordsOf n) other) refl))))
 
     pub slices-fit : length list ≡ n → length words ≡ wordsOf n → Answers Done

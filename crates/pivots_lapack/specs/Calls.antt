@@ -13,7 +13,7 @@ use Rattle.answer.specs.Refusals.{Test, _otherwise_, tested}
 use Rattle.pivots.specs.Words.{wordsOf, markAt, runAt}
 use Rattle.pivots.specs.Rule.{ruleTests, recordTests}
 use Rattle.pivots_lapack.specs.declared.Listed.{Listed}
-use Rattle.pivots_lapack.specs.Numbers.{markOf}
+use Rattle.pivots_lapack.specs.Numbers.{markMeant}
 use Rattle.pivots_lapack.specs.Lists.{recordOf, listOf}
 
 -- the order, then the two slices
@@ -23,11 +23,11 @@ sliceTests n list words =
 
 -- then the record's own rule, of the record that the list stands for
 abbrev pub readTests : ℕ → ℕ → List ℤ → ℤ → List ℕ → List Test
-readTests n run list info words = sliceTests n list words ++ ruleTests BadList n (recordOf list (markOf n info) run)
+readTests n run list info words = sliceTests n list words ++ ruleTests BadList n (recordOf list (markMeant n info) run)
 
 pub record ListRead (n run : ℕ) (list : List ℤ) (info : ℤ) (words : List ℕ) (r : Answer) (words' : List ℕ) : Type 0 where
   pub answer : r ≡ tested (readTests n run list info words) Done
-  pub pivots : words' ≡ cond (isDone r) (recordOf list (markOf n info) run) words
+  pub pivots : words' ≡ cond (isDone r) (recordOf list (markMeant n info) run) words
 
 -- then the record's rule
 abbrev pub writeTests : ℕ → List ℕ → List ℤ → List Test

@@ -2,13 +2,13 @@
 use mathlib.Core.List.{List, [], _∷_, _++_}
 use Prim.Native.Nat.{ℕ, zero, suc, _+_}
 use lib.IntN.{ℤ}
-use Rattle.pivots_lapack.specs.Numbers.{indexOf, sizeOf, numberAt}
+use Rattle.pivots_lapack.specs.Numbers.{indexMeant, sizeMeant, numberAt}
 
 -- ---- the record that a list stands for: index and size of each row, the mark, the run number
 
 abbrev pub pairsOf : List ℤ → List ℕ
 pairsOf [] = []
-pairsOf (number ∷ list) = indexOf number ∷ sizeOf number ∷ pairsOf list
+pairsOf (number ∷ list) = indexMeant number ∷ sizeMeant number ∷ pairsOf list
 
 unfoldable pub recordOf : List ℤ → ℕ → ℕ → List ℕ
 recordOf list mark run = pairsOf list ++ mark ∷ run ∷ []

@@ -20,7 +20,7 @@ pub record Exchange : Type 0 where
   pub row : ℕ
   pub other : ℕ
 
--- in LAPACK's words, of the number IPIV(k): above 0, the block is row k, and rows k and IPIV(k) were interchanged; below 0, it is rows k and k+1, and rows k+1 and −IPIV(k) were
+-- in LAPACK's words, of the number at row k, which counts from 1: above 0, the block is row k, and it was exchanged with the row of this number; below 0, the block is rows k and k+1, and row k+1 was exchanged with the row of this number less its sign
 abbrev pub lapackSays : ℤ → ℕ → Exchange
 lapackSays (pos p) k = record { rows = 1; row = k; other = p - 1 }
 lapackSays (negsuc p) k = record { rows = 2; row = k + 1; other = p }

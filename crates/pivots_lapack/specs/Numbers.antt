@@ -9,15 +9,15 @@ use Rattle.pivots.specs.Blocks.{bySize}
 
 -- ---- from a number to index and size: 0 stands for no block, and has a size that no block has
 
-abbrev pub indexOf : ℤ → ℕ
-indexOf (pos zero) = 0
-indexOf (pos (suc index)) = index
-indexOf (negsuc index) = index
+abbrev pub indexMeant : ℤ → ℕ
+indexMeant (pos zero) = 0
+indexMeant (pos (suc index)) = index
+indexMeant (negsuc index) = index
 
-abbrev pub sizeOf : ℤ → ℕ
-sizeOf (pos zero) = 0
-sizeOf (pos (suc index)) = 1
-sizeOf (negsuc index) = 2
+abbrev pub sizeMeant : ℤ → ℕ
+sizeMeant (pos zero) = 0
+sizeMeant (pos (suc index)) = 1
+sizeMeant (negsuc index) = 2
 
 -- ---- and back
 
@@ -27,6 +27,6 @@ numberAt words row = bySize words row (pos (indexAt words row + 1)) (negℤ (pos
 
 -- ---- INFO, 0 or a row counted from 1, is the mark word; below 0 it names no row, and stands for a row after the last
 
-abbrev pub markOf : ℕ → ℤ → ℕ
-markOf n (pos mark) = mark
-markOf n (negsuc below) = n + 1
+abbrev pub markMeant : ℕ → ℤ → ℕ
+markMeant n (pos mark) = mark
+markMeant n (negsuc below) = n + 1

@@ -2,7 +2,7 @@
 ghost use mathlib.Core.Path.{_≡_};
 ghost use Prim.Native.Nat.{_+_, _<_, _≤_};
 ghost use lib.IntN.{pos, negℤ};
-ghost use Rattle.pivots_lapack.specs.Numbers.{indexOf, sizeOf, markOf};
+ghost use Rattle.pivots_lapack.specs.Numbers.{indexMeant, sizeMeant, markMeant};
 
 pub struct Pair {
     pub index: u32,
@@ -10,7 +10,7 @@ pub struct Pair {
 }
 
 pub fn pair_of(number: i32) -> Pair
-    ensures { λ r. ⌜ (r .index ≡ indexOf number) × (r .size ≡ sizeOf number) ⌝ }
+    ensures { λ r. ⌜ (r .index ≡ indexMeant number) × (r .size ≡ sizeMeant number) ⌝ }
 {
     if 0 < number {
         return Pair {
@@ -29,7 +29,7 @@ pub fn pair_of(number: i32) -> Pair
 
 pub fn mark(info: i32, n: usize) -> u32
     requires { ⌜ n ≤ 1024 ⌝ }
-    ensures { λ r. ⌜ r ≡ markOf n info ⌝ }
+    ensures { λ r. ⌜ r ≡ markMeant n info ⌝ }
 {
     if info < 0 {
         return (n as u32) + 1;

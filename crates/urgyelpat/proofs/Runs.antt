@@ -1,11 +1,9 @@
 -- A record that a factor call made with a run number, or that was read from a LAPACK pivot list with one, in a later call whose slices fit, whatever numbers they
 -- hold: one that expects this number accepts it (a solve then goes on to the mark), one that expects another answers 13, place 0, and writes nothing. The list of
 -- such a record is written, and the number handed back. Assumes nothing.
-use mathlib.Core.Bool.{true}
 use mathlib.Core.List.{List}
 use mathlib.Core.Path.{_≡_, refl, sym, ap, _∙_}
 use Prim.Native.Nat.{ℕ, _+_, _-_, _*_, _≤_}
-use native.Mathlib.Omega.{arith}
 use lib.IntN.{ℤ}
 use lib.Ieee.{Float}
 use lib.ListN.{length}

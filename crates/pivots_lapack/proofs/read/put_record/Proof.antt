@@ -3,21 +3,21 @@ use mathlib.Core.List.{List}
 use mathlib.Core.Path.{ap, _∙_}
 use Prim.Native.Nat.{ℕ, _-_}
 use Rattle.pivots.specs.Words.{stamped}
-use Rattle.pivots_lapack.specs.Numbers.{indexOf, sizeOf}
+use Rattle.pivots_lapack.specs.Numbers.{indexMeant, sizeMeant}
 use Rattle.pivots_lapack.proofs.Signed.{itself}
-use Rattle.pivots_lapack.proofs.Records.{numberIn, Paired, paired-none, paired-more, paired-all}
+use Rattle.pivots_lapack.proofs.Records.{inList, PairsWritten, pairs-none, pairs-more, pairs-all}
 use borrow.Author.Needs.{needs}
 use Rattle.pivots_lapack.proofs.read.put_record.Statement.{statement}
 use Rattle.pivots_lapack.proofs.read.put_record.Tie as tie
 
 abbrev Inv-loop : tie.InvT-loop
-Inv-loop list mark run words₀ n row₀ words row = Paired n list row words
+Inv-loop list mark run words₀ n row₀ words row = PairsWritten n list row words
 
 abbrev μ-loop : tie.MeasureT-loop
 μ-loop list mark run words₀ n row₀ words row = n - row
 
 loop-holds : tie.Need-loop-holds Inv-loop μ-loop
-loop-holds c = paired-none _ _ _ (c .before .pre .1 .total)
+loop-holds c = pairs-none _ _ _ (c .before .pre .1 .total)
 
 mul-pair-of : tie.Need-mul-pair-of Inv-loop μ-loop
 mul-pair-of c = search needs
@@ -39,8 +39,8 @@ loop-less c = search needs
 
 loop-again : tie.Need-loop-again Inv-loop μ-loop
 loop-again c =
-    let same = itself (numberIn (c .before .before .before .before .before .before .before .before .before .args .list .now) (c .before .before .before .before .before .before .before .loop .row)) (c .before .before .before .before .before .pair-of-arg .given) in
-    rw (c .before .before .put-pair .ensures) (paired-more (c .before .before .before .before .before .before .before .loop .inv) (c .before .before .before .before .before .before .loop-test .taken) (c .before .before .before .before .pair-of .ensures .0 ∙ ap indexOf same) (c .before .before .before .before .pair-of .ensures .1 ∙ ap sizeOf same))
+    let same = itself (inList (c .before .before .before .before .before .before .before .before .before .args .list .now) (c .before .before .before .before .before .before .before .loop .row)) (c .before .before .before .before .before .pair-of-arg .given) in
+    rw (c .before .before .put-pair .ensures) (pairs-more (c .before .before .before .before .before .before .before .loop .inv) (c .before .before .before .before .before .before .loop-test .taken) (c .before .before .before .before .pair-of .ensures .0 ∙ ap indexMeant same) (c .before .before .before .before .pair-of .ensures .1 ∙ ap sizeMeant same))
 
 put-mark-requires : tie.Need-put-mark-requires Inv-loop μ-loop
 put-mark-requires c κs = search needs
@@ -54,7 +54,7 @@ same-length c = search needs
 returns : tie.Need-returns Inv-loop μ-loop
 returns c =
     c .before .before .put-run .ensures ∙ ap (λ (w : List ℕ). stamped (c .before .before .before .before .before .before .before .before .before .before .before .args .n) w (c .before .before .before .before .before .before .before .before .before .before .before .args .run)) (c .before .before .before .before .before .before .put-mark .ensures)
-    ∙ paired-all (c .before .before .before .before .before .before .before .before .before .before .before .args .mark) (c .before .before .before .before .before .before .before .before .before .before .before .args .run) (c .before .before .before .before .before .before .before .before .before .loop .inv) (c .before .before .before .before .before .before .before .before .loop-test .left) (c .before .before .before .before .before .before .before .before .before .before .before .pre .0)
+    ∙ pairs-all (c .before .before .before .before .before .before .before .before .before .before .before .args .mark) (c .before .before .before .before .before .before .before .before .before .before .before .args .run) (c .before .before .before .before .before .before .before .before .before .loop .inv) (c .before .before .before .before .before .before .before .before .loop-test .left) (c .before .before .before .before .before .before .before .before .before .before .before .pre .0)
 
 pub put-record-spec : {M : Type 1} → statement M
 put-record-spec =

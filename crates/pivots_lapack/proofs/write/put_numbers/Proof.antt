@@ -4,19 +4,19 @@ use Prim.Native.Nat.{_-_}
 use native.Mathlib.Omega.{arith}
 use Rattle.pivots.proofs.Rows.{row-sound}
 use Rattle.pivots_lapack.proofs.Signed.{itself}
-use Rattle.pivots_lapack.proofs.Lists.{Numbered, numbered-none, numbered-more, numbered-all}
+use Rattle.pivots_lapack.proofs.Lists.{NumbersWritten, numbers-none, numbers-more, numbers-all}
 use borrow.Author.Needs.{needs}
 use Rattle.pivots_lapack.proofs.write.put_numbers.Statement.{statement}
 use Rattle.pivots_lapack.proofs.write.put_numbers.Tie as tie
 
 abbrev Inv-loop : tie.InvT-loop
-Inv-loop words list₀ n row₀ list row = Numbered n words row list
+Inv-loop words list₀ n row₀ list row = NumbersWritten n words row list
 
 abbrev μ-loop : tie.MeasureT-loop
 μ-loop words list₀ n row₀ list row = n - row
 
 loop-holds : tie.Need-loop-holds Inv-loop μ-loop
-loop-holds c = numbered-none (c .before .pre .1)
+loop-holds c = numbers-none (c .before .pre .1)
 
 number-of-requires : tie.Need-number-of-requires Inv-loop μ-loop
 number-of-requires c κs = let row = row-sound (c .before .before .before .pre .0) (c .before .loop .row) (c .loop-test .taken) in (omega (arith, c .before .before .before .pre .0 .sized .total), omega (arith, row .index, c .before .before .before .pre .0 .sized .order))
@@ -34,13 +34,13 @@ loop-less : tie.Need-loop-less Inv-loop μ-loop
 loop-less c = search needs
 
 loop-again : tie.Need-loop-again Inv-loop μ-loop
-loop-again c = numbered-more (c .before .before .loop .inv) (c .before .loop-test .taken) (itself (c .number-of .result) (c .number-of .ok) ∙ c .number-of .ensures)
+loop-again c = numbers-more (c .before .before .loop .inv) (c .before .loop-test .taken) (itself (c .number-of .result) (c .number-of .ok) ∙ c .number-of .ensures)
 
 same-length : tie.Need-same-length Inv-loop μ-loop
 same-length c = search needs
 
 returns : tie.Need-returns Inv-loop μ-loop
-returns c = numbered-all (c .before .loop .inv) (c .loop-test .left)
+returns c = numbers-all (c .before .loop .inv) (c .loop-test .left)
 
 pub put-numbers-spec : {M : Type 1} → statement M
 put-numbers-spec =
