@@ -41,8 +41,7 @@ pub fn from_lapack(list: &[i32], info: i32, words: &mut [u32], n: usize, run: u3
         return sizes;
     }
     let mark = number::mark(info, n);
-    let mut room = [0u32; pivots::WORDS_OF_1024];
-    let answer = read::judge(list, mark, run, &mut room, n);
+    let answer = read::judge(list, mark, run, n);
     if answer.code() != 0 {
         return answer;
     }

@@ -27,10 +27,10 @@ pub fn put_record(list: &[i32], mark: u32, run: u32, words: &mut [u32], n: usize
 }
 
 // What the record's rule says of the record that a list stands for; it is written to the first words of `room`.
-pub fn judge(list: &[i32], mark: u32, run: u32, room: &mut [u32], n: usize) -> Answer
+fn judge_in(list: &[i32], mark: u32, run: u32, room: &mut [u32], n: usize) -> Answer
     requires { ⌜ length (now list) ≡ n ⌝ }
     requires { ⌜ n ≤ 1024 ⌝ }
-    requires { ⌜ length (now room) ≡ wordsOf 1024 ⌝ }
+    requires { ⌜ wordsOf n ≤ length (now room) ⌝ }
     ensures { λ r. ⌜ r ≡ tested (ruleTests BadList n (recordOf (now (list .entry)) mark run)) Done ⌝ }
 {
     let words = &mut room[0..pivots::words(n)];
@@ -40,4 +40,18 @@ pub fn judge(list: &[i32], mark: u32, run: u32, room: &mut [u32], n: usize) -> A
         return Answer::BadList(fault.place());
     }
     fault
+}
+
+// The same in a room of its own.
+pub fn judge(list: &[i32], mark: u32, run: u32, n: usize) -> Answer
+    requires { ⌜ length (now list) ≡ n ⌝ }
+    requires { ⌜ n ≤ 1024 ⌝ }
+    ensures { λ r. ⌜ r ≡ tested (ruleTests BadList n (recordOf (now (list .entry)) mark run)) Done ⌝ }
+{
+    if n <= 64 {
+        let mut room = [0u32; pivots::WORDS_OF_64];
+        return judge_in(list, mark, run, &mut room, n);
+    }
+    let mut room = [0u32; pivots::WORDS_OF_1024];
+    judge_in(list, mark, run, &mut room, n)
 }

@@ -1,10 +1,10 @@
--- `judge`: the rule of a record, by the record's own check.
+-- `judge_in`: the rule of a record, by the record's own check.
 use Rattle.answer.proofs.Done.{code-done, code-refused}
 use Rattle.pivots_lapack.specs.Lists.{recordOf}
 use Rattle.pivots_lapack.proofs.Tests.{rule-broken, rule-kept}
 use borrow.Author.Needs.{needs}
-use Rattle.pivots_lapack.proofs.read.judge.Statement.{statement}
-use Rattle.pivots_lapack.proofs.read.judge.Tie as tie
+use Rattle.pivots_lapack.proofs.read.judge_in.Statement.{statement}
+use Rattle.pivots_lapack.proofs.read.judge_in.Tie as tie
 
 words-requires : tie.Need-words-requires
 words-requires c κs = search needs
@@ -42,8 +42,8 @@ same-length-2 c = search needs
 returns-2 : tie.Need-returns-2
 returns-2 c = rule-kept (c .before .before .before .before .before .before .before .before .before .before .before .before .before .args .n) (recordOf (c .before .before .before .before .before .before .before .before .before .before .before .before .before .args .list .now) (c .before .before .before .before .before .before .before .before .before .before .before .before .before .args .mark) (c .before .before .before .before .before .before .before .before .before .before .before .before .before .args .run)) (rw (c .before .before .before .before .before .before .before .before .put-record .ensures) at (c .before .before .before .before .check .ensures)) (code-done (c .before .before .before .before .check .result) (c .before .code .ensures) (c .if1 .left))
 
-pub judge-spec : {M : Type 1} → statement M
-judge-spec =
+pub judge-in-spec : {M : Type 1} → statement M
+judge-in-spec =
     tie.close
     (tie.spec
     words-requires
