@@ -2,6 +2,7 @@ pub mod Unique
 pub mod Lists
 pub mod Runs
 pub mod FactorPlaces
+pub mod RulePlaces
 pub mod ReaderPlaces
 pub mod ListPlaces
 pub mod CholeskyPlaces

@@ -3,9 +3,9 @@ use mathlib.Core.Bool.{Bool, true, false}
 use mathlib.Core.List.{List, [], _∷_}
 use mathlib.Core.Logic.{⊎-elim}
 use mathlib.Core.Path.{_≡_, refl, sym, subst, _∙_}
-use Prim.Native.Nat.{ℕ, _-_, _*_, _≤_, _<_}
+use Prim.Native.Nat.{ℕ, _-_, _*_, _≤_}
 use native.Mathlib.Omega.{arith}
-use borrow.Author.Tests.{leb-false, eqb-false}
+use borrow.Author.Tests.{eqb-false}
 use lib.Dec.{leb, eqb}
 use lib.ListN.{length}
 use lib.Ieee.{Float}
@@ -22,13 +22,14 @@ use Rattle.matrix.specs.Matrix.{Matrix}
 use Rattle.matrix.specs.Sizes.{sizeTests}
 use Rattle.matrix.proofs.Sizes.{sizes-within}
 use Rattle.pivots.specs.Words.{markAt, runAt, wordsOf}
-use Rattle.pivots.specs.Rule.{faultOf, soundMark}
+use Rattle.pivots.specs.Rule.{recordTests}
 use Rattle.pivots.proofs.Boundaries.{mark-row}
 use Rattle.lblt_read.specs.Calls.{wordTests, readerTests, sideTests, columnTests, LbltDetermined, LbltFilled}
 use Rattle.lblt_read.proofs.Admitted.{columns-done, columns-refuse}
 use Rattle.lblt_solve.specs.Solve.{markTests, solveTests, LbltSolved}
 use Rattle.lblt_bench.specs.Bench.{BenchSolved}
 use Rattle.lblt_bench.proofs.Listed.{as-solve, list-refused}
+use Rattle.urgyelpat.proofs.RulePlaces.{rule-within}
 
 -- the record's tests answer a row, or the order
 record-within : (n run : ℕ) (words : List ℕ) → Within n (tested (wordTests n run words) Done)
@@ -36,12 +37,8 @@ unfolding tested
 record-within n run words =
     within-test n (eqb (length words) (wordsOf n)) _ SliceLength
     (λ e.
-    within-test n (leb n (faultOf n words)) _ (BadRecord (faultOf n words))
-    (λ f.
-    within-test n (soundMark n words) _ (BadRecord n)
-    (λ g. within-test n (eqb (runAt n words) run) Done OtherRun (λ e. within-none n) (λ e. within-none n))
-    (λ g. omega arith))
-    (λ f. let below : faultOf n words < n = leb-false _ _ f in omega (arith, below)))
+    subst (Within n) (sym (tested-join (recordTests n words) ((eqb (runAt n words) run otherwise OtherRun) ∷ []) Done))
+    (rule-within BadRecord (λ place. refl) n words _ (within-test n (eqb (runAt n words) run) Done OtherRun (λ same. within-none n) (λ other. within-none n))))
     (λ e. within-none n)
 
 reader-within : (y : Layout) (run : ℕ) (a : List Float) (words : List ℕ) → Within 1024 (tested (readerTests y run a words) Done)
