@@ -21,12 +21,12 @@
 //! # Which lists
 //!
 //! The factor beside a list is taken as it is. By LAPACK's documentation it stands in the lower part as that of
-//! [`lblt::factor`](crate::lblt::factor) does (compared, not proved), if `dsytrf` or `dsytf2` wrote it with UPLO = 'L' and LDA = n (or its columns are copied
-//! together so), and IPIV has 32-bit integers. Use it where INFO is 0. With another INFO a solve is refused, and
-//! `determinant`, `d` and `l_permuted` are not: where `dsytrf` works by blocks it may leave in that column what is not
-//! its D and L. **Never** hand in lists of UPLO = 'U', nor those of `dsytrf_rook`, `dsytrf_rk` and `dsytrf_aa`: they can mean
-//! other things, and are not always refused, those of `dsytrf_aa` hardly ever. docs/DIFFERENCES.md of the repository has what
-//! was seen.
+//! [`lblt::factor`](crate::lblt::factor) does (compared, not proved), if `dsytrf` or `dsytf2` wrote it with UPLO = 'L' and
+//! LDA = n (or its columns are copied together so), and IPIV has 32-bit integers. Use it where INFO is 0. With another INFO a
+//! solve is refused, and `determinant`, `d` and `l_permuted` are not: where `dsytrf` works by blocks it may leave in that column
+//! what is not its D and L. **Never** hand in lists of UPLO = 'U', nor those of `dsytrf_rook`, `dsytrf_rk` and `dsytrf_aa`: they
+//! can mean other things, and are not always refused, those of `dsytrf_aa` hardly ever. docs/DIFFERENCES.md of the repository
+//! has what was seen.
 
 use crate::ffi;
 use crate::refusal::{done, Refusal};

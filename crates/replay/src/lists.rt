@@ -1,9 +1,9 @@
 // The calls on LAPACK pivot lists: register C holds a list, each number as the low half of a word.
-ghost use Prim.Native.Nat.{_<_};
 use crate::calls::Outcome;
 use crate::registers::half;
 use crate::registers::low;
 use crate::registers::put_bits;
+use crate::registers::wide;
 
 // The number whose bits these are.
 fn signed(bits: u32) -> i32 {
@@ -18,12 +18,6 @@ fn bits_of(number: i32) -> u32 {
         return 0xffff_ffff - ((-1 - number) as u32);
     }
     number as u32
-}
-
-fn wide(word: u32) -> u64
-    ensures { λ r. ⌜ r < 4294967296 ⌝ }
-{
-    word as u64
 }
 
 fn put_number(list: &mut [i32], i: usize, number: i32) {

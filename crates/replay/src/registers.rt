@@ -1,4 +1,5 @@
 // The registers' words, and the parts that are in use.
+ghost use Prim.Native.Nat.{_<_};
 use crate::state::A;
 use crate::state::B;
 use crate::state::C;
@@ -27,7 +28,9 @@ fn bits(x: &[f64], i: usize) -> u64 {
     0
 }
 
-fn wide(x: u32) -> u64 {
+pub fn wide(x: u32) -> u64
+    ensures { λ r. ⌜ r < 4294967296 ⌝ }
+{
     x as u64
 }
 

@@ -1,25 +1,18 @@
 -- LAPACK pivot lists across C, there and back. Assumes nothing.
 --     record-comes-back     a record is written, and its list read with the INFO and the run number that were handed back: the record
 --     list-comes-back       a list is read, and its record written: the list, INFO and the run number
-use mathlib.Core.Bool.{true}
 use mathlib.Core.List.{List}
 use mathlib.Core.Path.{_≡_, sym, ap, _∙_}
 use Prim.Native.Nat.{ℕ}
-use native.Mathlib.Omega.{arith}
-use borrow.Author.Tests.{eq-eqb}
 use lib.IntN.{ℤ}
 use lib.ListN.{length}
-use Rattle.answer.specs.declared.Answer.{Answer}
-use Rattle.answer.specs.Number.{codeOf, isDone, numberOf}
+use Rattle.answer.specs.Number.{numberOf}
+use Rattle.answer.proofs.Back.{zero-done}
 use Rattle.pivots.specs.Words.{wordsOf}
 use Rattle.pivots_lapack.specs.Calls.{ListRead}
 use Rattle.pivots_lapack.proofs.Exactly.{record-returns, list-returns}
 use Rattle.urgyelpat.specs.declared.Listed.{Listed}
 use Rattle.urgyelpat.specs.Calls.{PivotsFromLapack, PivotsToLapack}
-
--- the number 0 is an answer that is done
-pub zero-done : (answer : Answer) → 0 ≡ numberOf answer → isDone answer ≡ true
-zero-done answer is = eq-eqb (codeOf answer) 0 (omega (arith, is))
 
 pub record-comes-back
     : {n : ℕ} {words lent words' : List ℕ} {list list' : List ℤ} {v : Listed} {r : ℕ}

@@ -11,6 +11,7 @@ use Rattle.answer.specs.declared.Answer.{Answer}
 use Rattle.answer.specs.declared.Answer.the-variants.{Done, ZeroMark, OtherRun}
 use Rattle.answer.specs.Number.{isDone, numberOf}
 use Rattle.answer.specs.Refusals.{tested}
+use Rattle.answer.proofs.Back.{zero-done}
 use Rattle.matrix.specs.Layouts.{full}
 use Rattle.matrix.specs.Matrix.{Matrix}
 use Rattle.matrix.specs.Sizes.{Fits}
@@ -29,7 +30,6 @@ use Rattle.urgyelpat.specs.declared.Determined.{Determined}
 use Rattle.urgyelpat.specs.declared.Listed.{Listed}
 use Rattle.urgyelpat.specs.Passed.{Passed}
 use Rattle.urgyelpat.specs.Calls.{LbltFactor, LbltSolve, LbltSolveBench, LbltDeterminant, LbltD, LbltLPermuted, PivotsFromLapack, PivotsToLapack}
-use Rattle.urgyelpat.proofs.Lists.{zero-done}
 
 abbrev pub refusedByRun : ℕ
 refusedByRun = 13 * 4096

@@ -6,7 +6,7 @@ use lib.IntN.{ℤ}
 use lib.Ieee.{Float}
 use Rattle.answer.specs.declared.Answer.{Answer}
 use Rattle.answer.specs.declared.Valued.{Valued}
-use Rattle.pivots_lapack.specs.declared.Listed as below
+use Rattle.pivots_lapack.specs.declared.Listed as lapack
 use Rattle.pivots_lapack.proofs.Once.{WrittenOnce, read-once, written-once}
 use Rattle.lblt.proofs.Done as lblt
 use Rattle.lblt_read.proofs.Once.{determined-once, filled-once}
@@ -79,10 +79,10 @@ pivots-from-lapack-unique p q =
     let same = read-once (p .given) (q .given) in
     (passed-same p q (same .0), same .1)
 
-abbrev listed-by : Answer → ℤ → ℕ → below.Listed
+abbrev listed-by : Answer → ℤ → ℕ → lapack.Listed
 listed-by answer info run = record { answer = answer; info = info; run = run }
 
-listed-same : {v w : below.Listed} {list₁ list₂ : List ℤ} → WrittenOnce v w list₁ list₂ → v ≡ w
+listed-same : {v w : lapack.Listed} {list₁ list₂ : List ℤ} → WrittenOnce v w list₁ list₂ → v ≡ w
 listed-same {v} {w} once =
     ap (λ (x : Answer). listed-by x (v .info) (v .run)) (once .answer) ∙ ap (λ (x : ℤ). listed-by (w .answer) x (v .run)) (once .info)
     ∙ ap (listed-by (w .answer) (w .info)) (once .run)

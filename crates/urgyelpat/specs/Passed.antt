@@ -2,7 +2,7 @@
 use mathlib.Core.Path.{_≡_}
 use Rattle.answer.specs.declared.Valued.{Valued}
 use Rattle.answer.specs.Number.{numberOf}
-use Rattle.pivots_lapack.specs.declared.Listed as below
+use Rattle.pivots_lapack.specs.declared.Listed as lapack
 use Rattle.urgyelpat.specs.declared.Determined.{Determined}
 use Rattle.urgyelpat.specs.declared.Listed.{Listed}
 
@@ -17,5 +17,5 @@ abbrev pub determinedOf : Valued → Determined
 determinedOf v = record { answer = numberOf (v .answer); value = v .value }
 
 -- INFO and the run number of a list as they are, the answer as one number
-abbrev pub listedOf : below.Listed → Listed
+abbrev pub listedOf : lapack.Listed → Listed
 listedOf l = record { answer = numberOf (l .answer); info = l .info; run = l .run }
