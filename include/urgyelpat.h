@@ -8,7 +8,8 @@
  * MATRICES are lent and stand column by column: entry (i, j), row i and column j counted from 0, of an n-by-n matrix is at
  * i + j*n. A Cholesky matrix stands in a room s, at i + j*s; what is outside the first n rows and columns is kept. Of a
  * symmetric matrix LBLT, Cholesky and the search for twins look at the entries with i >= j alone, UDU at those with i <= j.
- * The others are neither read nor written, except by the calls that fill a whole matrix or say that they write there.
+ * The others are neither read nor written, except by the calls that fill a whole matrix or say that they write there. The calls
+ * on packed triangles, at the end of this page, take the entries with i >= j alone, in half the memory.
  *
  * SLICES. Every slice is a pointer and then its length, counted in numbers and not in bytes. What is asked of a caller:
  *   - The memory of the whole length is there, is initialised, and is aligned as its type is.
@@ -282,10 +283,80 @@ URGYELPAT_MUST_USE uint64_t urgyelpat_first_twin(const double *a, size_t a_lengt
  * Answers 0 for no twins, (4096 + q) * 4096 + p for a pair, and refuses by 1, 2, 3 (a). */
 URGYELPAT_MUST_USE uint64_t urgyelpat_first_twin_since(const double *a, size_t a_length, size_t room, size_t earlier, size_t n);
 
-/* Whether an answer of these two is a pair, and if so its rows p and q. */
+/* Whether an answer of a search for twins is a pair, and if so its rows p and q. */
 static inline int urgyelpat_is_pair(uint64_t answer) { return urgyelpat_code(answer) >= 4096u; }
 static inline uint32_t urgyelpat_twin_p(uint64_t answer) { return urgyelpat_place(answer); }
 static inline uint32_t urgyelpat_twin_q(uint64_t answer) { return urgyelpat_code(answer) - 4096u; }
+
+/* ---- Packed triangles: LBLT, Cholesky and the search for twins on the lower part alone, in half the memory ----
+ *
+ * A packed matrix of order n is its lower part, column after column, each from its diagonal down: n(n+1)/2 numbers, entry
+ * (i, j), i >= j, at i + j*(2n-j-1)/2. The upper part is not there, and neither is room for rows to come. At order 1024 that is
+ * 524,800 numbers, where the full layout has 1,048,576.
+ *
+ * No result depends on the layout (proved, for all of these calls by one law): the answer is that of the call without
+ * `packed_` on the same lower part with the order for its room, code and place included, and so are the record, the solution
+ * and the value; what stands packed after the call is what then stands in the lower part there. Codes, records, marks, run
+ * numbers, urgyelpat_callers_row and the pairs of twins mean the same, and a record does not say in which layout its factor
+ * stands. */
+
+/* How many numbers a packed matrix of order n has, and where its entry (i, j), j <= i < n, stands; for orders up to 1024. The
+ * first is also where row n begins if lower rows stand end to end, i + 1 numbers for row i. */
+static inline size_t urgyelpat_packed_length(size_t n) { return n * (n + 1) / 2; }
+static inline size_t urgyelpat_packed_place(size_t n, size_t i, size_t j) { return i + j * (2 * n - j - 1) / 2; }
+
+/* Factors a (packed, n(n+1)/2 numbers) in place, and writes its record (2n + 2 words), with `run` at its end. The mark is set as
+ * by urgyelpat_lblt_factor.
+ * Answers 0, 1, 3 (a), 4 (record). */
+URGYELPAT_MUST_USE uint64_t urgyelpat_packed_lblt_factor(double *a, size_t a_length, uint32_t *record, size_t record_length,
+                                                         size_t n, uint32_t run);
+
+/* Solves A X = B in b (n*columns numbers, column by column) by a packed factor (n(n+1)/2 numbers) and its record, which is
+ * expected to be of run `run`.
+ * Answers 0, 1, 3 (a), 4 (record or b), 5, 13, 6 (its place is as for urgyelpat_lblt_solve). */
+URGYELPAT_MUST_USE uint64_t urgyelpat_packed_lblt_solve(const double *a, size_t a_length, const uint32_t *record,
+                                                        size_t record_length, double *b, size_t b_length, size_t n,
+                                                        size_t columns, uint32_t run);
+
+/* The determinant by a packed factor (n(n+1)/2 numbers) and its record, which is expected to be of run `run`; 1 for order 0. A
+ * marked record is accepted.
+ * Answers 0, 1, 3 (a), 4 (record), 5, 13. */
+URGYELPAT_MUST_USE urgyelpat_determined urgyelpat_packed_lblt_determinant(const double *a, size_t a_length,
+                                                                          const uint32_t *record, size_t record_length,
+                                                                          size_t n, uint32_t run);
+
+/* Factors a (packed, n(n+1)/2 numbers) in place.
+ * After 7, 10 or 11 at column j: the columns before j are finished, column j is updated and not divided, later columns are as
+ * given.
+ * Answers 0, 1, 3 (a), 7, 10, 11. */
+URGYELPAT_MUST_USE uint64_t urgyelpat_packed_cholesky_factor(double *a, size_t a_length, size_t n);
+
+/* A further batch. Takes the packed factor of the first `earlier` rows, in old (earlier(earlier+1)/2 numbers), and the rows
+ * earlier to n - 1 as they came, in rows: end to end, i + 1 numbers for row i, up to its diagonal, which makes
+ * n(n+1)/2 - earlier(earlier+1)/2 numbers. Fills fresh (n(n+1)/2 numbers, whatever stood there) with the packed factor of all n
+ * rows; old and rows are only read. The batches of a matrix, each from the fresh buffer of the one before (the first from no
+ * numbers and earlier order 0), give what one call of urgyelpat_packed_cholesky_factor on the whole gives, to the bit, and are
+ * refused by the same code at the same row. The diagonals in old are not tested.
+ * After 7, 10 or 11 at column j (earlier <= j) fresh is filled too, and is no factor: its first `earlier` rows are those of old,
+ * the others are left as by the factor call. old is still the factor that it was: go on from there with other rows. Every other
+ * refusal leaves fresh as it was.
+ * A row that came twice is often not refused: ask urgyelpat_packed_first_twin first.
+ * Answers 0, 1 (n or earlier), 2 (earlier above n), 3 (old), 4 (rows or fresh), 7, 10, 11. */
+URGYELPAT_MUST_USE uint64_t urgyelpat_packed_cholesky_extend(const double *old, size_t old_length, const double *rows,
+                                                             size_t rows_length, double *fresh, size_t fresh_length,
+                                                             size_t earlier, size_t n);
+
+/* Solves A X = B in b (n*columns numbers, column by column) by a packed factor (n(n+1)/2 numbers). As for
+ * urgyelpat_cholesky_solve, each column is solved by itself, and no number of the factor is refused.
+ * Answers 0, 1, 3 (a), 4 (b). */
+URGYELPAT_MUST_USE uint64_t urgyelpat_packed_cholesky_solve(const double *a, size_t a_length, double *b, size_t b_length,
+                                                            size_t n, size_t columns);
+
+/* Looks for twin rows p < q in a packed matrix (n(n+1)/2 numbers), as urgyelpat_first_twin does: of the rows as they came, never
+ * of a factor. It looks at all rows, so a pair that was kept is found again, and hides the pairs with a greater q. Writes
+ * nothing.
+ * Answers 0 for no twins, (4096 + q) * 4096 + p for a pair, and refuses by 1, 3 (a). */
+URGYELPAT_MUST_USE uint64_t urgyelpat_packed_first_twin(const double *a, size_t a_length, size_t n);
 
 #ifdef __cplusplus
 }

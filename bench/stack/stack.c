@@ -41,6 +41,16 @@ typedef enum {
     FIRST_TWIN_RANDOM,
     FIRST_TWIN_NEAR,
     FIRST_TWIN_SINCE,
+    PACKED_LBLT_FACTOR,
+    PACKED_LBLT_SOLVE_ONE,
+    PACKED_LBLT_SOLVE_MANY,
+    PACKED_LBLT_DETERMINANT,
+    PACKED_CHOLESKY_FACTOR,
+    PACKED_CHOLESKY_EXTEND,
+    PACKED_CHOLESKY_SOLVE_ONE,
+    PACKED_CHOLESKY_SOLVE_MANY,
+    PACKED_FIRST_TWIN_RANDOM,
+    PACKED_FIRST_TWIN_NEAR,
     CALLS
 } which;
 
@@ -66,6 +76,16 @@ static const char *const names[CALLS] = {
     "first_twin, random rows",
     "first_twin, rows that nearly agree",
     "first_twin_since, the second half",
+    "packed_lblt_factor",
+    "packed_lblt_solve, 1 column",
+    "packed_lblt_solve, 67 columns",
+    "packed_lblt_determinant",
+    "packed_cholesky_factor",
+    "packed_cholesky_extend, the second half",
+    "packed_cholesky_solve, 1 column",
+    "packed_cholesky_solve, 67 columns",
+    "packed_first_twin, random rows",
+    "packed_first_twin, rows that nearly agree",
 };
 
 static void *stack; /* its lowest byte */
@@ -99,6 +119,25 @@ static void fill_near(size_t n)
     for (size_t j = 0; j < n; j++)
         for (size_t i = 0; i < n; i++)
             a[i + j * n] = (i ^ 1) == j ? 2.0 : 1.0;
+}
+
+/* The lower part of a, packed where it stands. */
+static void pack(size_t n)
+{
+    double *packed = a;
+    for (size_t j = 0; j < n; j++)
+        for (size_t i = j; i < n; i++)
+            *packed++ = a[i + j * n];
+}
+
+/* The lower rows of a end to end where it stands; b is written on the way. */
+static void lay_end_to_end(size_t n)
+{
+    for (size_t i = 0; i < n; i++)
+        for (size_t j = 0; j <= i; j++)
+            b[urgyelpat_packed_length(i) + j] = a[i + j * n];
+    for (size_t i = 0; i < urgyelpat_packed_length(n); i++)
+        a[i] = b[i];
 }
 
 static void must(int held, const char *what, size_t n)
@@ -162,6 +201,44 @@ static void prepare(which call, size_t n)
     case FIRST_TWIN_SINCE:
         fill_near(n);
         break;
+    case PACKED_LBLT_FACTOR:
+        fill_random(n, 0.0);
+        pack(n);
+        break;
+    case PACKED_LBLT_SOLVE_ONE:
+    case PACKED_LBLT_SOLVE_MANY:
+    case PACKED_LBLT_DETERMINANT:
+        fill_random(n, 0.0);
+        pack(n);
+        answer = urgyelpat_packed_lblt_factor(a, urgyelpat_packed_length(n), record, 2 * n + 2, n, RUN);
+        break;
+    case PACKED_CHOLESKY_FACTOR:
+        fill_random(n, (double)n);
+        pack(n);
+        break;
+    case PACKED_CHOLESKY_EXTEND: { /* the factor of the first half, then the rows of the second, in a */
+        const size_t old = urgyelpat_packed_length(n / 2);
+        fill_random(n, (double)n);
+        lay_end_to_end(n);
+        answer = urgyelpat_packed_cholesky_extend(NULL, 0, a, old, b, old, 0, n / 2);
+        for (size_t i = 0; i < old; i++)
+            a[i] = b[i];
+        break;
+    }
+    case PACKED_CHOLESKY_SOLVE_ONE:
+    case PACKED_CHOLESKY_SOLVE_MANY:
+        fill_random(n, (double)n);
+        pack(n);
+        answer = urgyelpat_packed_cholesky_factor(a, urgyelpat_packed_length(n), n);
+        break;
+    case PACKED_FIRST_TWIN_RANDOM:
+        fill_random(n, 0.0);
+        pack(n);
+        break;
+    case PACKED_FIRST_TWIN_NEAR:
+        fill_near(n);
+        pack(n);
+        break;
     case CALLS:
         break;
     }
@@ -178,6 +255,7 @@ __attribute__((noinline)) static uint64_t nothing(size_t n)
 
 __attribute__((noinline)) static uint64_t called(which call, size_t n)
 {
+    const size_t packed = urgyelpat_packed_length(n);
     uint64_t answer = 0;
     switch (call) {
     case EMPTY:
@@ -241,6 +319,36 @@ __attribute__((noinline)) static uint64_t called(which call, size_t n)
         break;
     case FIRST_TWIN_SINCE:
         answer = urgyelpat_first_twin_since(a, n * n, n, n / 2, n);
+        break;
+    case PACKED_LBLT_FACTOR:
+        answer = urgyelpat_packed_lblt_factor(a, packed, record, 2 * n + 2, n, RUN);
+        break;
+    case PACKED_LBLT_SOLVE_ONE:
+        answer = urgyelpat_packed_lblt_solve(a, packed, record, 2 * n + 2, b, n, n, 1, RUN);
+        break;
+    case PACKED_LBLT_SOLVE_MANY:
+        answer = urgyelpat_packed_lblt_solve(a, packed, record, 2 * n + 2, b, n * MANY, n, MANY, RUN);
+        break;
+    case PACKED_LBLT_DETERMINANT:
+        answer = urgyelpat_packed_lblt_determinant(a, packed, record, 2 * n + 2, n, RUN).answer;
+        break;
+    case PACKED_CHOLESKY_FACTOR:
+        answer = urgyelpat_packed_cholesky_factor(a, packed, n);
+        break;
+    case PACKED_CHOLESKY_EXTEND: {
+        const size_t old = urgyelpat_packed_length(n / 2);
+        answer = urgyelpat_packed_cholesky_extend(a, old, a + old, packed - old, b, packed, n / 2, n);
+        break;
+    }
+    case PACKED_CHOLESKY_SOLVE_ONE:
+        answer = urgyelpat_packed_cholesky_solve(a, packed, b, n, n, 1);
+        break;
+    case PACKED_CHOLESKY_SOLVE_MANY:
+        answer = urgyelpat_packed_cholesky_solve(a, packed, b, n * MANY, n, MANY);
+        break;
+    case PACKED_FIRST_TWIN_RANDOM:
+    case PACKED_FIRST_TWIN_NEAR:
+        answer = urgyelpat_packed_first_twin(a, packed, n);
         break;
     }
     /* after the call, so that each is a call and no jump */
@@ -307,12 +415,12 @@ int main(void)
     }
     stack = mapped + PAGE;
     const size_t empty = used(EMPTY, 0);
-    printf("bytes of stack, less those of an empty call\n%-36s", "order");
+    printf("bytes of stack, less those of an empty call\n%-43s", "order");
     for (size_t o = 0; o < count; o++)
         printf("%7zu", orders[o]);
     printf("\n");
     for (which call = EMPTY + 1; call < CALLS; call++) {
-        printf("%-36s", names[call]);
+        printf("%-43s", names[call]);
         for (size_t o = 0; o < count; o++)
             printf("%7zu", used(call, orders[o]) - empty);
         printf("\n");

@@ -32,6 +32,14 @@ pub trait Calls {
     fn pivots_from_lapack(&self, list: &[i32], info: i32, record: &mut [u32], n: usize, run: u32) -> u64;
     /// The answer, INFO and the run number.
     fn pivots_to_lapack(&self, record: &[u32], list: &mut [i32], n: usize) -> (u64, i32, u32);
+    fn packed_lblt_factor(&self, a: &mut [f64], record: &mut [u32], n: usize, run: u32) -> u64;
+    fn packed_lblt_solve(&self, a: &[f64], record: &[u32], b: &mut [f64], n: usize, columns: usize, run: u32) -> u64;
+    fn packed_lblt_determinant(&self, a: &[f64], record: &[u32], n: usize, run: u32) -> (u64, f64);
+    fn packed_cholesky_factor(&self, a: &mut [f64], n: usize) -> u64;
+    /// `rows` are the lower rows from `earlier` on, end to end.
+    fn packed_cholesky_extend(&self, old: &[f64], rows: &[f64], fresh: &mut [f64], earlier: usize, n: usize) -> u64;
+    fn packed_cholesky_solve(&self, a: &[f64], b: &mut [f64], n: usize, columns: usize) -> u64;
+    fn packed_first_twin(&self, a: &[f64], n: usize) -> u64;
 }
 
 #[derive(Clone, Copy, Debug, PartialEq, Eq, PartialOrd, Ord)]
@@ -53,6 +61,13 @@ pub enum Call {
     FirstTwin,
     PivotsFromLapack,
     PivotsToLapack,
+    PackedLbltFactor,
+    PackedLbltSolve,
+    PackedLbltDeterminant,
+    PackedCholeskyFactor,
+    PackedCholeskyExtend,
+    PackedCholeskySolve,
+    PackedFirstTwin,
 }
 
 use Call::*;
@@ -72,7 +87,7 @@ pub struct Form {
 #[derive(Clone, Copy, Debug, PartialEq, Eq)]
 pub enum Number {
     N,
-    /// The columns of `lblt_solve` and `lblt_solve_bench`, or room.
+    /// The columns of `lblt_solve`, `lblt_solve_bench` and the packed solves, the earlier order of the packed further batch, or room.
     X,
     /// Earlier order, or the columns of `cholesky_solve`.
     Y,
@@ -98,7 +113,7 @@ use Number::{Bench, Info, N, Run, X, Y};
 use Slice::{A, B, Benches, C, List, Record};
 
 #[rustfmt::skip]
-pub const FORMS: [Form; 17] = [
+pub const FORMS: [Form; 24] = [
     Form { call: LbltFactor, name: "lblt_factor", number: 1, numbers: &[N, Run], slices: &[A, Record], valued: false },
     Form { call: LbltSolve, name: "lblt_solve", number: 2, numbers: &[N, X, Run], slices: &[A, Record, B], valued: false },
     Form { call: LbltDeterminant, name: "lblt_determinant", number: 3, numbers: &[N, Run], slices: &[A, Record], valued: true },
@@ -116,6 +131,13 @@ pub const FORMS: [Form; 17] = [
     Form { call: LbltSolveBench, name: "lblt_solve_bench", number: 15, numbers: &[N, X, Bench, Run], slices: &[A, Record, B, Benches], valued: false },
     Form { call: PivotsFromLapack, name: "pivots_from_lapack", number: 16, numbers: &[N, Info, Run], slices: &[List, Record], valued: false },
     Form { call: PivotsToLapack, name: "pivots_to_lapack", number: 17, numbers: &[N], slices: &[Record, List], valued: true },
+    Form { call: PackedLbltFactor, name: "packed_lblt_factor", number: 18, numbers: &[N, Run], slices: &[A, Record], valued: false },
+    Form { call: PackedLbltSolve, name: "packed_lblt_solve", number: 19, numbers: &[N, X, Run], slices: &[A, Record, B], valued: false },
+    Form { call: PackedLbltDeterminant, name: "packed_lblt_determinant", number: 20, numbers: &[N, Run], slices: &[A, Record], valued: true },
+    Form { call: PackedCholeskyFactor, name: "packed_cholesky_factor", number: 21, numbers: &[N], slices: &[A], valued: false },
+    Form { call: PackedCholeskyExtend, name: "packed_cholesky_extend", number: 22, numbers: &[X, N], slices: &[A, B, C], valued: false },
+    Form { call: PackedCholeskySolve, name: "packed_cholesky_solve", number: 23, numbers: &[N, X], slices: &[A, B], valued: false },
+    Form { call: PackedFirstTwin, name: "packed_first_twin", number: 24, numbers: &[N], slices: &[A], valued: false },
 ];
 
 impl Call {
@@ -127,6 +149,20 @@ impl Call {
     pub fn by_steps_alone(self) -> bool {
         matches!(self, CholeskySolve | FirstTwinSince | FirstTwin)
     }
+
+    /// The call that takes the packed lower triangle where this one takes the whole matrix.
+    pub fn packed(self) -> Option<Call> {
+        match self {
+            LbltFactor => Some(PackedLbltFactor),
+            LbltSolve => Some(PackedLbltSolve),
+            LbltDeterminant => Some(PackedLbltDeterminant),
+            CholeskyFactor => Some(PackedCholeskyFactor),
+            CholeskyExtend => Some(PackedCholeskyExtend),
+            CholeskySolve => Some(PackedCholeskySolve),
+            FirstTwin => Some(PackedFirstTwin),
+            _ => None,
+        }
+    }
 }
 
 /// A call with its numbers and all that is lent to it. What a call does not take is empty or 0.
@@ -135,7 +171,7 @@ pub struct Case {
     pub call: Call,
     /// The order.
     pub n: usize,
-    /// `lblt_solve`, `lblt_solve_bench`: columns; Cholesky and twin rows: room.
+    /// `lblt_solve`, `lblt_solve_bench`, the packed solves: columns; `packed_cholesky_extend`: earlier order; Cholesky and twin rows: room.
     pub x: usize,
     /// `cholesky_extend`, `first_twin_since`: earlier order; `cholesky_solve`: columns.
     pub y: usize,
@@ -147,9 +183,9 @@ pub struct Case {
     pub info: i32,
     /// The first matrix.
     pub a: Vec<f64>,
-    /// Right-hand sides, `d`, `l` or `u`.
+    /// Right-hand sides, `d`, `l`, `u`, or the rows of the packed further batch.
     pub b: Vec<f64>,
-    /// UDU's `d`.
+    /// UDU's `d`, or the fresh buffer of the packed further batch.
     pub c: Vec<f64>,
     pub record: Vec<u32>,
     /// A bench number for each column.
@@ -232,6 +268,13 @@ impl Case {
                 let (answer, info, run) = calls.pivots_to_lapack(record, list, n);
                 (answer, Some(info_and_run(info, run)))
             }
+            PackedLbltFactor => (calls.packed_lblt_factor(a, record, n, run), None),
+            PackedLbltSolve => (calls.packed_lblt_solve(a, record, b, n, x, run), None),
+            PackedLbltDeterminant => with_value(calls.packed_lblt_determinant(a, record, n, run)),
+            PackedCholeskyFactor => (calls.packed_cholesky_factor(a, n), None),
+            PackedCholeskyExtend => (calls.packed_cholesky_extend(a, b, c, x, n), None),
+            PackedCholeskySolve => (calls.packed_cholesky_solve(a, b, n, x), None),
+            PackedFirstTwin => (calls.packed_first_twin(a, n), None),
         }
     }
 

@@ -48,6 +48,7 @@ pub mod call;
 pub mod cases;
 pub mod line;
 pub mod list;
+pub mod packed;
 pub mod pair;
 pub mod paper;
 pub mod tail;

@@ -18,7 +18,7 @@ pub const SWEEP: u64 = 9;
 pub const REPEAT: u64 = 10;
 pub const PLACES: u64 = 11;
 
-/// The most that the registers A and B, C, and R have to hold.
+/// The most that A, B and C have to hold as f64, C as bench numbers or as a list, and R.
 pub const MOST: [usize; 3] = [4096, 64, 130];
 
 pub fn step(mut x: u64) -> u64 {
@@ -83,7 +83,7 @@ impl Pattern {
     }
 
     /// How many numbers the register holds.
-    fn count(&self) -> usize {
+    pub fn count(&self) -> usize {
         self.room * self.room
     }
 
@@ -98,12 +98,12 @@ impl Pattern {
         if (i, j) == (spot.i, spot.j) { word ^ self.mask } else { word }
     }
 
-    fn words(&self, spot: Spot, count: usize) -> Vec<u64> {
+    pub fn words(&self, spot: Spot, count: usize) -> Vec<u64> {
         (0..count).map(|at| self.word(spot, at)).collect()
     }
 
     /// Every row again as itself and as every later row, and each time every entry changed. The order is at most 8.
-    fn spots(&self) -> impl Iterator<Item = Spot> + use<> {
+    pub fn spots(&self) -> impl Iterator<Item = Spot> + use<> {
         let n = self.n;
         (0..4096)
             .map(|t| Spot { p: t % 8, q: t / 8 % 8, i: t / 64 % 8, j: t / 512 })
@@ -450,9 +450,10 @@ impl<'a> Writer<'a> {
 /// The slices that a call may write.
 fn written(call: Call, slice: Slice) -> bool {
     match call {
-        Call::LbltFactor => true,
-        Call::CholeskyFactor | Call::CholeskyExtend | Call::CholeskyUnpack => true,
+        Call::LbltFactor | Call::PackedLbltFactor => true,
+        Call::CholeskyFactor | Call::CholeskyExtend | Call::CholeskyUnpack | Call::PackedCholeskyFactor => true,
         Call::PivotsFromLapack => slice == Slice::Record,
+        Call::PackedCholeskyExtend => slice == Slice::C,
         _ => matches!(slice, Slice::B | Slice::C | Slice::List),
     }
 }

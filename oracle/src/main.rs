@@ -6,7 +6,7 @@ use std::process::ExitCode;
 
 use oracle::call::Calls;
 use oracle::line::{case_line, outcome_line, parse_case};
-use oracle::{cases, paper::Paper, text::Text};
+use oracle::{cases, packed, paper::Paper, text::Text};
 
 fn main() -> ExitCode {
     let words: Vec<String> = std::env::args().skip(1).collect();
@@ -41,6 +41,12 @@ fn print_family(seed: &str) -> Result<(), Box<dyn std::error::Error>> {
     let parts = [cases::family(seed).cases, cases::solves(seed), cases::twins(seed), cases::benches(seed), cases::lists(seed)];
     for case in parts.iter().flatten() {
         writeln!(out, "{}", case_line(case))?;
+        if let Some(packed) = packed::beside(case) {
+            writeln!(out, "{}", case_line(&packed))?;
+        }
+    }
+    for (batch, _) in packed::packed_batches(&Text, &cases::packed_chain(seed)) {
+        writeln!(out, "{}", case_line(&batch))?;
     }
     Ok(out.flush()?)
 }

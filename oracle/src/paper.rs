@@ -1,34 +1,75 @@
 //! The calls, written from document 01's steps and without the text: a matrix is read and written by `a[(i, j)]`, the loops run entry by entry.
-//! Cholesky's solve, the codes of a diagonal that is turned down, the row that a mark may name, the run number, the bench's solve and LAPACK's lists
-//! are written from document 02.
+//! Cholesky's solve, the codes of a diagonal that is turned down, the row that a mark may name, the run number, the bench's solve, LAPACK's lists and
+//! packed triangles are written from document 02. The packed calls take the same steps on the packed places; nothing is unpacked.
 //! The calls for rows that came twice are written from what twin rows are: all pairs are compared, one after the other.
 
 // sums and quotients stand as the documents write them
 #![allow(clippy::assign_op_pattern)]
 
 use std::cmp::Ordering;
-use std::ops::{Index, IndexMut};
+use std::ops::{Deref, DerefMut, Index, IndexMut};
 
 use crate::call::{Calls, word};
 
 pub struct Paper;
 
-/// A lent buffer with entry (i, j) at i + j·room.
-struct Lent<'a> {
-    cells: &'a mut [f64],
-    room: usize,
+/// Where the entries of a matrix stand in a buffer.
+#[derive(Clone, Copy)]
+enum Layout {
+    Room(usize),
+    /// Document 02: the lower triangle of a matrix of this order.
+    Packed(usize),
 }
 
-impl Index<(usize, usize)> for Lent<'_> {
-    type Output = f64;
-    fn index(&self, (i, j): (usize, usize)) -> &f64 {
-        &self.cells[i + j * self.room]
+impl Layout {
+    fn length(self) -> usize {
+        match self {
+            Layout::Room(room) => room * room,
+            Layout::Packed(n) => n * (n + 1) / 2,
+        }
+    }
+
+    fn place(self, i: usize, j: usize) -> usize {
+        match self {
+            Layout::Room(room) => i + j * room,
+            Layout::Packed(n) => {
+                assert!(j <= i && i < n, "({i}, {j}) is no entry of a lower triangle of order {n}");
+                i + j * (2 * n - j - 1) / 2
+            }
+        }
     }
 }
 
-impl IndexMut<(usize, usize)> for Lent<'_> {
+/// A lent buffer and its layout.
+struct Lent<C> {
+    cells: C,
+    layout: Layout,
+}
+
+fn full<C>(cells: C, room: usize) -> Lent<C> {
+    Lent { cells, layout: Layout::Room(room) }
+}
+
+fn packed<C>(cells: C, n: usize) -> Lent<C> {
+    Lent { cells, layout: Layout::Packed(n) }
+}
+
+impl<C: Deref<Target = [f64]>> Index<(usize, usize)> for Lent<C> {
+    type Output = f64;
+    fn index(&self, (i, j): (usize, usize)) -> &f64 {
+        &self.cells[self.layout.place(i, j)]
+    }
+}
+
+impl<C: DerefMut<Target = [f64]>> IndexMut<(usize, usize)> for Lent<C> {
     fn index_mut(&mut self, (i, j): (usize, usize)) -> &mut f64 {
-        &mut self.cells[i + j * self.room]
+        &mut self.cells[self.layout.place(i, j)]
+    }
+}
+
+impl<C: Deref<Target = [f64]>> Lent<C> {
+    fn has_its_length(&self) -> bool {
+        self.cells.len() == self.layout.length()
     }
 }
 
@@ -56,7 +97,7 @@ enum Pivot {
     Two(usize),
 }
 
-impl Lent<'_> {
+impl Lent<&mut [f64]> {
     fn choose(&self, n: usize, k: usize) -> Pivot {
         let diag = size(self[(k, k)]);
         let mut imax = k + 1;
@@ -267,11 +308,11 @@ fn code(code: u64, place: usize) -> u64 {
     code << 12 | place as u64
 }
 
-fn factored(a: &[f64], record: &[u32], n: usize, other: Option<(usize, usize)>, run: u32) -> u64 {
+fn factored(a: &Lent<&[f64]>, record: &[u32], n: usize, other: Option<(usize, usize)>, run: u32) -> u64 {
     let columns = other.map_or(0, |(_, columns)| columns);
     if n > 1024 || columns > 1024 {
         code(1, 0)
-    } else if a.len() != n * n {
+    } else if !a.has_its_length() {
         code(3, 0)
     } else if record.len() != 2 * n + 2 || other.is_some_and(|(len, columns)| len != n * columns) {
         code(4, 0)
@@ -296,25 +337,110 @@ fn in_room(a: &[f64], room: usize, earlier: usize, n: usize) -> u64 {
     }
 }
 
+fn lblt_factor(mut a: Lent<&mut [f64]>, record: &mut [u32], n: usize, run: u32) -> u64 {
+    if n > 1024 {
+        return code(1, 0);
+    }
+    if !a.has_its_length() {
+        return code(3, 0);
+    }
+    if record.len() != 2 * n + 2 {
+        return code(4, 0);
+    }
+    let (mut k, mut mark) = (0, 0);
+    while k < n {
+        let pivot = a.choose(n, k);
+        let (index, block) = match pivot {
+            Pivot::Zero => (k, 1),
+            Pivot::One(p) => (p, 1),
+            Pivot::Two(p) => (p, 2),
+        };
+        match pivot {
+            Pivot::Zero if mark == 0 => mark = k as u32 + 1,
+            Pivot::Zero => {}
+            Pivot::One(p) => {
+                a.interchange(n, k, k, p);
+                a.eliminate_one(n, k);
+            }
+            Pivot::Two(p) => {
+                a.interchange(n, k, k + 1, p);
+                a.eliminate_two(n, k);
+            }
+        }
+        for row in k..k + block {
+            record[2 * row] = index as u32;
+            record[2 * row + 1] = block as u32;
+        }
+        k += block;
+    }
+    record[2 * n] = mark;
+    record[2 * n + 1] = run;
+    0
+}
+
+fn lblt_solve(a: &Lent<&[f64]>, record: &[u32], b: &mut [f64], n: usize, columns: usize, run: u32) -> u64 {
+    let refused = factored(a, record, n, Some((b.len(), columns)), run);
+    if refused != 0 {
+        return refused;
+    }
+    if record[2 * n] != 0 {
+        return code(6, record[2 * n] as usize - 1);
+    }
+    for j in 0..columns {
+        solve_column(a, &Record(record), &mut b[j * n..(j + 1) * n]);
+    }
+    0
+}
+
+fn lblt_determinant(a: &Lent<&[f64]>, record: &[u32], n: usize, run: u32) -> (u64, f64) {
+    let refused = factored(a, record, n, None, run);
+    if refused != 0 {
+        return (refused, 0.0);
+    }
+    let record = Record(record);
+    let mut product = 1.0;
+    for k in record.blocks() {
+        product *= if record.size(k) == 1 { a[(k, k)] } else { a[(k, k)] * a[(k + 1, k + 1)] - a[(k + 1, k)] * a[(k + 1, k)] };
+    }
+    (0, product)
+}
+
+/// The rows from `earlier` on, and the answer.
+fn cholesky_rows(mut a: Lent<&mut [f64]>, earlier: usize, n: usize) -> u64 {
+    (0..n).map(|j| a.cholesky_column(n, earlier, j)).find(|&answer| answer != 0).unwrap_or(0)
+}
+
+/// Rows p < q are twins if entry (q, k) of the symmetric matrix is entry (p, k) for every k: the same bits, or both NaN.
+fn first_twin_since(a: &Lent<&[f64]>, earlier: usize, n: usize) -> u64 {
+    let entry = |i: usize, j: usize| word(a[(i.max(j), i.min(j))]);
+    for q in earlier..n {
+        for p in 0..q {
+            if (0..n).all(|k| entry(q, k) == entry(p, k)) {
+                return code(4096 + q as u64, p);
+            }
+        }
+    }
+    0
+}
+
 /// One right-hand side.
-fn solve_column(a: &[f64], record: &Record, b: &mut [f64]) {
+fn solve_column(l: &Lent<&[f64]>, record: &Record, b: &mut [f64]) {
     let n = b.len();
-    let l = |i: usize, j: usize| a[i + j * n];
     let blocks = record.blocks();
     for &k in &blocks {
         let last = k + record.size(k) - 1;
         b.swap(last, record.index(k));
         for i in last + 1..n {
             for c in k..=last {
-                b[i] = b[i] - l(i, c) * b[c];
+                b[i] = b[i] - l[(i, c)] * b[c];
             }
         }
     }
     for &k in &blocks {
         if record.size(k) == 1 {
-            b[k] = b[k] / l(k, k);
+            b[k] = b[k] / l[(k, k)];
         } else {
-            let (d11, d22, d21) = (l(k, k), l(k + 1, k + 1), l(k + 1, k));
+            let (d11, d22, d21) = (l[(k, k)], l[(k + 1, k + 1)], l[(k + 1, k)]);
             let det = d11 * d22 - d21 * d21;
             let (x, y) = (b[k], b[k + 1]);
             b[k] = (x * d22 - y * d21) / det;
@@ -325,7 +451,7 @@ fn solve_column(a: &[f64], record: &Record, b: &mut [f64]) {
         let last = k + record.size(k) - 1;
         for c in (k..=last).rev() {
             for i in last + 1..n {
-                b[c] = b[c] - l(i, c) * b[i];
+                b[c] = b[c] - l[(i, c)] * b[i];
             }
         }
         b.swap(last, record.index(k));
@@ -333,77 +459,29 @@ fn solve_column(a: &[f64], record: &Record, b: &mut [f64]) {
 }
 
 /// Document 02: one right-hand side by the factor l.
-fn solve_triangles(l: impl Fn(usize, usize) -> f64, b: &mut [f64]) {
+fn solve_triangles(l: &Lent<&[f64]>, b: &mut [f64]) {
     let n = b.len();
     for i in 0..n {
-        b[i] = b[i] / l(i, i);
+        b[i] = b[i] / l[(i, i)];
         for r in i + 1..n {
-            b[r] = b[r] + (-b[i]) * l(r, i);
+            b[r] = b[r] + (-b[i]) * l[(r, i)];
         }
     }
     for i in (0..n).rev() {
         for r in i + 1..n {
-            b[i] = b[i] - l(r, i) * b[r];
+            b[i] = b[i] - l[(r, i)] * b[r];
         }
-        b[i] = b[i] / l(i, i);
+        b[i] = b[i] / l[(i, i)];
     }
 }
 
 impl Calls for Paper {
     fn lblt_factor(&self, a: &mut [f64], record: &mut [u32], n: usize, run: u32) -> u64 {
-        if n > 1024 {
-            return code(1, 0);
-        }
-        if a.len() != n * n {
-            return code(3, 0);
-        }
-        if record.len() != 2 * n + 2 {
-            return code(4, 0);
-        }
-        let mut a = Lent { cells: a, room: n };
-        let (mut k, mut mark) = (0, 0);
-        while k < n {
-            let pivot = a.choose(n, k);
-            let (index, block) = match pivot {
-                Pivot::Zero => (k, 1),
-                Pivot::One(p) => (p, 1),
-                Pivot::Two(p) => (p, 2),
-            };
-            match pivot {
-                Pivot::Zero if mark == 0 => mark = k as u32 + 1,
-                Pivot::Zero => {}
-                Pivot::One(p) => {
-                    a.interchange(n, k, k, p);
-                    a.eliminate_one(n, k);
-                }
-                Pivot::Two(p) => {
-                    a.interchange(n, k, k + 1, p);
-                    a.eliminate_two(n, k);
-                }
-            }
-            for row in k..k + block {
-                record[2 * row] = index as u32;
-                record[2 * row + 1] = block as u32;
-            }
-            k += block;
-        }
-        record[2 * n] = mark;
-        record[2 * n + 1] = run;
-        0
+        lblt_factor(full(a, n), record, n, run)
     }
 
     fn lblt_solve(&self, a: &[f64], record: &[u32], b: &mut [f64], n: usize, columns: usize, run: u32) -> u64 {
-        let refused = factored(a, record, n, Some((b.len(), columns)), run);
-        if refused != 0 {
-            return refused;
-        }
-        if record[2 * n] != 0 {
-            return code(6, record[2 * n] as usize - 1);
-        }
-        for j in 0..columns {
-            solve_column(a, &Record(record), &mut b[j * n..(j + 1) * n]);
-        }
-        0
+        lblt_solve(&full(a, n), record, b, n, columns, run)
     }
 
     fn lblt_solve_bench(
@@ -440,28 +518,18 @@ impl Calls for Paper {
         }
         for j in 0..columns {
             if benches[j] == bench {
-                solve_column(a, &Record(record), &mut b[j * n..(j + 1) * n]);
+                solve_column(&full(a, n), &Record(record), &mut b[j * n..(j + 1) * n]);
             }
         }
         0
     }
 
     fn lblt_determinant(&self, a: &[f64], record: &[u32], n: usize, run: u32) -> (u64, f64) {
-        let refused = factored(a, record, n, None, run);
-        if refused != 0 {
-            return (refused, 0.0);
-        }
-        let record = Record(record);
-        let mut product = 1.0;
-        for k in record.blocks() {
-            let at = k + k * n;
-            product *= if record.size(k) == 1 { a[at] } else { a[at] * a[at + 1 + n] - a[at + 1] * a[at + 1] };
-        }
-        (0, product)
+        lblt_determinant(&full(a, n), record, n, run)
     }
 
     fn lblt_d(&self, a: &[f64], record: &[u32], d: &mut [f64], n: usize, run: u32) -> u64 {
-        let refused = factored(a, record, n, Some((d.len(), n)), run);
+        let refused = factored(&full(a, n), record, n, Some((d.len(), n)), run);
         if refused == 0 {
             let record = Record(record);
             d.fill(0.0);
@@ -478,7 +546,7 @@ impl Calls for Paper {
     }
 
     fn lblt_l_permuted(&self, a: &[f64], record: &[u32], l: &mut [f64], n: usize, run: u32) -> u64 {
-        let refused = factored(a, record, n, Some((l.len(), n)), run);
+        let refused = factored(&full(a, n), record, n, Some((l.len(), n)), run);
         if refused == 0 {
             let record = Record(record);
             for (at, x) in l.iter_mut().enumerate() {
@@ -510,8 +578,7 @@ impl Calls for Paper {
         if refused != 0 {
             return refused;
         }
-        let mut a = Lent { cells: a, room };
-        (0..n).map(|j| a.cholesky_column(n, earlier, j)).find(|&answer| answer != 0).unwrap_or(0)
+        cholesky_rows(full(a, room), earlier, n)
     }
 
     fn cholesky_solve(&self, a: &[f64], b: &mut [f64], room: usize, n: usize, columns: usize) -> u64 {
@@ -526,7 +593,7 @@ impl Calls for Paper {
             return code(4, 0);
         }
         for j in 0..columns {
-            solve_triangles(|i, k| a[i + k * room], &mut b[j * n..(j + 1) * n]);
+            solve_triangles(&full(a, room), &mut b[j * n..(j + 1) * n]);
         }
         0
     }
@@ -579,7 +646,7 @@ impl Calls for Paper {
         }
         u.fill(0.0);
         d.fill(0.0);
-        let mut u = Lent { cells: u, room: n };
+        let mut u = full(u, n);
         let p = |i: usize, j: usize| p[i + j * n];
         for j in (0..n).rev() {
             let mut sum = 0.0;
@@ -609,21 +676,12 @@ impl Calls for Paper {
         0
     }
 
-    /// Rows p < q are twins if entry (q, k) of the symmetric matrix is entry (p, k) for every k: the same bits, or both NaN.
     fn first_twin_since(&self, a: &[f64], room: usize, earlier: usize, n: usize) -> u64 {
         let refused = in_room(a, room, earlier, n);
         if refused != 0 {
             return refused;
         }
-        let entry = |i: usize, j: usize| word(a[i.max(j) + i.min(j) * room]);
-        for q in earlier..n {
-            for p in 0..q {
-                if (0..n).all(|k| entry(q, k) == entry(p, k)) {
-                    return code(4096 + q as u64, p);
-                }
-            }
-        }
-        0
+        first_twin_since(&full(a, room), earlier, n)
     }
 
     fn first_twin(&self, a: &[f64], room: usize, n: usize) -> u64 {
@@ -671,5 +729,79 @@ impl Calls for Paper {
             }
         }
         (0, record.0[2 * n] as i32, record.0[2 * n + 1])
+    }
+
+    fn packed_lblt_factor(&self, a: &mut [f64], record: &mut [u32], n: usize, run: u32) -> u64 {
+        lblt_factor(packed(a, n), record, n, run)
+    }
+
+    fn packed_lblt_solve(&self, a: &[f64], record: &[u32], b: &mut [f64], n: usize, columns: usize, run: u32) -> u64 {
+        lblt_solve(&packed(a, n), record, b, n, columns, run)
+    }
+
+    fn packed_lblt_determinant(&self, a: &[f64], record: &[u32], n: usize, run: u32) -> (u64, f64) {
+        lblt_determinant(&packed(a, n), record, n, run)
+    }
+
+    fn packed_cholesky_factor(&self, a: &mut [f64], n: usize) -> u64 {
+        let a = packed(a, n);
+        if n > 1024 {
+            return code(1, 0);
+        }
+        if !a.has_its_length() {
+            return code(3, 0);
+        }
+        cholesky_rows(a, 0, n)
+    }
+
+    fn packed_cholesky_extend(&self, old: &[f64], rows: &[f64], fresh: &mut [f64], earlier: usize, n: usize) -> u64 {
+        let (old, mut new) = (packed(old, earlier), packed(fresh, n));
+        if n > 1024 || earlier > 1024 {
+            return code(1, 0);
+        }
+        if earlier > n {
+            return code(2, 0);
+        }
+        if !old.has_its_length() {
+            return code(3, 0);
+        }
+        if rows.len() != new.layout.length() - old.layout.length() || !new.has_its_length() {
+            return code(4, 0);
+        }
+        for i in 0..n {
+            for j in 0..=i {
+                // all lower rows before row i have i·(i+1)/2 numbers
+                new[(i, j)] = if i < earlier { old[(i, j)] } else { rows[i * (i + 1) / 2 - old.layout.length() + j] };
+            }
+        }
+        cholesky_rows(new, earlier, n)
+    }
+
+    fn packed_cholesky_solve(&self, a: &[f64], b: &mut [f64], n: usize, columns: usize) -> u64 {
+        let l = packed(a, n);
+        if n > 1024 || columns > 1024 {
+            return code(1, 0);
+        }
+        if !l.has_its_length() {
+            return code(3, 0);
+        }
+        if b.len() != n * columns {
+            return code(4, 0);
+        }
+        for j in 0..columns {
+            solve_triangles(&l, &mut b[j * n..(j + 1) * n]);
+        }
+        0
+    }
+
+    fn packed_first_twin(&self, a: &[f64], n: usize) -> u64 {
+        let a = packed(a, n);
+        if n > 1024 {
+            return code(1, 0);
+        }
+        if !a.has_its_length() {
+            return code(3, 0);
+        }
+        first_twin_since(&a, 0, n)
     }
 }

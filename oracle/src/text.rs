@@ -3,14 +3,15 @@
 //! The text itself answers `LBLT::new`, `solve_mut`, `determinant`, `d`, `l_permuted`, `Cholesky::new`, `l`, `unpack`, `determinant` and
 //! `UDU::new`. What follows document 01 because the text says nothing of it is marked "document 01": the checks before a call, the room, the
 //! further batch, and what stays in the buffers after a refusal. Marked "document 02" are the codes of a diagonal that is turned down, the row that a
-//! mark may name, the run number, which columns are a bench's, and LAPACK's lists: each number of a list is a pair of a record, and the record's rule
-//! is the list's. The text has no call for rows that came twice, and its Cholesky solve rests on triangular solves that it does not contain: the steps
-//! answer these calls here too.
+//! mark may name, the run number, which columns are a bench's, LAPACK's lists: each number of a list is a pair of a record, and the record's rule
+//! is the list's; and packed triangles: they are unpacked, answered in the full layout and packed again. The text has no call for rows that came twice,
+//! and its Cholesky solve rests on triangular solves that it does not contain: the steps answer these calls here too, in the full layout.
 
 use crate::call::{Calls, mark, pairs, record_length};
 use crate::linalg::cholesky::Cholesky;
 use crate::linalg::lblt::{LBLT, parts};
 use crate::linalg::udu::UDU;
+use crate::packed::{pack, packed_length, unpack};
 use crate::paper::Paper;
 use crate::tail::trailing;
 use crate::{Dyn, OMatrix};
@@ -32,7 +33,7 @@ fn refusal(code: u64, place: usize) -> u64 {
 
 /// Document 01: the checks before a call, in the order of the table.
 mod checks {
-    use super::{MOST, record_length, refusal};
+    use super::{MOST, packed_length, record_length, refusal};
 
     pub fn counts(counts: &[usize]) -> Option<u64> {
         counts.iter().any(|&c| c > MOST).then(|| refusal(1, 0))
@@ -96,6 +97,11 @@ mod checks {
     /// The record's length by document 02.
     pub fn factored(a: &[f64], words: &[u32], n: usize) -> Option<u64> {
         counts(&[n]).or_else(|| first(a.len(), n * n)).or_else(|| another(words.len(), record_length(n)))
+    }
+
+    /// Document 02.
+    pub fn packed(a: &[f64], n: usize) -> Option<u64> {
+        counts(&[n]).or_else(|| first(a.len(), packed_length(n)))
     }
 
     pub fn in_room(a: &[f64], room: usize, earlier: usize, n: usize) -> Option<u64> {
@@ -373,6 +379,68 @@ impl Calls for Text {
         let number = |pair: &[u32]| if pair[1] == 1 { pair[0] as i32 + 1 } else { -(pair[0] as i32 + 1) };
         list.copy_from_slice(&pairs(record).map(number).collect::<Vec<_>>());
         (DONE, mark(record) as i32, record[2 * n + 1])
+    }
+
+    fn packed_lblt_factor(&self, a: &mut [f64], record: &mut [u32], n: usize, run: u32) -> u64 {
+        checks::packed(a, n).unwrap_or_else(|| {
+            let mut whole = unpack(a, n);
+            let answer = self.lblt_factor(&mut whole, record, n, run);
+            a.copy_from_slice(&pack(&whole, n, n));
+            answer
+        })
+    }
+
+    fn packed_lblt_solve(&self, a: &[f64], record: &[u32], b: &mut [f64], n: usize, columns: usize, run: u32) -> u64 {
+        let refused = checks::counts(&[columns]).or_else(|| checks::packed(a, n));
+        refused.unwrap_or_else(|| self.lblt_solve(&unpack(a, n), record, b, n, columns, run))
+    }
+
+    fn packed_lblt_determinant(&self, a: &[f64], record: &[u32], n: usize, run: u32) -> (u64, f64) {
+        match checks::packed(a, n) {
+            Some(refused) => (refused, 0.0),
+            None => self.lblt_determinant(&unpack(a, n), record, n, run),
+        }
+    }
+
+    fn packed_cholesky_factor(&self, a: &mut [f64], n: usize) -> u64 {
+        checks::packed(a, n).unwrap_or_else(|| {
+            let mut whole = unpack(a, n);
+            let answer = self.cholesky_factor(&mut whole, n, n);
+            a.copy_from_slice(&pack(&whole, n, n));
+            answer
+        })
+    }
+
+    /// Document 02: the old factor and the new rows in one room, and there the further batch.
+    fn packed_cholesky_extend(&self, old: &[f64], rows: &[f64], fresh: &mut [f64], earlier: usize, n: usize) -> u64 {
+        let refused = checks::counts(&[earlier, n])
+            .or_else(|| checks::orders(n, earlier, n))
+            .or_else(|| checks::packed(old, earlier))
+            .or_else(|| checks::another(rows.len(), packed_length(n) - packed_length(earlier)))
+            .or_else(|| checks::another(fresh.len(), packed_length(n)));
+        if let Some(refused) = refused {
+            return refused;
+        }
+        let mut whole = vec![f64::NAN; n * n];
+        put_leading(&mut whole, n, earlier, &unpack(old, earlier));
+        let mut numbers = rows.iter();
+        for i in earlier..n {
+            for (j, &x) in numbers.by_ref().take(i + 1).enumerate() {
+                whole[i + j * n] = x;
+            }
+        }
+        let answer = self.cholesky_extend(&mut whole, n, earlier, n);
+        fresh.copy_from_slice(&pack(&whole, n, n));
+        answer
+    }
+
+    fn packed_cholesky_solve(&self, a: &[f64], b: &mut [f64], n: usize, columns: usize) -> u64 {
+        let refused = checks::counts(&[columns]).or_else(|| checks::packed(a, n));
+        refused.unwrap_or_else(|| self.cholesky_solve(&unpack(a, n), b, n, n, columns))
+    }
+
+    fn packed_first_twin(&self, a: &[f64], n: usize) -> u64 {
+        checks::packed(a, n).unwrap_or_else(|| self.first_twin(&unpack(a, n), n, n))
     }
 }
 

@@ -1,14 +1,15 @@
-//! Document 01's cases and document 02's codes of a diagonal, rows of a mark, run numbers, benches, LAPACK's lists and tails of UDU, answered by the
-//! text and by the steps; Cholesky's solve and rows that came twice, by the steps.
+//! Document 01's cases and document 02's codes of a diagonal, rows of a mark, run numbers, benches, LAPACK's lists, packed triangles and tails of UDU,
+//! answered by the text and by the steps; Cholesky's solve and rows that came twice, by the steps.
 
 use std::hint::black_box;
 
 use oracle::RealField;
 use oracle::back;
 use oracle::call::{Call, Calls, Case, word, words};
-use oracle::cases::{fill, filled};
+use oracle::cases::{Chain, fill, filled};
 use oracle::line::{case_line, outcome_line, parse_case};
 use oracle::list::Machine;
+use oracle::packed;
 use oracle::pair;
 use oracle::paper::Paper;
 use oracle::tail::{block, tail};
@@ -611,6 +612,328 @@ fn cholesky_solve() {
     assert_eq!(refused(1, 2, 1, [0, 0]), 2);
     assert_eq!([refused(2, 1, 1, [3, 0]), refused(1024, 1024, 1024, [0, 0])], [3; 2]);
     assert_eq!([refused(2, 1, 2, [4, 1]), refused(2, 1, 2, [4, 3])], [4; 2]);
+}
+
+/// The lower rows of a matrix, packed by document 02's places.
+fn packed_rows(n: usize, lower: &[f64]) -> Vec<f64> {
+    let mut out = vec![f64::NAN; n * (n + 1) / 2];
+    for i in 0..n {
+        for j in 0..=i {
+            out[i + j * (2 * n - j - 1) / 2] = lower[i * (i + 1) / 2 + j];
+        }
+    }
+    out
+}
+
+/// Document 02: entry (i, j) at i + j·(2n−j−1)/2, which is i + j·n − j·(j+1)/2; the length is n·(n+1)/2.
+#[test]
+fn packed_places() {
+    assert_eq!(packed_rows(0, &[]), []);
+    assert_eq!(packed_rows(1, &[0.0]), [0.0]);
+    assert_eq!(packed_rows(2, &[0.0, 10.0, 11.0]), [0.0, 10.0, 11.0]);
+    assert_eq!(packed_rows(3, &[0.0, 10.0, 11.0, 20.0, 21.0, 22.0]), [0.0, 10.0, 20.0, 11.0, 21.0, 22.0]);
+    let four = [0.0, 10.0, 11.0, 20.0, 21.0, 22.0, 30.0, 31.0, 32.0, 33.0];
+    assert_eq!(packed_rows(4, &four), [0.0, 10.0, 20.0, 30.0, 11.0, 21.0, 31.0, 22.0, 32.0, 33.0]);
+    for n in [0, 1, 2, 3, 7, 64, 1024] {
+        let lower = filled(n * (n + 1) / 2);
+        let whole = matrix(n, &lower);
+        assert_eq!(packed::packed_length(n), lower.len());
+        assert_eq!(packed::pack(&whole, n, n), packed_rows(n, &lower));
+        let unpacked = packed::unpack(&packed_rows(n, &lower), n);
+        for j in 0..n {
+            assert!((0..j).all(|i| unpacked[i + j * n].is_nan()));
+            assert!((j..n).all(|i| i + j * (2 * n - j - 1) / 2 == i + j * n - j * (j + 1) / 2));
+            assert_eq!(unpacked[j + j * n..(j + 1) * n], whole[j + j * n..(j + 1) * n]);
+        }
+    }
+    // the diagonal of order 3 at 0, 3 and 5
+    for calls in BOTH {
+        let a = [2.0, f64::NAN, f64::NAN, 3.0, f64::NAN, 5.0];
+        assert_eq!(calls.packed_lblt_determinant(&a, &[0, 1, 1, 1, 2, 1, 0, RUN], 3, RUN), (0, 30.0));
+    }
+}
+
+#[test]
+fn packed_lblt() {
+    for calls in BOTH {
+        let factored = |n: usize, lower: &[f64]| {
+            let (mut a, mut record) = (packed_rows(n, lower), vec![9; 2 * n + 2]);
+            assert_eq!(calls.packed_lblt_factor(&mut a, &mut record, n, RUN), 0);
+            (a, record)
+        };
+        let (a, record) = factored(2, &[0.0, 1.0, 0.0]);
+        assert_eq!(record, [1, 2, 1, 2, 0, RUN]);
+        assert_eq!(calls.packed_lblt_determinant(&a, &record, 2, RUN), (0, -1.0));
+        let mut b = [3.0, 5.0];
+        assert_eq!(calls.packed_lblt_solve(&a, &record, &mut b, 2, 1, RUN), 0);
+        assert_eq!(b, [5.0, 3.0]);
+
+        let (a, record) = factored(2, &[0.0, 1.0, 4.0]);
+        assert_eq!((&a[..], &record[..]), (&[4.0, 0.25, -0.25][..], &[1, 1, 1, 1, 0, RUN][..]));
+        let (a, record) = factored(2, &[4.0, 2.0, 3.0]);
+        assert_eq!((&a[..], &record[..]), (&[4.0, 0.5, 2.0][..], &[0, 1, 1, 1, 0, RUN][..]));
+        assert_eq!(calls.packed_lblt_determinant(&a, &record, 2, RUN), (0, 8.0));
+
+        // rows 0 and 2 are exchanged
+        let (a, record) = factored(3, &[3.0, 0.0, 4.0, 8.0, 0.0, 16.0]);
+        assert_eq!(&record[..2], [2, 1]);
+        assert_eq!(a, packed_rows(3, &[16.0, 0.0, 4.0, 0.5, 0.0, -1.0]));
+
+        let (a, record) = factored(2, &[0.0, f64::NAN, 5.0]);
+        assert_eq!(record, [0, 1, 1, 1, 1, RUN]);
+        assert_eq!(calls.packed_lblt_solve(&a, &record, &mut b, 2, 1, RUN), 6 * 4096);
+        assert_eq!(calls.packed_lblt_solve(&a, &record, &mut b, 2, 1, RUN + 1), 13 * 4096);
+        assert_eq!(calls.packed_lblt_determinant(&a, &record, 2, RUN + 1), (13 * 4096, 0.0));
+        assert_eq!(calls.packed_lblt_solve(&a, &[0, 1, 1, 1, 3, RUN], &mut b, 2, 1, RUN + 1), 5 * 4096 + 2);
+        assert_eq!(calls.packed_lblt_determinant(&a, &[0, 2, 1, 1, 0, RUN], 2, RUN), (5 * 4096, 0.0));
+        assert_eq!(b, [5.0, 3.0]);
+        // order 0
+        assert_eq!(factored(0, &[]), (vec![], vec![0, RUN]));
+        assert_eq!(calls.packed_lblt_determinant(&[], &[0, RUN], 0, RUN), (0, 1.0));
+        assert_eq!(calls.packed_lblt_solve(&[], &[0, RUN], &mut [], 0, 1024, RUN), 0);
+    }
+}
+
+#[test]
+fn packed_cholesky() {
+    for calls in BOTH {
+        let factored = |n: usize, lower: &[f64]| {
+            let mut a = packed_rows(n, lower);
+            (calls.packed_cholesky_factor(&mut a, n), words(&a))
+        };
+        assert_eq!(factored(0, &[]), (0, vec![]));
+        assert_eq!(factored(1, &[4.0]), (0, words(&[2.0])));
+        assert_eq!(factored(2, &[4.0, 2.0, 5.0]), (0, words(&[2.0, 1.0, 2.0])));
+        assert_eq!(factored(2, &[1.0, 1.0, 1.0]), (7 * 4096 + 1, words(&[1.0, 1.0, 0.0])));
+        assert_eq!(factored(3, &[4.0, 2.0, 5.0, 6.0, 7.0, 22.0]), (0, words(&packed_rows(3, &[2.0, 1.0, 2.0, 3.0, 2.0, 3.0]))));
+        // refused at row 1: column 1 is updated and undivided, column 2 as given
+        assert_eq!(
+            factored(3, &[4.0, 2.0, 0.0, 6.0, 7.0, 22.0]),
+            (10 * 4096 + 1, words(&packed_rows(3, &[2.0, 1.0, -1.0, 3.0, 4.0, 22.0])))
+        );
+        for (x, code) in [(-0.0, 7), (-1.0, 10), (f64::NAN, 11)] {
+            assert_eq!(factored(1, &[x]), (code * 4096, words(&[x])));
+        }
+        let mut b = [8.0, 9.0, -8.0, -9.0];
+        assert_eq!(calls.packed_cholesky_solve(&[2.0, 1.0, 2.0], &mut b, 2, 2), 0);
+        assert_eq!(b, [1.375, 1.25, -1.375, -1.25]);
+        assert_eq!(calls.packed_cholesky_solve(&[], &mut [], 0, 1024), 0);
+        let pair = |p: u64, q: u64| (4096 + q) * 4096 + p;
+        assert_eq!(calls.packed_first_twin(&[1.0, 1.0, 1.0], 2), pair(0, 1));
+        assert_eq!(calls.packed_first_twin(&[1.0, 1.0, 2.0], 2), 0);
+        assert_eq!(calls.packed_first_twin(&packed_rows(3, &[4.0, 2.0, 5.0, 4.0, 2.0, 4.0]), 3), pair(0, 2));
+        assert_eq!(calls.packed_first_twin(&packed_rows(3, &[4.0, 2.0, 5.0, 2.0, 5.0, 5.0]), 3), pair(1, 2));
+        assert_eq!([calls.packed_first_twin(&[], 0), calls.packed_first_twin(&[1.0], 1)], [0; 2]);
+    }
+}
+
+/// Document 02: the old packed factor, the new lower rows end to end, a new buffer.
+#[test]
+fn packed_batches() {
+    for calls in BOTH {
+        let extended = |old: &[f64], rows: &[f64], earlier: usize, n: usize| {
+            let mut fresh = filled(n * (n + 1) / 2);
+            (calls.packed_cholesky_extend(old, rows, &mut fresh, earlier, n), words(&fresh))
+        };
+        assert_eq!(extended(&[1.0], &[1.0, 1.0], 1, 2), (7 * 4096 + 1, words(&[1.0, 1.0, 0.0])));
+        assert_eq!(extended(&[], &[], 0, 0), (0, vec![]));
+        assert_eq!(extended(&[], &[4.0], 0, 1), (0, words(&[2.0])));
+        assert_eq!(extended(&[2.0], &[2.0, 5.0], 1, 2), (0, words(&[2.0, 1.0, 2.0])));
+        let whole = words(&packed_rows(3, &[2.0, 1.0, 2.0, 3.0, 2.0, 3.0]));
+        assert_eq!(extended(&[], &[4.0, 2.0, 5.0, 6.0, 7.0, 22.0], 0, 3), (0, whole.clone()));
+        assert_eq!(extended(&[2.0], &[2.0, 5.0, 6.0, 7.0, 22.0], 1, 3), (0, whole.clone()));
+        assert_eq!(extended(&[2.0, 1.0, 2.0], &[6.0, 7.0, 22.0], 2, 3), (0, whole.clone()));
+        // no rows: the old factor, whatever its numbers
+        assert_eq!(extended(&packed_rows(3, &[2.0, 1.0, 2.0, 3.0, 2.0, 3.0]), &[], 3, 3), (0, whole));
+        assert_eq!(extended(&[f64::NAN, -1.0, 0.0], &[], 2, 2), (0, words(&[f64::NAN, -1.0, 0.0])));
+        // refused at the first of two new rows: the second is updated in that column and as given after it
+        let left = packed_rows(3, &[2.0, 1.0, -1.0, 3.0, 4.0, 22.0]);
+        assert_eq!(extended(&[2.0], &[2.0, 0.0, 6.0, 7.0, 22.0], 1, 3), (10 * 4096 + 1, words(&left)));
+        // the diagonal of an old row is not tested
+        assert_eq!(extended(&[-2.0], &[2.0, 5.0], 1, 2), (0, words(&[-2.0, -1.0, 2.0])));
+    }
+}
+
+/// Document 02: 1, 2, 3 for the first packed matrix, 4 for the other slices; nothing is written.
+#[test]
+fn packed_refused() {
+    for calls in BOTH {
+        let batch = |earlier: usize, n: usize, lens: [usize; 3]| {
+            let mut fresh = filled(lens[2]);
+            let answer = calls.packed_cholesky_extend(&filled(lens[0]), &filled(lens[1]), &mut fresh, earlier, n);
+            assert_eq!(words(&fresh), words(&filled(lens[2])));
+            (answer / 4096, answer % 4096)
+        };
+        for far in [1025, 1 << 32, 1 << 63, usize::MAX] {
+            assert_eq!([batch(far, 1, [0; 3]), batch(1, far, [0; 3]), batch(far, far, [0; 3])], [(1, 0); 3]);
+        }
+        assert_eq!([batch(2, 1, [0; 3]), batch(1024, 1023, [0; 3])], [(2, 0); 2]);
+        // rows 2 and 3 after two: 3, 7 and 10 numbers
+        for old in [0, 2, 4, 10] {
+            assert_eq!([batch(2, 4, [old, 7, 10]), batch(2, 4, [old, 0, 0])], [(3, 0); 2]);
+        }
+        for (rows, fresh) in [(0, 10), (6, 10), (8, 10), (10, 10), (7, 0), (7, 9), (7, 11), (7, 16), (6, 11)] {
+            assert_eq!(batch(2, 4, [3, rows, fresh]), (4, 0));
+        }
+        let others = |n: usize, columns: usize, lens: [usize; 3]| {
+            let (a, words) = (filled(lens[0]), vec![9; lens[1]]);
+            let (mut factor, mut root, mut record) = (a.clone(), a.clone(), words.clone());
+            let (mut b, mut c) = (filled(lens[2]), filled(lens[2]));
+            let (determined, value) = calls.packed_lblt_determinant(&a, &words, n, RUN);
+            let answers = [
+                calls.packed_lblt_factor(&mut factor, &mut record, n, RUN),
+                calls.packed_lblt_solve(&a, &words, &mut b, n, columns, RUN),
+                determined,
+                calls.packed_cholesky_factor(&mut root, n),
+                calls.packed_cholesky_solve(&a, &mut c, n, columns),
+                calls.packed_first_twin(&a, n),
+            ];
+            assert_eq!(value.to_bits(), 0);
+            assert!((factor == a || answers[0] == 0) && (root == a || matches!(answers[3] / 4096, 0 | 7 | 10 | 11)));
+            assert!(record == words || answers[0] == 0);
+            assert!((b == filled(lens[2]) || answers[1] == 0) && (c == filled(lens[2]) || answers[4] == 0));
+            answers.map(|answer| answer / 4096)
+        };
+        for far in [1025, 1 << 32, 1 << 63, usize::MAX] {
+            assert_eq!(others(far, 1, [0; 3]), [1; 6]);
+            assert_eq!(others(2, far, [4, 0, 0]), [3, 1, 3, 3, 1, 3]);
+        }
+        // order 2: 3 numbers, 6 words; a full matrix has 4
+        for len in [0, 1, 2, 4, 5] {
+            assert_eq!(others(2, 1, [len, 6, 2]), [3; 6]);
+            assert_eq!(others(2, 1, [len, 0, 0]), [3; 6]);
+        }
+        for words in [0, 5, 7] {
+            assert_eq!(others(2, 1, [3, words, 2])[..3], [4; 3]);
+        }
+        for sides in [0, 1, 3, 4] {
+            let answers = others(2, 1, [3, 6, sides]);
+            assert_eq!([answers[1], answers[4]], [4; 2]);
+        }
+        assert_eq!(others(1024, 1024, [0; 3]), [3; 6]);
+    }
+}
+
+/// A packed call by what the full one leaves; a chain of new buffers by the one call and by the batches in a room.
+#[test]
+fn packed_beside_full() {
+    let a = matrix(3, &[4.0, 2.0, 5.0, 6.0, 7.0, 22.0]);
+    let twins = matrix(3, &[4.0, 2.0, 5.0, 2.0, 5.0, 5.0]);
+    let wide: Vec<f64> = (0..25).map(|at| if at % 5 < 3 && at < 15 { a[at / 5 * 3 + at % 5] } else { f64::NAN }).collect();
+    let full = [
+        Case { run: RUN, record: vec![9; 8], ..Case::new(Call::LbltFactor, 3, a.clone()) },
+        Case { x: 1, run: RUN, record: vec![0, 1, 2, 2, 2, 2, 0, RUN], b: filled(3), ..Case::new(Call::LbltSolve, 3, a.clone()) },
+        Case { run: RUN, record: vec![0, 1, 2, 2, 2, 2, 0, RUN], ..Case::new(Call::LbltDeterminant, 3, a.clone()) },
+        Case { x: 3, ..Case::new(Call::CholeskyFactor, 3, twins.clone()) },
+        Case { x: 5, y: 1, ..Case::new(Call::CholeskyExtend, 3, wide.clone()) },
+        Case { x: 5, y: 4, ..Case::new(Call::CholeskyExtend, 3, wide.clone()) },
+        Case { x: 5, y: 2, b: filled(6), ..Case::new(Call::CholeskySolve, 3, wide.clone()) },
+        Case { x: 3, ..Case::new(Call::FirstTwin, 3, twins.clone()) },
+        Case { x: 3, ..Case::new(Call::FirstTwin, 2, vec![1.0; 3]) },
+    ];
+    let codes = [0, 0, 0, 7, 0, 2, 0, 4096 + 2, 3];
+    for (full, code) in full.iter().zip(codes) {
+        let beside = packed::beside(full).expect("a packed call");
+        for calls in BOTH {
+            let left = full.outcome(calls);
+            assert_eq!(left.answer / 4096, code);
+            assert_eq!(beside.outcome(calls), packed::kept(&beside, full, &left));
+        }
+    }
+    assert!(packed::beside(&Case { x: 1, ..Case::new(Call::CholeskyFactor, 2, vec![1.0]) }).is_none(), "order above room");
+    assert!(packed::beside(&Case::new(Call::LbltD, 0, vec![])).is_none());
+    let refused_at_one = matrix(3, &[4.0, 2.0, 1.0, 6.0, 7.0, 22.0]);
+    for (a, cuts, answers) in [
+        (&a, vec![0, 1, 1, 3], vec![0, 0, 0, 0]),
+        (&a, vec![2], vec![0]),
+        (&twins, vec![1, 2, 3], vec![0, 0, 7 * 4096 + 2]),
+        (&twins, vec![2, 2], vec![0, 0]),
+        (&refused_at_one, vec![1, 2, 3], vec![0, 7 * 4096 + 1]),
+        (&refused_at_one, vec![3], vec![7 * 4096 + 1]),
+        (&refused_at_one, vec![1], vec![0]),
+    ] {
+        let chain = Chain { a: a.clone(), n: 3, room: 3, cuts };
+        let whole = packed::whole(&chain);
+        for calls in BOTH {
+            let batches = packed::packed_batches(calls, &chain);
+            assert_eq!(batches.iter().map(|(_, left)| left.answer).collect::<Vec<_>>(), answers);
+            for ((batch, left), (full, by_full)) in batches.iter().zip(&packed::full_batches(calls, &chain)) {
+                assert_eq!(*left, packed::kept(batch, full, by_full));
+            }
+            let (last, left) = batches.last().unwrap();
+            assert_eq!(*left, packed::by_the_whole(last, &whole, &whole.outcome(calls)));
+        }
+    }
+}
+
+/// The packed calls as lines, and in a stored list: the old factor stands in register A, the rows in B, the fresh buffer in C.
+#[test]
+fn packed_written_down() {
+    let [one, two, zero] = [0x3ff0_0000_0000_0000, 0x4000_0000_0000_0000, 0];
+    let line = "packed_cholesky_extend 1 2 ; 3ff0000000000000 ; 3ff0000000000000 3ff0000000000000 ; \
+                0000000000000007 0000000000000008 0000000000000009";
+    let case = parse_case(line).unwrap();
+    assert_eq!((case.x, case.n, case.a.len(), case.b.len(), case.c.len()), (1, 2, 1, 2, 3));
+    assert_eq!((case.second(), case.third()), (1, 0));
+    let lines = [
+        "packed_lblt_factor 1 7 ; 4000000000000000 ; 00000009 00000009 00000009 00000009",
+        "packed_lblt_solve 1 1 7 ; 4000000000000000 ; 00000000 00000001 00000000 00000007 ; 4000000000000000",
+        "packed_lblt_determinant 1 7 ; 4000000000000000 ; 00000000 00000001 00000000 00000007",
+        "packed_cholesky_factor 1 ; 3ff0000000000000",
+        "packed_cholesky_solve 1 1 ; 4000000000000000 ; 4000000000000000",
+        "packed_first_twin 1 ; 4000000000000000",
+    ];
+    let outcomes = [
+        "0 ; 4000000000000000 ; 00000000 00000001 00000000 00000007",
+        "0 ; 4000000000000000 ; 00000000 00000001 00000000 00000007 ; 3ff0000000000000",
+        "0 4000000000000000 ; 4000000000000000 ; 00000000 00000001 00000000 00000007",
+        "0 ; 3ff0000000000000",
+        "0 ; 4000000000000000 ; 3fe0000000000000",
+        "0 ; 4000000000000000",
+    ];
+    let set = |register: u64, words: &[u64]| [&[2 | register << 8 | (words.len() as u64) << 16][..], words].concat();
+    let same = |register: u64, words: &[u64]| [&[7 | register << 8 | (words.len() as u64) << 16][..], words].concat();
+    let call = |number: u64, numbers: [u64; 5]| [&[6 | number << 8][..], &numbers].concat();
+    let list = [
+        set(0, &[one]),
+        set(1, &[one, one]),
+        set(2, &[7, 8, 9]),
+        call(22, [2, 1, 0, 7 * 4096 + 1, 0]),
+        same(2, &[one, one, zero]),
+        call(22, [2, 3, 0, 2 * 4096, 0]),
+        set(0, &[two]),
+        set(3, &[9; 4]),
+        call(18, [1, 0, 7, 0, 0]),
+        same(3, &[0, 1, 0, 7]),
+        set(1, &[two]),
+        call(19, [1, 1, 7, 0, 0]),
+        same(1, &[one]),
+        call(20, [1, 0, 7, 0, two]),
+        call(20, [1, 0, 8, 13 * 4096, 0]),
+        call(23, [1, 1, 0, 0, 0]),
+        same(1, &[0x3fd0_0000_0000_0000]),
+        call(24, [1, 0, 0, 0, 0]),
+        set(0, &[one; 3]),
+        call(24, [2, 0, 0, 4097 * 4096, 0]),
+        call(21, [2, 0, 0, 7 * 4096 + 1, 0]),
+        same(0, &[one, one, zero]),
+    ]
+    .concat();
+    for calls in BOTH {
+        assert_eq!(
+            outcome_line(&case, &case.outcome(calls)),
+            "28673 ; 3ff0000000000000 ; 3ff0000000000000 3ff0000000000000 ; 3ff0000000000000 3ff0000000000000 0000000000000000"
+        );
+        for (line, outcome) in lines.iter().zip(outcomes) {
+            let case = parse_case(line).unwrap();
+            assert_eq!(case_line(&case), *line);
+            assert_eq!(outcome_line(&case, &case.outcome(calls)), outcome);
+        }
+        let mut machine = Machine::new(calls);
+        machine.replay(&list);
+        assert_eq!((machine.calls_made, machine.differences), (10, vec![]));
+    }
+    assert_eq!(case_line(&case), line);
 }
 
 #[test]

@@ -4,3 +4,4 @@ void list_cases(void);
 void cholesky_cases(void);
 void udu_cases(void);
 void twin_cases(void);
+void packed_cases(void);

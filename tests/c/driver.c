@@ -30,6 +30,7 @@ int main(void)
     cholesky_cases();
     udu_cases();
     twin_cases();
+    packed_cases();
     printf("%lu calls, %lu wrong\n", calls_made, calls_wrong);
     return calls_wrong != 0;
 }

@@ -3,10 +3,16 @@
 
 const char *meaning(uint64_t answer);
 size_t refused_row(const uint32_t *record, size_t n, uint64_t answer);
+size_t numbers_behind(size_t n, size_t i, size_t j);
 
 size_t refused_row(const uint32_t *record, size_t n, uint64_t answer)
 {
     return urgyelpat_callers_row(record, n, urgyelpat_place(answer));
+}
+
+size_t numbers_behind(size_t n, size_t i, size_t j)
+{
+    return urgyelpat_packed_length(n) - urgyelpat_packed_place(n, i, j) - 1;
 }
 
 const char *meaning(uint64_t answer)

@@ -46,6 +46,47 @@ static uint64_t to_bits(double number)
     return bits;
 }
 
+double as_left(double number)
+{
+    return number == number || to_bits(number) == to_bits(KEPT) ? number : NAN;
+}
+
+/* as many as are asked for: those of a packed matrix of order 1025 and one more, of a record of that order, of a list */
+enum { MOST_NUMBERS = 1025 * 1026 / 2 + 1, MOST_WORDS = 2 * 1025 + 2, MOST_WHOLES = 1025 };
+
+numbers old_numbers(size_t length)
+{
+    static double old[MOST_NUMBERS];
+    if (length > MOST_NUMBERS)
+        abort();
+    if (old[1] == 0)
+        for (size_t i = 0; i < MOST_NUMBERS; i++)
+            old[i] = i % 2 ? -9e9 - (double)i : KEPT;
+    return (numbers){length == 0 ? NULL : old, length};
+}
+
+words old_words(size_t length)
+{
+    static uint32_t old[MOST_WORDS];
+    if (length > MOST_WORDS)
+        abort();
+    if (old[0] == 0)
+        for (size_t i = 0; i < MOST_WORDS; i++)
+            old[i] = 0x9e9e0000u + (uint32_t)i;
+    return (words){length == 0 ? NULL : old, length};
+}
+
+wholes old_wholes(size_t length)
+{
+    static int32_t old[MOST_WHOLES];
+    if (length > MOST_WHOLES)
+        abort();
+    if (old[0] == 0)
+        for (size_t i = 0; i < MOST_WHOLES; i++)
+            old[i] = -0x5e5e0000 + (int32_t)i;
+    return (wholes){length == 0 ? NULL : old, length};
+}
+
 static lent lend(const void *given, size_t length, size_t width, placement where)
 {
     size_t bytes = length * width;

@@ -33,6 +33,13 @@ typedef struct {
 #define NO_WORDS ((words){NULL, 0})
 #define NO_WHOLES ((wholes){NULL, 0})
 
+#define COUNT(array) (sizeof(array) / sizeof *(array))
+
+/* What stands in a slice that a call is to fill: numbers and words that no call writes. */
+numbers old_numbers(size_t length);
+words old_words(size_t length);
+wholes old_wholes(size_t length);
+
 /* The double with these bits. */
 double from_bits(uint64_t bits);
 /* A double from -0.5 to 0.5 that looks like chance and is the same in every run; moves the state on. */
@@ -43,6 +50,8 @@ double by_chance(uint32_t *state);
 #define NAN from_bits(0x7ff8000000000000u)
 /* A NaN of its own pattern, for what no call may touch: only itself meets it. */
 #define KEPT from_bits(0x7ff4b1ade5eed001u)
+/* What another call left, as what should stand: a NaN that it worked out is NAN, and KEPT is itself. */
+double as_left(double number);
 
 typedef enum { BETWEEN_CANARIES, AT_THE_END, AT_THE_START, PLACEMENTS } placement;
 

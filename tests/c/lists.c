@@ -7,18 +7,9 @@
 
 enum { LARGEST = 1024 };
 
-/* what stands in a slice before a call: words and numbers that no call writes */
-static uint32_t old_words[2 * LARGEST + 4];
-static int32_t old_wholes[LARGEST + 2];
-
 static words old_record(size_t n)
 {
-    return (words){old_words, 2 * n + 2};
-}
-
-static wholes old_list(size_t n)
-{
-    return (wholes){n == 0 ? NULL : old_wholes, n};
+    return old_words(2 * n + 2);
 }
 
 static void from_lapack(const char *about, size_t n, uint32_t run, wholes list, int32_t info, words record, uint64_t answer,
@@ -67,7 +58,7 @@ static void both_ways(const char *about, size_t n, wholes list, int32_t info, wo
 {
     const uint32_t run = record.at[2 * n + 1];
     from_lapack(about, n, run, list, info, old_record(n), 0, record);
-    to_lapack(about, n, record, old_list(n), 0, info, run, list);
+    to_lapack(about, n, record, old_wholes(n), 0, info, run, list);
 }
 
 /* ---- a second judgement, of a list by LAPACK's words and of a record by the header's */
@@ -131,8 +122,6 @@ static int another(size_t *digits, size_t n, size_t choices)
 }
 
 /* ---- all small lists and records */
-
-#define COUNT(array) (sizeof(array) / sizeof *(array))
 
 /* A list with a broken block is refused there whatever INFO is: a third of them is tried, in turn. */
 static void every_list(void)
@@ -207,7 +196,7 @@ static void every_record_of(size_t n, words indexes, words sizes)
             record[2 * n] = marks[i];
             const uint64_t answer = judged_record(n, given);
             if (answer != 0) {
-                to_lapack_refused("every record", n, given, old_list(n), answer);
+                to_lapack_refused("every record", n, given, old_wholes(n), answer);
                 continue;
             }
             int32_t list[3];
@@ -374,9 +363,9 @@ static void refused_by_size(void)
                 from_lapack_refused("a length that does not fit", n, 7, list, 0, record, ANSWER(4, 0));
                 to_lapack_refused("a length that does not fit", n, record, list, ANSWER(4, 0));
             }
-    from_lapack_refused("a list of 1024 numbers for 2", 2, 7, old_list(1024), 0, sound, ANSWER(4, 0));
+    from_lapack_refused("a list of 1024 numbers for 2", 2, 7, old_wholes(1024), 0, sound, ANSWER(4, 0));
     from_lapack_refused("a record of order 1024 for 2", 2, 7, sound_list, 0, old_record(1024), ANSWER(4, 0));
-    to_lapack_refused("a list of 1024 numbers for 2", 2, sound, old_list(1024), ANSWER(4, 0));
+    to_lapack_refused("a list of 1024 numbers for 2", 2, sound, old_wholes(1024), ANSWER(4, 0));
     to_lapack_refused("a record of order 1024 for 2", 2, old_record(1024), sound_list, ANSWER(4, 0));
 
     from_lapack_refused("a list one short, broken", 3, 7, broken_list, 0, old_record(3), ANSWER(4, 0));
@@ -433,7 +422,7 @@ static void largest_order(void)
                 both_ways("order 1024", LARGEST, list, info, record);
             else {
                 from_lapack_refused("order 1024, INFO", LARGEST, 7, list, info, old_record(LARGEST), ANSWER(12, LARGEST));
-                to_lapack_refused("order 1024, a mark", LARGEST, record, old_list(LARGEST), ANSWER(5, LARGEST));
+                to_lapack_refused("order 1024, a mark", LARGEST, record, old_wholes(LARGEST), ANSWER(5, LARGEST));
             }
         }
         from_lapack_refused("order 1024, INFO 1025", LARGEST, 7, list, LARGEST + 1, old_record(LARGEST),
@@ -459,11 +448,11 @@ static void largest_order(void)
     from_lapack_refused("order 1024, a list of 1025", LARGEST, 7, longer, 0, old_record(LARGEST), ANSWER(4, 0));
     from_lapack_refused("order 1024, a record of 1025", LARGEST, 7, list, 0, old_record(LARGEST + 1), ANSWER(4, 0));
     record_of(longer, 0, 7, large_record);
-    to_lapack_refused("order 1025", LARGEST + 1, (words){large_record, 2 * LARGEST + 4}, old_list(LARGEST + 1),
+    to_lapack_refused("order 1025", LARGEST + 1, (words){large_record, 2 * LARGEST + 4}, old_wholes(LARGEST + 1),
                       ANSWER(1, 0));
     record_of(list, 0, 7, large_record);
-    to_lapack_refused("order 1024, a list of 1025", LARGEST, record, old_list(LARGEST + 1), ANSWER(4, 0));
-    to_lapack_refused("order 1024, a list of 1023", LARGEST, record, old_list(LARGEST - 1), ANSWER(4, 0));
+    to_lapack_refused("order 1024, a list of 1025", LARGEST, record, old_wholes(LARGEST + 1), ANSWER(4, 0));
+    to_lapack_refused("order 1024, a list of 1023", LARGEST, record, old_wholes(LARGEST - 1), ANSWER(4, 0));
 }
 
 /* ---- factors */
@@ -535,22 +524,18 @@ static void factors_of_lapack(void)
         for (size_t at = 0; at < n * n; at++)
             matrix[at] = known[i].a[at];
         answered(urgyelpat_lblt_factor(matrix, n * n, record, 2 * n + 2, n, 7), 0);
-        to_lapack("as dsytrf", n, (words){record, 2 * n + 2}, old_list(n), 0, known[i].info, 7, (wholes){known[i].list, n});
+        to_lapack("as dsytrf", n, (words){record, 2 * n + 2}, old_wholes(n), 0, known[i].info, 7, (wholes){known[i].list, n});
     }
 
     /* the mark is row 2, and the factor has a zero at row 0 */
     double underflows[9] = {0, 0x1p-600, 0, KEPT, 0, 0x1p600, KEPT, KEPT, 0};
     answered(urgyelpat_lblt_factor(underflows, 9, record, 8, 3, 7), 0);
     valued(underflows[0], 0);
-    to_lapack("a ratio that underflows", 3, (words){record, 8}, old_list(3), 0, 3, 7, WHOLES(1, 2, 3));
+    to_lapack("a ratio that underflows", 3, (words){record, 8}, old_wholes(3), 0, 3, 7, WHOLES(1, 2, 3));
 }
 
 void list_cases(void)
 {
-    for (size_t i = 0; i < COUNT(old_words); i++)
-        old_words[i] = 0x9e9e0000u + (uint32_t)i;
-    for (size_t i = 0; i < COUNT(old_wholes); i++)
-        old_wholes[i] = -0x5e5e0000 + (int32_t)i;
     lists();
     every_list();
     every_sound_list();

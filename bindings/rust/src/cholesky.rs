@@ -4,8 +4,8 @@
 
 use std::error::Error;
 use std::fmt;
-use std::ops::Range;
 
+use crate::batch::{batch_without, each_row, order_with};
 use crate::refusal::{done, value, Refusal};
 use crate::twins::{first_twin, first_twin_since, Twins};
 use crate::{ffi, kept, whole_columns, LARGEST};
@@ -338,18 +338,12 @@ impl Cholesky {
     /// # Ok::<(), urgyelpat::BatchRefusal>(())
     /// ```
     pub fn batch_without(&self, rows: &[f64], q: usize) -> Result<Vec<f64>, Refusal> {
-        let n = self.order_with(rows.len())?;
-        if !(self.order..n).contains(&q) {
-            return Err(Refusal::SliceLength);
-        }
-        let left = each_row(rows, self.order..n).filter(|&(i, _)| i != q);
-        let entries = left.flat_map(|(_, row)| row.iter().enumerate().filter(|&(j, _)| j != q));
-        Ok(entries.map(|(_, entry)| *entry).collect())
+        batch_without(self.order, rows, q)
     }
 
     /// Writes a batch behind the rows that stand, and gives the order with it.
     fn place(&mut self, rows: &[f64]) -> Result<usize, Refusal> {
-        let n = self.order_with(rows.len())?;
+        let n = order_with(self.order, rows.len())?;
         if n > self.room {
             self.set_room(n.max(2 * self.room).min(LARGEST));
         }
@@ -367,20 +361,6 @@ impl Cholesky {
         extend(&mut self.factor, self.room, self.order, n)?;
         self.order = n;
         Ok(())
-    }
-
-    /// The order after a batch of this many numbers.
-    fn order_with(&self, numbers: usize) -> Result<usize, Refusal> {
-        let mut n = self.order;
-        let mut left = numbers;
-        while left > 0 {
-            if n == LARGEST {
-                return Err(Refusal::OutOfRange);
-            }
-            n += 1;
-            left = left.checked_sub(n).ok_or(Refusal::SliceLength)?;
-        }
-        Ok(n)
     }
 
     /// Moves the rows and the factor into another room, which is at least the order.
@@ -457,16 +437,6 @@ impl Cholesky {
     pub fn determinant(&self) -> f64 {
         determinant(&self.factor, self.room, self.order).expect(OWN)
     }
-}
-
-/// The rows of a batch, each with its index, which are these.
-fn each_row(batch: &[f64], indices: Range<usize>) -> impl Iterator<Item = (usize, &[f64])> {
-    let mut rest = batch;
-    indices.map(move |i| {
-        let (row, later) = rest.split_at(i + 1);
-        rest = later;
-        (i, row)
-    })
 }
 
 /// The first n rows and columns of a buffer of one room, in a buffer of another.

@@ -112,6 +112,53 @@ extern "C" {
     ) -> u64;
     pub fn urgyelpat_cholesky_unpack(a: *mut f64, a_length: usize, room: usize, n: usize) -> u64;
     pub fn urgyelpat_cholesky_determinant(a: *const f64, a_length: usize, room: usize, n: usize) -> Determined;
+    pub fn urgyelpat_packed_lblt_factor(
+        a: *mut f64,
+        a_length: usize,
+        record: *mut u32,
+        record_length: usize,
+        n: usize,
+        run: u32,
+    ) -> u64;
+    pub fn urgyelpat_packed_lblt_solve(
+        a: *const f64,
+        a_length: usize,
+        record: *const u32,
+        record_length: usize,
+        b: *mut f64,
+        b_length: usize,
+        n: usize,
+        columns: usize,
+        run: u32,
+    ) -> u64;
+    pub fn urgyelpat_packed_lblt_determinant(
+        a: *const f64,
+        a_length: usize,
+        record: *const u32,
+        record_length: usize,
+        n: usize,
+        run: u32,
+    ) -> Determined;
+    pub fn urgyelpat_packed_cholesky_factor(a: *mut f64, a_length: usize, n: usize) -> u64;
+    pub fn urgyelpat_packed_cholesky_extend(
+        old: *const f64,
+        old_length: usize,
+        rows: *const f64,
+        rows_length: usize,
+        fresh: *mut f64,
+        fresh_length: usize,
+        earlier: usize,
+        n: usize,
+    ) -> u64;
+    pub fn urgyelpat_packed_cholesky_solve(
+        a: *const f64,
+        a_length: usize,
+        b: *mut f64,
+        b_length: usize,
+        n: usize,
+        columns: usize,
+    ) -> u64;
+    pub fn urgyelpat_packed_first_twin(a: *const f64, a_length: usize, n: usize) -> u64;
     pub fn urgyelpat_udu_factor(
         p: *const f64,
         p_length: usize,

@@ -15,9 +15,9 @@
 //!
 //! The rows of the factor are not in the order in which they came: [`callers_row`] gives the way back.
 
-use crate::pivots::{from_lapack, to_lapack, Listed};
+use crate::record::{self, OWN};
 use crate::refusal::{done, value, Refusal};
-use crate::{ffi, kept, whole_columns, LARGEST};
+use crate::{ffi, whole_columns, LARGEST};
 
 /// Factors the lower part of `a` (n·n numbers) in place and writes its pivot record (2n + 2 words), with `run` at its end.
 ///
@@ -207,7 +207,8 @@ pub fn l_permuted(a: &[f64], record: &[u32], l: &mut [f64], n: usize, run: u32) 
 }
 
 /// The row of the given matrix that stands at a row of the factor: the exchanges of the record, taken back from the last to the
-/// first. `record` is one that [`factor`] or [`from_lapack`] wrote for order n. Panics where it has fewer than 2n words.
+/// first. `record` is one that [`factor`], [`from_lapack`](crate::pivots::from_lapack) or
+/// [`packed::lblt_factor`](crate::packed::lblt_factor) wrote for order n. Panics where it has fewer than 2n words.
 ///
 /// ```
 /// // the lower rows 1 / 2 4: row 1 is brought to the top, and the factor's row 1 has no pivot
@@ -266,9 +267,6 @@ pub struct LapackPivots {
     pub info: i32,
 }
 
-/// Why the calls on an own factor are not refused by size or record: a call of the library wrote the record for that order.
-const OWN: &str = "a record that the library wrote and its sizes are accepted";
-
 impl LBLT {
     /// Factors a symmetric matrix of order n, n·n numbers, of which the lower part is read. The run number, any number of the
     /// caller's, stands at the end of the record.
@@ -276,7 +274,7 @@ impl LBLT {
     /// Refused by [`OutOfRange`](Refusal::OutOfRange) and [`MatrixLength`](Refusal::MatrixLength). A matrix in which a row has
     /// no pivot is factored too: see [`zero_pivot`](LBLT::zero_pivot).
     pub fn new(mut matrix: Vec<f64>, n: usize, run: u32) -> Result<LBLT, Refusal> {
-        let mut record = vec![0; 2 * kept(n) + 2];
+        let mut record = record::blank(n);
         factor(&mut matrix, &mut record, n, run)?;
         Ok(LBLT {
             matrix,
@@ -314,11 +312,9 @@ impl LBLT {
         if n <= LARGEST && matrix.len() != n * n {
             return Err(Refusal::MatrixLength);
         }
-        let mut record = vec![0; 2 * kept(n) + 2];
-        from_lapack(list, info, &mut record, n, run)?;
         Ok(LBLT {
             matrix,
-            record,
+            record: record::from_lapack(list, info, n, run)?,
             order: n,
         })
     }
@@ -340,9 +336,7 @@ impl LBLT {
 
     /// The pivot of each row, as (index, block size).
     pub fn pivots(&self) -> impl Iterator<Item = (usize, usize)> + '_ {
-        self.record[..2 * self.order]
-            .chunks_exact(2)
-            .map(|pivot| (pivot[0] as usize, pivot[1] as usize))
+        record::pivots(&self.record, self.order)
     }
 
     /// The pivots and the mark in LAPACK's words. With [`matrix`](LBLT::matrix) they are what `dsytrs` takes for UPLO = 'L' and
@@ -362,21 +356,19 @@ impl LBLT {
     /// # Ok::<(), urgyelpat::Refusal>(())
     /// ```
     pub fn lapack_pivots(&self) -> LapackPivots {
-        let mut list = vec![0; self.order];
-        let Listed { info, .. } = to_lapack(&self.record, &mut list, self.order).expect(OWN);
-        LapackPivots { list, info }
+        record::lapack_pivots(&self.record, self.order)
     }
 
     /// The first row of the factor that has no pivot: the diagonal and the largest number below it were both zero in size, or
     /// one was zero and the other NaN. Below the last row there is nothing, which counts as zero. Of a factor of LAPACK's it is
     /// the row that INFO named. [`callers_row`](LBLT::callers_row) says which row of the given matrix it was.
     pub fn zero_pivot(&self) -> Option<usize> {
-        (self.record[2 * self.order] as usize).checked_sub(1)
+        record::zero_pivot(&self.record, self.order)
     }
 
     /// The run number that the factor was made with.
     pub fn run(&self) -> u32 {
-        self.record[2 * self.order + 1]
+        record::run(&self.record, self.order)
     }
 
     /// The row of the given matrix that stands at a row of the factor.

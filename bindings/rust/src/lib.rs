@@ -19,9 +19,10 @@
 //!
 //! # Two faces
 //!
-//! - [`LBLT`], [`Cholesky`] and [`UDU`] own their numbers and carry nalgebra's names.
-//! - The modules [`lblt`], [`pivots`], [`cholesky`] and [`udu`] have a function for each call of the library, over slices that the caller
-//!   lends; two stand at the crate's root, in no module: [`first_twin`] and [`first_twin_since`]. They take no memory.
+//! - [`LBLT`], [`Cholesky`] and [`UDU`] own their numbers and carry nalgebra's names; so do [`PackedLBLT`] and [`PackedCholesky`].
+//! - The modules [`lblt`], [`pivots`], [`cholesky`], [`packed`] and [`udu`] have a function for each call of the library, over slices
+//!   that the caller lends; two stand at the crate's root, in no module: [`first_twin`] and [`first_twin_since`]. They take no
+//!   memory.
 //!
 //! # Matrices
 //!
@@ -30,6 +31,15 @@
 //! for twins look at the entries with i ≥ j alone, UDU at those with i ≤ j. Orders, rooms and column counts go up to
 //! [`LARGEST`]. Every `f64` is a content, infinities and NaN too; which NaN a result holds is not promised.
 //!
+//! # Packed triangles
+//!
+//! Half of a full symmetric matrix is an upper part that LBLT and Cholesky never read. [`PackedLBLT`], [`PackedCholesky`] and the
+//! functions of [`packed`] work on the lower part alone, in n(n + 1)/2 numbers, and give the same bits, records, codes and places
+//! as the full layout (proved of the library's calls). Take them where memory counts, or where the numbers come packed;
+//! [`packed::pack`] and [`packed::unpack`] lead from one layout to the other. They have no room for rows to come, so that each
+//! batch of a Cholesky makes new buffers, and no `solve_bench`, `d`, `l_permuted` nor, for Cholesky, `determinant`: for these
+//! unpack the factor. UDU is in the full layout alone.
+//!
 //! # Where it runs
 //!
 //! The library is compiled for x86-64 Linux. The build takes it from the folder that `URGYELPAT_LIB_DIR` names, or from
@@ -37,18 +47,25 @@
 
 #![warn(missing_docs)]
 
+mod batch;
 mod ffi;
+mod record;
 mod refusal;
 
 pub mod cholesky;
 pub mod lblt;
+pub mod packed;
 pub mod pivots;
 pub mod udu;
 
+mod packed_cholesky;
+mod packed_lblt;
 mod twins;
 
 pub use cholesky::{BatchRefusal, Cholesky};
 pub use lblt::{LapackPivots, LBLT};
+pub use packed_cholesky::PackedCholesky;
+pub use packed_lblt::PackedLBLT;
 pub use refusal::Refusal;
 pub use twins::{first_twin, first_twin_since, Twins};
 pub use udu::UDU;

@@ -110,7 +110,7 @@ impl fmt::Display for Refusal {
             ),
             Refusal::MatrixLength => write!(
                 f,
-                "the matrix does not have order times order numbers (for a Cholesky, room times room): check that it arrived whole"
+                "the matrix does not have order times order numbers (for a Cholesky, room times room; packed, order times (order + 1) / 2): check that it arrived whole"
             ),
             Refusal::SliceLength => write!(
                 f,

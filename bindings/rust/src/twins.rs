@@ -60,7 +60,7 @@ pub fn first_twin_since(a: &[f64], room: usize, earlier: usize, n: usize) -> Res
 }
 
 /// The pair of an answer's number, nothing for 0, or the refusal.
-fn pair(answer: u64) -> Result<Option<Twins>, Refusal> {
+pub(crate) fn pair(answer: u64) -> Result<Option<Twins>, Refusal> {
     if answer < PAIRS {
         return done(answer).map(|()| None);
     }

@@ -11,7 +11,8 @@ use Rattle.leaf.specs.Root.{rootOf}
 use Rattle.matrix.specs.Matrix.{exchange}
 use Rattle.matrix.specs.Loop.{for, falling}
 use Rattle.matrix.specs.Grid.{load, mask}
-use Rattle.matrix.specs.Layouts.{sizeOf, lower, upper, square}
+use Rattle.packing.specs.Joined.{rowStart, newRow, joined}
+use Rattle.matrix.specs.Layouts.{entriesOf, sizeOf, lower, upper, square}
 use Rattle.pivots.specs.Words.{paired, marked, stamped}
 use Rattle.pivots.specs.Rule.{blockOf, faultFrom, checked}
 use Rattle.pivots_lapack.specs.Lists.{recordOf, listOf}
@@ -35,8 +36,8 @@ use Rattle.udu.specs.Promise.{uduOf}
 use Rattle.cases.specs.Calls.{floats, bitsOf, Gives, Case, Hold, none, more}
 use Rattle.cases.specs.Table.{table}
 use Rattle.cases.specs.Twins.{twinTable}
-use Rattle.matrix.proofs.Slices.{listed, overlay, overlaid}
-use Rattle.cases.proofs.Found.{found, gives, lbltWords, lbltSlice, determinantNumbers, solveNumbers, benchNumbers, readNumbers, writtenNumbers, choleskyAnswer, choleskySlice, choleskySolveNumbers, uduNumbers}
+use Rattle.matrix.proofs.Slices.{listed, overlayAt, overlay, overlaid}
+use Rattle.cases.proofs.Found.{found, gives, lbltWords, lbltSlice, determinantNumbers, solveNumbers, benchNumbers, readNumbers, writtenNumbers, choleskyAnswer, choleskySlice, choleskySolveNumbers, uduNumbers, grownNumbers}
 
 abbrev foundIn : Case → List (List ℕ)
 foundIn c = found (c .call)
@@ -49,7 +50,7 @@ hold [] e = none
 hold (c ∷ cs) e = more c cs (subst (Gives (c .call)) (ap (λ (l : List (List (List ℕ))). getD l 0 []) e) (gives (c .call))) (hold cs (ap (drop 1) e))
 
 computed : map foundIn (table ++ twinTable) ≡ map numbersIn (table ++ twinTable)
-unfolding tested sizeOf ofBits toBits le sub mul div isNan absOf maximumOf rootOf exchange for falling load mask lower upper square paired marked stamped blockOf faultFrom checked choose choiceBy contest rowMax alongRow downColumn columnMax greater firstState finalState recorded interchange brought1 brought2 stepped step take pivot1 pivot2 firstMark rank1At rank1 scaleAt eliminate1 update1 blockBy blockAt multiplier work1 work2 rank2At rank2By rank2 update2 bySize rowsOf blocksFrom forwards blocksTo backwards swapRows lessOne lessTwo eliminateOne eliminateTwo forwardBlock divideOne blockDeterminant divideTwo divideBlock lessProduct gatherRow backwardBlock solveColumn eachColumn eachChosen atChosen atColumn column timesBlock determinantOf answerTo factorColumns solveSides solveTriangles uduDiagonal uduEntry withDiagonal withColumn nothing uduOf floats bitsOf listed overlay overlaid lbltWords lbltSlice determinantNumbers solveNumbers benchNumbers recordOf listOf readNumbers writtenNumbers choleskyAnswer choleskySlice choleskySolveNumbers uduNumbers
+unfolding tested sizeOf ofBits toBits le sub mul div isNan absOf maximumOf rootOf exchange for falling load mask lower upper square paired marked stamped blockOf faultFrom checked choose choiceBy contest rowMax alongRow downColumn columnMax greater firstState finalState recorded interchange brought1 brought2 stepped step take pivot1 pivot2 firstMark rank1At rank1 scaleAt eliminate1 update1 blockBy blockAt multiplier work1 work2 rank2At rank2By rank2 update2 bySize rowsOf blocksFrom forwards blocksTo backwards swapRows lessOne lessTwo eliminateOne eliminateTwo forwardBlock divideOne blockDeterminant divideTwo divideBlock lessProduct gatherRow backwardBlock solveColumn eachColumn eachChosen atChosen atColumn column timesBlock determinantOf answerTo factorColumns solveSides solveTriangles uduDiagonal uduEntry withDiagonal withColumn nothing uduOf floats bitsOf listed overlayAt overlay overlaid entriesOf rowStart newRow joined grownNumbers lbltWords lbltSlice determinantNumbers solveNumbers benchNumbers recordOf listOf readNumbers writtenNumbers choleskyAnswer choleskySlice choleskySolveNumbers uduNumbers
 computed = refl
 
 -- document 01's starred cases and those beside them, and twin rows

@@ -3,7 +3,6 @@ use mathlib.Core.Path.{_≡_, refl, sym, ap, _∙_}
 use mathlib.Core.Bool.{Bool, true, false, cond}
 use mathlib.Core.List.{List, [], _∷_}
 use Prim.Native.Nat.{ℕ, _*_, _%_, _/_}
-use native.Mathlib.Nat.{le-refl}
 use lib.ListN.{length, length-replicate}
 use lib.IntN.{ℤ, pos}
 use lib.Ieee.{Float, binary64, ofBits, toBits}
@@ -16,11 +15,15 @@ use Rattle.answer.specs.declared.Valued.{Valued}
 use Rattle.answer.specs.Number.{isDone}
 use Rattle.answer.specs.Refusals.{tested}
 use Rattle.answer.proofs.Done.{done-or-refused}
+use Rattle.answer.proofs.Tested.{tested-fixed, tested-join}
 use Rattle.leaf.specs.Root.{rootOf}
 use Rattle.matrix.specs.Grid.{load, mask}
-use Rattle.matrix.specs.Layouts.{full, inRoom, lower, square}
-use Rattle.matrix.specs.Sizes.{sizeTests}
-use Rattle.matrix.proofs.Sizes.{done-fits}
+use Rattle.matrix.specs.declared.Layout.{Layout}
+use Rattle.matrix.specs.Layouts.{full, inRoom, packed, entriesOf, lower, square}
+use Rattle.matrix.specs.Sizes.{sizeTests, Fits}
+use Rattle.matrix.proofs.Sizes.{done-fits, laid-fits}
+use Rattle.packed.specs.Growing.{growTests, grown, Grown}
+use Rattle.packed.proofs.Growing.{grown-fits}
 use Rattle.pivots_lapack.specs.declared.Listed.{Listed}
 use Rattle.pivots_lapack.specs.Numbers.{markMeant}
 use Rattle.pivots_lapack.specs.Lists.{recordOf, listOf}
@@ -37,65 +40,68 @@ use Rattle.lblt_bench.specs.Bench.{owns, benchTests, BenchSolved}
 use Rattle.cholesky.specs.Promise.{batch, Extended}
 use Rattle.cholesky.specs.Solve.{sidesTests, solveSides, CholeskySolved}
 use Rattle.udu.specs.Promise.{uduTests, uduOf, uduAnswer, factorsOf, UduFactored}
-use Rattle.cases.specs.Calls.{stray, floats, bitsOf, signedBits, answered, lentWords, lentList, lentFloats, Call, lbltFactor, lbltDeterminant, lbltSolve, lbltSolveBench, lbltReaders, lbltLargest, pivotsFromLapack, pivotsToLapack, choleskyFactor, choleskySolve, choleskySolveSizes, uduFactor, root, Gives}
-use Rattle.matrix.proofs.Slices.{listed, is-listed, overlaid, holds-overlaid, fills-listed}
+use Rattle.cases.specs.Calls.{stray, floats, bitsOf, signedBits, answered, lentWords, lentList, lentFloats, Call, lbltFactor, lbltDeterminant, lbltSolve, lbltSolveBench, lbltReaders, lbltLargest, pivotsFromLapack, pivotsToLapack, choleskyFactor, choleskySolve, choleskySolveSizes, packedLbltFactor, packedLbltDeterminant, packedLbltSolve, packedCholeskyFactor, packedCholeskyExtend, packedCholeskySolve, packedExtendSizes, uduFactor, root, Gives}
+use Rattle.matrix.proofs.Slices.{listed, is-listed, overlaid, lower-overlaid, fills-listed}
 use Rattle.matrix.specs.Rounded.{plusZero}
 
 -- ---- LBLT's factor
 
-module _ (n run : ℕ) (a : List Float) (words : List ℕ) where
+module _ (y : Layout) (run : ℕ) (a : List Float) (words : List ℕ) where
   abbrev pub lbltAnswer : Answer
-  lbltAnswer = tested (factorTests (full n) a words) Done
+  lbltAnswer = tested (factorTests y a words) Done
 
   unfoldable pub lbltWords : List ℕ
-  lbltWords = cond (isDone lbltAnswer) (recorded n run (load (lower (full n)) a) words) words
+  lbltWords = cond (isDone lbltAnswer) (recorded (y .order) run (load (lower y) a) words) words
 
   unfoldable pub lbltSlice : List Float
-  lbltSlice = cond (isDone lbltAnswer) (overlaid (full n) a (finalState n (load (lower (full n)) a) words .matrix)) a
+  lbltSlice = cond (isDone lbltAnswer) (overlaid (lower y) (y .order) a (finalState (y .order) (load (lower y) a) words .matrix)) a
 
-  pub factors : {r : Answer} {a' : List Float} {words' : List ℕ} → Factored (full n) run a words r a' words' → Same r lbltAnswer a' lbltSlice words' lbltWords
+  pub factors : {r : Answer} {a' : List Float} {words' : List ℕ} → Factored y run a words r a' words' → Same r lbltAnswer a' lbltSlice words' lbltWords
   unfolding lbltWords lbltSlice
   factors {r} {a'} {words'} f = at (isDone r) refl
     where
       same : {b : Bool} → isDone r ≡ b → isDone lbltAnswer ≡ b
       same e = ap isDone (sym (f .answer)) ∙ e
 
+      fits : isDone lbltAnswer ≡ true → Fits y 0 (length a)
+      fits done = done-fits y 0 (length a) _ (ap isDone (sym (tested-join (sizeTests y 0 (length a)) _ Done)) ∙ done)
+
       at : (b : Bool) → isDone r ≡ b → Same r lbltAnswer a' lbltSlice words' lbltWords
       at true e =
           let stored = f .left .done e in
-          record { answer = f .answer; matrix = rw (same e) (holds-overlaid (le-refl n) (stored .matrix)); pivots = rw (same e) (stored .pivots) }
+          record { answer = f .answer; matrix = rw (same e) (lower-overlaid (laid-fits {l = a} (fits (same e))) (stored .matrix)); pivots = rw (same e) (stored .pivots) }
       at false e =
           let kept = f .left .refused e in
           record { answer = f .answer; matrix = rw (same e) (kept .matrix); pivots = rw (same e) (kept .pivots) }
 
 -- ---- LBLT's readers
 
-module _ (n run : ℕ) (a : List Float) (words : List ℕ) where
+module _ (y : Layout) (run : ℕ) (a : List Float) (words : List ℕ) where
   unfoldable pub determinantNumbers : List (List ℕ)
   determinantNumbers =
-      let r = tested (readerTests (full n) run a words) Done in
-      answered r ∷ (toBits binary64 (cond (isDone r) (determinantOf n (load (lower (full n)) a) words) plusZero) ∷ []) ∷ []
+      let r = tested (readerTests y run a words) Done in
+      answered r ∷ (toBits binary64 (cond (isDone r) (determinantOf (y .order) (load (lower y) a) words) plusZero) ∷ []) ∷ []
 
-  pub determines : {v : Valued} → LbltDetermined (full n) run a words v → (answered (v .answer) ∷ (toBits binary64 (v .value) ∷ []) ∷ []) ≡ determinantNumbers
+  pub determines : {v : Valued} → LbltDetermined y run a words v → (answered (v .answer) ∷ (toBits binary64 (v .value) ∷ []) ∷ []) ≡ determinantNumbers
   unfolding determinantNumbers
   determines d = rw (d .value, d .answer)
 
   unfoldable pub solveNumbers : List Float → List (List ℕ)
   solveNumbers b =
-      let r = tested (solveTests (full n) 1 run a words b) Done in
-      answered r ∷ bitsOf (cond (isDone r) (eachColumn n 1 (solveColumn n (load (lower (full n)) a) words) b) b) ∷ []
+      let r = tested (solveTests y 1 run a words b) Done in
+      answered r ∷ bitsOf (cond (isDone r) (eachColumn (y .order) 1 (solveColumn (y .order) (load (lower y) a) words) b) b) ∷ []
 
-  pub solves : {b b' : List Float} {r : Answer} → LbltSolved (full n) 1 run a words b r b' → (answered r ∷ bitsOf b' ∷ []) ≡ solveNumbers b
+  pub solves : {b b' : List Float} {r : Answer} → LbltSolved y 1 run a words b r b' → (answered r ∷ bitsOf b' ∷ []) ≡ solveNumbers b
   unfolding solveNumbers
   solves s = rw (s .sides, s .answer)
 
   unfoldable pub benchNumbers : ℕ → ℕ → List ℕ → List Float → List (List ℕ)
   benchNumbers columns bench benches b =
-      let r = tested (benchTests (full n) columns run a words b benches) Done in
-      answered r ∷ bitsOf (cond (isDone r) (eachChosen n columns (owns benches bench) (solveColumn n (load (lower (full n)) a) words) b) b) ∷ []
+      let r = tested (benchTests y columns run a words b benches) Done in
+      answered r ∷ bitsOf (cond (isDone r) (eachChosen (y .order) columns (owns benches bench) (solveColumn (y .order) (load (lower y) a) words) b) b) ∷ []
 
   pub solves-bench
-      : {columns bench : ℕ} {benches : List ℕ} {b b' : List Float} {r : Answer} → BenchSolved (full n) columns bench run a words b benches r b'
+      : {columns bench : ℕ} {benches : List ℕ} {b b' : List Float} {r : Answer} → BenchSolved y columns bench run a words b benches r b'
       → (answered r ∷ bitsOf b' ∷ []) ≡ benchNumbers columns bench benches b
   unfolding benchNumbers
   solves-bench s = rw (s .sides, s .answer)
@@ -123,30 +129,50 @@ module _ (n : ℕ) (words : List ℕ) (list : List ℤ) where
 
 -- ---- Cholesky's factor, and its solve
 
-module _ (room n : ℕ) (a : List Float) where
+module _ (y : Layout) (a : List Float) where
   unfoldable pub choleskyAnswer : Answer
-  choleskyAnswer = tested (sizeTests (inRoom n room) 0 (length a)) (batch (inRoom n room) 0 a .answer)
+  choleskyAnswer = tested (sizeTests y 0 (length a)) (batch y 0 a .answer)
 
   unfoldable pub choleskySlice : List Float
-  choleskySlice = cond (isDone (tested (sizeTests (inRoom n room) 0 (length a)) Done)) (overlaid (inRoom n room) a (mask (lower (inRoom n room)) (batch (inRoom n room) 0 a .cells))) a
+  choleskySlice = cond (isDone (tested (sizeTests y 0 (length a)) Done)) (overlaid (lower y) (y .order) a (mask (lower y) (batch y 0 a .cells))) a
 
-  pub extends : {l : List Float} {r : Answer} → Extended (inRoom n room) 0 a l r → (r ≡ choleskyAnswer) × (l ≡ choleskySlice)
+  pub extends : {l : List Float} {r : Answer} → Extended y 0 a l r → (r ≡ choleskyAnswer) × (l ≡ choleskySlice)
   unfolding choleskyAnswer choleskySlice
   extends f = (
     f .answer,
-    done-or-refused (tested (sizeTests (inRoom n room) 0 (length a)) Done)
-        (λ done. rw done (holds-overlaid (done-fits (inRoom n room) 0 (length a) Done done .roomy .ordered) (f .left .done done .holds)))
+    done-or-refused (tested (sizeTests y 0 (length a)) Done)
+        (λ done. rw done (lower-overlaid (laid-fits {l = a} (done-fits y 0 (length a) Done done)) (f .left .done done .holds)))
         (λ failed. rw failed (f .left .refused failed)),
   )
 
   unfoldable pub choleskySolveNumbers : List Float → List (List ℕ)
   choleskySolveNumbers b =
-      let r = tested (sidesTests (inRoom n room) 1 (length a) (length b)) Done in
-      answered r ∷ bitsOf (cond (isDone r) (solveSides (lower (inRoom n room)) n 1 a b) b) ∷ []
+      let r = tested (sidesTests y 1 (length a) (length b)) Done in
+      answered r ∷ bitsOf (cond (isDone r) (solveSides (lower y) (y .order) 1 a b) b) ∷ []
 
-  pub solves-triangles : {b c : List Float} {r : Answer} → CholeskySolved (inRoom n room) 1 a b c r → (answered r ∷ bitsOf c ∷ []) ≡ choleskySolveNumbers b
+  pub solves-triangles : {b c : List Float} {r : Answer} → CholeskySolved y 1 a b c r → (answered r ∷ bitsOf c ∷ []) ≡ choleskySolveNumbers b
   unfolding choleskySolveNumbers
   solves-triangles s = rw (s .sides, s .answer)
+
+-- ---- the packed further batch
+
+module _ (m n : ℕ) (old rows fresh : List Float) where
+  abbrev growSizes : Answer
+  growSizes = tested (growTests m n (length old) (length rows) (length fresh)) Done
+
+  unfoldable pub grownNumbers : List (List ℕ)
+  grownNumbers =
+      answered (tested (growTests m n (length old) (length rows) (length fresh)) (grown m n old rows .answer))
+      ∷ bitsOf (cond (isDone growSizes) (overlaid (lower (packed n)) n fresh (mask (lower (packed n)) (grown m n old rows .cells))) fresh) ∷ []
+
+  pub grows : {r : Answer} {fresh' : List Float} → Grown m n old rows fresh r fresh' → (answered r ∷ bitsOf fresh' ∷ []) ≡ grownNumbers
+  unfolding grownNumbers
+  grows {r} {fresh'} g =
+      let left : fresh' ≡ cond (isDone growSizes) (overlaid (lower (packed n)) n fresh (mask (lower (packed n)) (grown m n old rows .cells))) fresh =
+      done-or-refused growSizes
+      (λ done. rw done (lower-overlaid (laid-fits {l = fresh} (grown-fits m n old rows fresh done)) (g .left .done done .holds)))
+      (λ refused. rw refused (g .left .refused refused)) in
+      rw (g .answer, left)
 
 -- ---- UDU
 
@@ -175,17 +201,17 @@ module _ (n : ℕ) (p u₀ d₀ : List Float) where
 -- ---- what each call gives
 
 -- what LBLT's factor leaves
-abbrev pub leftSlice : ℕ → ℕ → List ℕ → List Float
-leftSlice n run a = lbltSlice n run (floats a) (lentWords n)
+abbrev pub leftSlice : Layout → ℕ → List ℕ → List Float
+leftSlice y run a = lbltSlice y run (floats a) (lentWords (y .order))
 
-abbrev pub leftWords : ℕ → ℕ → List ℕ → List ℕ
-leftWords n run a = lbltWords n run (floats a) (lentWords n)
+abbrev pub leftWords : Layout → ℕ → List ℕ → List ℕ
+leftWords y run a = lbltWords y run (floats a) (lentWords (y .order))
 
 abbrev pub found : Call → List (List ℕ)
-found (lbltFactor n run a) = answered (lbltAnswer n run (floats a) (lentWords n)) ∷ leftWords n run a ∷ bitsOf (leftSlice n run a) ∷ []
-found (lbltDeterminant n run expected a) = determinantNumbers n expected (leftSlice n run a) (leftWords n run a)
-found (lbltSolve n run expected a b) = solveNumbers n expected (leftSlice n run a) (leftWords n run a) (floats b)
-found (lbltSolveBench n run expected columns bench benches a b) = benchNumbers n expected (leftSlice n run a) (leftWords n run a) columns bench benches (floats b)
+found (lbltFactor n run a) = answered (lbltAnswer (full n) run (floats a) (lentWords n)) ∷ leftWords (full n) run a ∷ bitsOf (leftSlice (full n) run a) ∷ []
+found (lbltDeterminant n run expected a) = determinantNumbers (full n) expected (leftSlice (full n) run a) (leftWords (full n) run a)
+found (lbltSolve n run expected a b) = solveNumbers (full n) expected (leftSlice (full n) run a) (leftWords (full n) run a) (floats b)
+found (lbltSolveBench n run expected columns bench benches a b) = benchNumbers (full n) expected (leftSlice (full n) run a) (leftWords (full n) run a) columns bench benches (floats b)
 found (lbltReaders n expected words) =
     let matrix = lentFloats (n * n) in
     let filled = answered (tested (columnTests (full n) n expected matrix words matrix) Done) in
@@ -193,35 +219,59 @@ found (lbltReaders n expected words) =
 found (lbltLargest n a k) = (columnMax n (load (lower (full n)) (floats a)) k .imax ∷ []) ∷ []
 found (pivotsFromLapack n run list info) = readNumbers n (lentWords n) list run info
 found (pivotsToLapack n words) = writtenNumbers n words (lentList n)
-found (choleskyFactor room n a) = answered (choleskyAnswer room n (floats a)) ∷ bitsOf (choleskySlice room n (floats a)) ∷ []
-found (choleskySolve room n a b) = choleskySolveNumbers room n (choleskySlice room n (floats a)) (floats b)
+found (choleskyFactor room n a) = answered (choleskyAnswer (inRoom n room) (floats a)) ∷ bitsOf (choleskySlice (inRoom n room) (floats a)) ∷ []
+found (choleskySolve room n a b) = choleskySolveNumbers (inRoom n room) (choleskySlice (inRoom n room) (floats a)) (floats b)
 found (choleskySolveSizes room n columns factor sides) = answered (tested (sidesTests (inRoom n room) columns factor sides) Done) ∷ []
+found (packedLbltFactor n run a) = answered (lbltAnswer (packed n) run (floats a) (lentWords n)) ∷ leftWords (packed n) run a ∷ bitsOf (leftSlice (packed n) run a) ∷ []
+found (packedLbltDeterminant n run expected a) = determinantNumbers (packed n) expected (leftSlice (packed n) run a) (leftWords (packed n) run a)
+found (packedLbltSolve n run expected a b) = solveNumbers (packed n) expected (leftSlice (packed n) run a) (leftWords (packed n) run a) (floats b)
+found (packedCholeskyFactor n a) = answered (choleskyAnswer (packed n) (floats a)) ∷ bitsOf (choleskySlice (packed n) (floats a)) ∷ []
+found (packedCholeskyExtend m n old rows) = grownNumbers m n (floats old) (floats rows) (lentFloats (entriesOf n))
+found (packedCholeskySolve n a b) = choleskySolveNumbers (packed n) (choleskySlice (packed n) (floats a)) (floats b)
+found (packedExtendSizes m n old rows fresh) = answered (tested (growTests m n old rows fresh) Done) ∷ []
 found (uduFactor n p) = uduNumbers n (floats p) (lentFloats (n * n)) (lentFloats n)
 found (root x) = (toBits binary64 (rootOf (ofBits binary64 x)) ∷ []) ∷ []
 
 pub gives : (c : Call) → Gives c (found c)
-gives (lbltFactor n run a) = λ r a' words f. let g = factors n run (floats a) (lentWords n) f in rw (g .answer, g .pivots, g .matrix)
+gives (lbltFactor n run a) = λ r a' words f. let g = factors (full n) run (floats a) (lentWords n) f in rw (g .answer, g .pivots, g .matrix)
 gives (lbltDeterminant n run expected a) = λ r a' words v f d.
-    let g = factors n run (floats a) (lentWords n) f in
-    let by : LbltDetermined (full n) expected (leftSlice n run a) (leftWords n run a) v = rw (g .matrix, g .pivots) at d in
-    determines n expected (leftSlice n run a) (leftWords n run a) by
+    let g = factors (full n) run (floats a) (lentWords n) f in
+    let by : LbltDetermined (full n) expected (leftSlice (full n) run a) (leftWords (full n) run a) v = rw (g .matrix, g .pivots) at d in
+    determines (full n) expected (leftSlice (full n) run a) (leftWords (full n) run a) by
 gives (lbltSolve n run expected a b) = λ r s a' b' words f d.
-    let g = factors n run (floats a) (lentWords n) f in
-    let by : LbltSolved (full n) 1 expected (leftSlice n run a) (leftWords n run a) (floats b) s b' = rw (g .matrix, g .pivots) at d in
-    solves n expected (leftSlice n run a) (leftWords n run a) by
+    let g = factors (full n) run (floats a) (lentWords n) f in
+    let by : LbltSolved (full n) 1 expected (leftSlice (full n) run a) (leftWords (full n) run a) (floats b) s b' = rw (g .matrix, g .pivots) at d in
+    solves (full n) expected (leftSlice (full n) run a) (leftWords (full n) run a) by
 gives (lbltSolveBench n run expected columns bench benches a b) = λ r s a' b' words f d.
-    let g = factors n run (floats a) (lentWords n) f in
-    let by : BenchSolved (full n) columns bench expected (leftSlice n run a) (leftWords n run a) (floats b) benches s b' = rw (g .matrix, g .pivots) at d in
-    solves-bench n expected (leftSlice n run a) (leftWords n run a) by
+    let g = factors (full n) run (floats a) (lentWords n) f in
+    let by : BenchSolved (full n) columns bench expected (leftSlice (full n) run a) (leftWords (full n) run a) (floats b) benches s b' = rw (g .matrix, g .pivots) at d in
+    solves-bench (full n) expected (leftSlice (full n) run a) (leftWords (full n) run a) by
 gives (lbltReaders n expected words) = λ r s t v a b b' d d' l l' long-a long-b long-d long-l solved determined d-filled l-filled.
     rw (solved .answer, determined .answer, d-filled .answer, l-filled .answer, long-a, long-b, long-d, long-l, length-replicate (n * n) (ofBits binary64 stray), length-replicate n (ofBits binary64 stray))
 gives (lbltLargest n a k) = λ r e. rw e
 gives (pivotsFromLapack n run list info) = λ r words d. reads n (lentWords n) list d
 gives (pivotsToLapack n words) = λ r list d. writes n words (lentList n) d
-gives (choleskyFactor room n a) = λ r l f. let g = extends room n (floats a) f in rw (g .0, g .1)
+gives (choleskyFactor room n a) = λ r l f. let g = extends (inRoom n room) (floats a) f in rw (g .0, g .1)
 gives (choleskySolve room n a b) = λ r s l c f d.
-    let by : CholeskySolved (inRoom n room) 1 (choleskySlice room n (floats a)) (floats b) c s = rw (extends room n (floats a) f .1) at d in
-    solves-triangles room n (choleskySlice room n (floats a)) by
+    let by : CholeskySolved (inRoom n room) 1 (choleskySlice (inRoom n room) (floats a)) (floats b) c s = rw (extends (inRoom n room) (floats a) f .1) at d in
+    solves-triangles (inRoom n room) (choleskySlice (inRoom n room) (floats a)) by
 gives (choleskySolveSizes room n columns factor sides) = λ r a b c long wide d. rw (d .answer, long, wide)
+gives (packedLbltFactor n run a) = λ r a' words f. let g = factors (packed n) run (floats a) (lentWords n) f in rw (g .answer, g .pivots, g .matrix)
+gives (packedLbltDeterminant n run expected a) = λ r a' words v f d.
+    let g = factors (packed n) run (floats a) (lentWords n) f in
+    let by : LbltDetermined (packed n) expected (leftSlice (packed n) run a) (leftWords (packed n) run a) v = rw (g .matrix, g .pivots) at d in
+    determines (packed n) expected (leftSlice (packed n) run a) (leftWords (packed n) run a) by
+gives (packedLbltSolve n run expected a b) = λ r s a' b' words f d.
+    let g = factors (packed n) run (floats a) (lentWords n) f in
+    let by : LbltSolved (packed n) 1 expected (leftSlice (packed n) run a) (leftWords (packed n) run a) (floats b) s b' = rw (g .matrix, g .pivots) at d in
+    solves (packed n) expected (leftSlice (packed n) run a) (leftWords (packed n) run a) by
+gives (packedCholeskyFactor n a) = λ r l f. let g = extends (packed n) (floats a) f in rw (g .0, g .1)
+gives (packedCholeskyExtend m n old rows) = λ r fresh f. grows m n (floats old) (floats rows) (lentFloats (entriesOf n)) f
+gives (packedCholeskySolve n a b) = λ r s l c f d.
+    let by : CholeskySolved (packed n) 1 (choleskySlice (packed n) (floats a)) (floats b) c s = rw (extends (packed n) (floats a) f .1) at d in
+    solves-triangles (packed n) (choleskySlice (packed n) (floats a)) by
+gives (packedExtendSizes m n old rows fresh) = λ r a b c c' long wide tall refused d.
+    let by : r ≡ tested (growTests m n old rows fresh) (grown m n a b .answer) = rw (long, wide, tall) at (d .answer) in
+    ap (λ (x : Answer). answered x ∷ []) (by ∙ tested-fixed (growTests m n old rows fresh) (grown m n a b .answer) refused)
 gives (uduFactor n p) = λ r u d f. factors-udu n (floats p) (lentFloats (n * n)) (lentFloats n) f
 gives (root x) = λ r e. rw e

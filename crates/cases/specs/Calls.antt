@@ -1,6 +1,7 @@
 -- What a worked case says: any answer and memory that meet the promises of its calls, and so what the calls answer and leave, are the numbers beside it.
 -- A float is given by its bits, and so is a signed number; a matrix by the slice that is lent, column by column.
 use mathlib.Core.List.{List, [], _∷_, map}
+use mathlib.Core.Bool.{false}
 use mathlib.Core.Path.{_≡_}
 use Prim.Native.Nat.{ℕ, _*_}
 use lib.ListN.{length, replicate}
@@ -10,10 +11,12 @@ use mir.Syntax.{w32}
 use mir.Val.{ofZ}
 use Rattle.answer.specs.declared.Answer.{Answer}
 use Rattle.answer.specs.declared.Valued.{Valued}
-use Rattle.answer.specs.Number.{codeOf, placeOf}
+use Rattle.answer.specs.declared.Answer.the-variants.{Done}
+use Rattle.answer.specs.Number.{codeOf, placeOf, isDone}
+use Rattle.answer.specs.Refusals.{tested}
 use Rattle.leaf.specs.Root.{rootOf}
 use Rattle.matrix.specs.Grid.{load}
-use Rattle.matrix.specs.Layouts.{full, inRoom, lower}
+use Rattle.matrix.specs.Layouts.{full, inRoom, packed, entriesOf, lower}
 use Rattle.pivots.specs.Words.{wordsOf}
 use Rattle.pivots_lapack.specs.declared.Listed.{Listed}
 use Rattle.pivots_lapack.specs.Calls.{ListRead, ListWritten}
@@ -27,6 +30,7 @@ use Rattle.lblt_solve.specs.Solve.{LbltSolved}
 use Rattle.lblt_bench.specs.Bench.{BenchSolved}
 use Rattle.cholesky.specs.Promise.{Extended}
 use Rattle.cholesky.specs.Solve.{CholeskySolved}
+use Rattle.packed.specs.Growing.{growTests, Grown}
 use Rattle.udu.specs.Promise.{UduFactored}
 
 unfoldable pub floats : List ℕ → List Float
@@ -71,6 +75,13 @@ pub data Call : Type 0 where
   choleskyFactor : (room n : ℕ) (a : List ℕ) → Call
   choleskySolve : (room n : ℕ) (a b : List ℕ) → Call
   choleskySolveSizes : (room n columns factor sides : ℕ) → Call
+  packedLbltFactor : (n run : ℕ) (a : List ℕ) → Call
+  packedLbltDeterminant : (n run expected : ℕ) (a : List ℕ) → Call
+  packedLbltSolve : (n run expected : ℕ) (a b : List ℕ) → Call
+  packedCholeskyFactor : (n : ℕ) (a : List ℕ) → Call
+  packedCholeskyExtend : (m n : ℕ) (old rows : List ℕ) → Call
+  packedCholeskySolve : (n : ℕ) (a b : List ℕ) → Call
+  packedExtendSizes : (m n old rows fresh : ℕ) → Call
   uduFactor : (n : ℕ) (p : List ℕ) → Call
   root : (x : ℕ) → Call
 
@@ -118,6 +129,27 @@ Gives (choleskySolve room n a b) numbers =
 Gives (choleskySolveSizes room n columns factor sides) numbers =
     (r : Answer) (a b c : List Float) → length a ≡ factor → length b ≡ sides → CholeskySolved (inRoom n room) columns a b c r
     → (answered r ∷ []) ≡ numbers
+-- on packed triangles the same as above
+Gives (packedLbltFactor n run a) numbers =
+    (r : Answer) (a' : List Float) (words : List ℕ) → Factored (packed n) run (floats a) (lentWords n) r a' words
+    → (answered r ∷ words ∷ bitsOf a' ∷ []) ≡ numbers
+Gives (packedLbltDeterminant n run expected a) numbers =
+    (r : Answer) (a' : List Float) (words : List ℕ) (v : Valued) → Factored (packed n) run (floats a) (lentWords n) r a' words → LbltDetermined (packed n) expected a' words v
+    → (answered (v .answer) ∷ (toBits binary64 (v .value) ∷ []) ∷ []) ≡ numbers
+Gives (packedLbltSolve n run expected a b) numbers =
+    (r s : Answer) (a' b' : List Float) (words : List ℕ) → Factored (packed n) run (floats a) (lentWords n) r a' words → LbltSolved (packed n) 1 expected a' words (floats b) s b'
+    → (answered s ∷ bitsOf b' ∷ []) ≡ numbers
+Gives (packedCholeskyFactor n a) numbers = (r : Answer) (l : List Float) → Extended (packed n) 0 (floats a) l r → (answered r ∷ bitsOf l ∷ []) ≡ numbers
+-- the answer, the fresh buffer
+Gives (packedCholeskyExtend m n old rows) numbers =
+    (r : Answer) (fresh : List Float) → Grown m n (floats old) (floats rows) (lentFloats (entriesOf n)) r fresh → (answered r ∷ bitsOf fresh ∷ []) ≡ numbers
+Gives (packedCholeskySolve n a b) numbers =
+    (r s : Answer) (l c : List Float) → Extended (packed n) 0 (floats a) l r → CholeskySolved (packed n) 1 l (floats b) c s
+    → (answered s ∷ bitsOf c ∷ []) ≡ numbers
+-- by the lengths alone, where they are refused: the answer
+Gives (packedExtendSizes m n old rows fresh) numbers =
+    (r : Answer) (a b c c' : List Float) → length a ≡ old → length b ≡ rows → length c ≡ fresh → isDone (tested (growTests m n old rows fresh) Done) ≡ false
+    → Grown m n a b c r c' → (answered r ∷ []) ≡ numbers
 -- the answer, u, d
 Gives (uduFactor n p) numbers =
     (r : Answer) (u d : List Float) → UduFactored (floats p) (lentFloats (n * n)) (lentFloats n) n r u d

@@ -1,9 +1,9 @@
--- Document 01's starred cases, those of Cholesky's solve, of the codes of a diagonal, of the row that a mark names, of the run number, of LAPACK pivot lists and of UDU's tail, and one of a mark after an interchange.
+-- Document 01's starred cases, those of Cholesky's solve, of the codes of a diagonal, of the row that a mark names, of the run number, of LAPACK pivot lists, of packed triangles and of UDU's tail, and one of a mark after an interchange.
 use mathlib.Core.List.{List, [], _∷_}
 use Prim.Native.Nat.{ℕ, _-_}
 use lib.IntN.{ℤ, pos, negℤ}
 use Rattle.cases.specs.Bits as bits
-use Rattle.cases.specs.Calls.{stray, lbltFactor, lbltDeterminant, lbltSolve, lbltSolveBench, lbltReaders, lbltLargest, pivotsFromLapack, pivotsToLapack, choleskyFactor, choleskySolve, choleskySolveSizes, uduFactor, root, Case, _⇒_}
+use Rattle.cases.specs.Calls.{stray, lbltFactor, lbltDeterminant, lbltSolve, lbltSolveBench, lbltReaders, lbltLargest, pivotsFromLapack, pivotsToLapack, choleskyFactor, choleskySolve, choleskySolveSizes, packedLbltFactor, packedLbltDeterminant, packedLbltSolve, packedCholeskyFactor, packedCholeskyExtend, packedCholeskySolve, packedExtendSizes, uduFactor, root, Case, _⇒_}
 
 -- ---- answers: a code and its place
 
@@ -125,6 +125,31 @@ table =
     ∷ (choleskySolveSizes 3 2 2 9 4 ⇒ done ∷ [])
     ∷ (choleskySolveSizes 0 0 1024 0 0 ⇒ done ∷ [])
     ∷ (choleskySolveSizes 1024 1024 0 1048576 0 ⇒ done ∷ [])
+    -- packed: [0 / 1 4], [0 / 1 0] and its determinant and solve, another run; [0 / 2^−600 0 / 0 2^600 0]; n·n numbers get code 3
+    ∷ (packedLbltFactor 2 7 (bits.zero ∷ bits.one ∷ bits.four ∷ []) ⇒ done ∷ (1 ∷ 1 ∷ 1 ∷ 1 ∷ 0 ∷ 7 ∷ []) ∷ (bits.four ∷ bits.quarter ∷ bits.minusQuarter ∷ []) ∷ [])
+    ∷ (packedLbltDeterminant 2 7 7 (bits.zero ∷ bits.one ∷ bits.zero ∷ []) ⇒ done ∷ (bits.minusOne ∷ []) ∷ [])
+    ∷ (packedLbltSolve 2 7 7 (bits.zero ∷ bits.one ∷ bits.zero ∷ []) (bits.three ∷ bits.five ∷ []) ⇒ done ∷ (bits.five ∷ bits.three ∷ []) ∷ [])
+    ∷ (packedLbltSolve 2 7 8 (bits.zero ∷ bits.one ∷ bits.zero ∷ []) (bits.three ∷ bits.five ∷ []) ⇒ refused 13 0 ∷ (bits.three ∷ bits.five ∷ []) ∷ [])
+    ∷ (packedLbltFactor 3 7 (bits.zero ∷ bits.tiny ∷ bits.zero ∷ bits.zero ∷ bits.huge ∷ bits.zero ∷ [])
+    ⇒ done ∷ (0 ∷ 1 ∷ 1 ∷ 1 ∷ 2 ∷ 1 ∷ 3 ∷ 7 ∷ []) ∷ (bits.zero ∷ bits.infinity ∷ bits.nan ∷ bits.minusInfinity ∷ bits.nan ∷ bits.nan ∷ []) ∷ [])
+    ∷ (packedLbltFactor 2 7 (bits.zero ∷ bits.one ∷ bits.four ∷ stray ∷ []) ⇒ refused 3 0 ∷ (99 ∷ 99 ∷ 99 ∷ 99 ∷ 99 ∷ 99 ∷ []) ∷ (bits.zero ∷ bits.one ∷ bits.four ∷ stray ∷ []) ∷ [])
+    -- packed Cholesky [4 / 2 5]: [2 / 1 2], and (8, 11) solves to (1.125, 1.75); [1 / 1 1]: code 7 at 1, leaving 0 at (1,1)
+    ∷ (packedCholeskyFactor 2 (bits.four ∷ bits.two ∷ bits.five ∷ []) ⇒ done ∷ (bits.two ∷ bits.one ∷ bits.two ∷ []) ∷ [])
+    ∷ (packedCholeskySolve 2 (bits.four ∷ bits.two ∷ bits.five ∷ []) (bits.eight ∷ bits.eleven ∷ []) ⇒ done ∷ (0x3ff2_0000_0000_0000 ∷ 0x3ffc_0000_0000_0000 ∷ []) ∷ [])
+    ∷ (packedCholeskyFactor 2 (bits.one ∷ bits.one ∷ bits.one ∷ []) ⇒ refused 7 1 ∷ (bits.one ∷ bits.one ∷ bits.zero ∷ []) ∷ [])
+    -- the same by a further batch: rows 0 and 1 at once, row 1 after the factor [2], no rows; [1] and row (1, 1): code 7 at 1; [2] and row (2, NaN): code 11 at 1
+    ∷ (packedCholeskyExtend 0 2 [] (bits.four ∷ bits.two ∷ bits.five ∷ []) ⇒ done ∷ (bits.two ∷ bits.one ∷ bits.two ∷ []) ∷ [])
+    ∷ (packedCholeskyExtend 1 2 (bits.two ∷ []) (bits.two ∷ bits.five ∷ []) ⇒ done ∷ (bits.two ∷ bits.one ∷ bits.two ∷ []) ∷ [])
+    ∷ (packedCholeskyExtend 2 2 (bits.two ∷ bits.one ∷ bits.two ∷ []) [] ⇒ done ∷ (bits.two ∷ bits.one ∷ bits.two ∷ []) ∷ [])
+    ∷ (packedCholeskyExtend 1 2 (bits.one ∷ []) (bits.one ∷ bits.one ∷ []) ⇒ refused 7 1 ∷ (bits.one ∷ bits.one ∷ bits.zero ∷ []) ∷ [])
+    ∷ (packedCholeskyExtend 1 2 (bits.two ∷ []) (bits.two ∷ bits.nan ∷ []) ⇒ refused 11 1 ∷ (bits.two ∷ bits.one ∷ bits.nan ∷ []) ∷ [])
+    ∷ (packedCholeskyExtend 1 2 (bits.two ∷ bits.two ∷ []) (bits.two ∷ bits.five ∷ []) ⇒ refused 3 0 ∷ (stray ∷ stray ∷ stray ∷ []) ∷ [])
+    -- its refusals in their order, each call with the later faults too
+    ∷ (packedExtendSizes 1025 1024 2 5 7 ⇒ refused 1 0 ∷ [])
+    ∷ (packedExtendSizes 3 2 2 5 7 ⇒ refused 2 0 ∷ [])
+    ∷ (packedExtendSizes 1 2 2 5 7 ⇒ refused 3 0 ∷ [])
+    ∷ (packedExtendSizes 1 2 1 3 7 ⇒ refused 4 0 ∷ [])
+    ∷ (packedExtendSizes 1 2 1 2 4 ⇒ refused 4 0 ∷ [])
     -- UDU [49]: u is below 1
     ∷ (uduFactor 1 (bits.fortyNine ∷ []) ⇒ done ∷ (bits.belowOne ∷ []) ∷ (bits.fortyNine ∷ []) ∷ [])
     -- UDU [0]: code 8 at 0

@@ -2,9 +2,7 @@
 use mathlib.Core.Path.{_≡_, sym, _∙_, ap, ap₂, subst}
 use mathlib.Core.List.{List}
 use mathlib.Core.Logic.{inl}
-use Prim.Native.Nat.{ℕ, _+_, _*_, _-_, _≤_, _<_}
-use native.Mathlib.Nat.{mul-le-mul-right, suc-mul}
-use native.Mathlib.Numerals.{add-one}
+use Prim.Native.Nat.{ℕ, _+_, _-_, _≤_, _<_}
 use native.Mathlib.Omega.{arith}
 use lib.ListN.{length, getD}
 use lib.Ieee.{Float, nan, neg}
@@ -12,27 +10,21 @@ use Rattle.matrix.specs.declared.Layout.{Layout}
 use Rattle.matrix.specs.Matrix.{Matrix}
 use Rattle.matrix.specs.Loop.{for}
 use Rattle.matrix.specs.Grid.{Sound, load}
-use Rattle.matrix.specs.Layouts.{Roomy, startOf, lower, Laid}
+use Rattle.matrix.specs.Layouts.{startOf, lower, Laid}
 use Rattle.matrix.specs.Rounded.{_⊕_, _⊗_, _⊘_}
 use Rattle.matrix.proofs.Loops.{for-none, for-same, for-one, for-four, for-join}
+use Rattle.matrix.proofs.Triangles.{columns-apart}
 use Rattle.matrix.proofs.Places.{lower-at, lower-within}
 use Rattle.strips.specs.declared.Source.{Source}
 use Rattle.cholesky.specs.Column.{less, updated, divided, part}
 use Rattle.cholesky.specs.Run.{updates, below}
 use Rattle.strips.specs.inner.Strip.{rowAt, Strip, Elsewhere, plus, axpyOf, axpy4Of, ratioOf}
+use Rattle.strips.proofs.Strips.{strip-at}
 use Rattle.cholesky.specs.Leaves.{Leaves}
 use Rattle.cholesky.specs.inner.Engine.{Reach, Sourced, lessColumns, TakenOff}
 use Rattle.cholesky.proofs.Parts.{Where, within, above, beside, where?, part-in, part-above, part-beside, Agree, agree-same, part-agree, leaves-agree, leaves-none, leaves-as, leaves-then, strip-leaves}
 
 -- ---- places
-
--- column k ends before row j of a later column j
-columns-apart : (y : Layout) (k j : ℕ) → Roomy y → k < j → y .order + startOf y k ≤ j + startOf y j
-unfolding startOf
-columns-apart y k j roomy before =
-    let whole : (k + 1) * y .room ≤ j * y .room = mul-le-mul-right (y .room) (omega arith) in
-    let split : (k + 1) * y .room ≡ k * y .room + y .room = rw add-one (suc-mul k (y .room)) in
-    omega arith
 
 pub column-inside : {y : Layout} {l : List Float} {j to : ℕ} → Laid y l → j < y .order → to ≡ startOf y j → y .order + to ≤ length l
 column-inside {y} {l} {j} laid lt is = omega (arith, lower-within y l (y .order - 1) j laid (omega arith) (omega arith))
@@ -40,7 +32,7 @@ column-inside {y} {l} {j} laid lt is = omega (arith, lower-within y l (y .order 
 pub source-elsewhere : {y : Layout} {l : List Float} {r j k to : ℕ} {s : Source} → Laid y l → Reach y r j → k < j → Sourced y l j k s → to ≡ startOf y j → Elsewhere r (y .order) to l s
 source-elsewhere {y} {l} {r} {j} {k} {to} {s} laid reach before is at = record {
   within = column-inside laid (omega arith) (is .start);
-  beside = inl (omega (arith, columns-apart y k j (laid .roomy) before, is .start, reach .from));
+  beside = inl (let apart = columns-apart y k j before (omega (arith, laid .roomy .ordered, reach .column)) in omega (arith, is .start, reach .from, laid .roomy .ordered));
 }
 
 -- ---- one column taken off, all columns, the division
@@ -61,7 +53,7 @@ module _ {y : Layout} {r j : ℕ} {l₀ l : List Float} (laid : Laid y l₀) whe
   part-leaves : (from : j ≤ r) (to : ℕ) (v w : ℕ → Float) → to ≡ startOf y j → Strip to r (y .order) v l₀ l → ((i : ℕ) → j ≤ i → i < y .order → v i ≡ w i)
       → Leaves y l₀ l (part r j w (load (lower y) l₀))
   part-leaves from to v w is strip same =
-      leaves-as (strip-leaves y r j v l₀ l (laid .sound) from (subst (λ (s : ℕ). Strip s r (y .order) v l₀ l) is strip))
+      leaves-as (strip-leaves y r j v l₀ l (laid .sound) from (strip-at is strip))
       (part-agree r j v w agree-same (λ i a b. same i (omega arith) b))
 
   pub subtract-leaves : {k to : ℕ} {s : Source} → Reach y r j → k < j → to ≡ startOf y j → Sourced y l₀ j k s

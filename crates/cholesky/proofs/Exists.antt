@@ -11,8 +11,9 @@ use Rattle.answer.specs.Number.{isDone}
 use Rattle.answer.specs.Refusals.{tested}
 use Rattle.answer.proofs.Done.{done-or-refused}
 use Rattle.matrix.specs.declared.Layout.{Layout}
-use Rattle.matrix.specs.Layouts.{inRoom}
+use Rattle.matrix.specs.Layouts.{inRoom, lower}
 use Rattle.matrix.specs.Sizes.{sizeTests}
+use Rattle.matrix.proofs.Places.{lower-low, lower-left}
 use Rattle.matrix.proofs.Sizes.{done-fits, laid-fits}
 use Rattle.matrix.proofs.Slices.{overlaid, overlaid-holds}
 use Rattle.cholesky.specs.Promise.{batch, Extended}
@@ -25,8 +26,8 @@ extended-some y m l =
     (λ done.
     let f = done-fits y m (length l) Done done in
     let cells = batch y m l .cells in
-    let holds = overlaid-holds (f .roomy .ordered) (laid-fits f .sound) cells in
-    (overlaid y l cells, (batch y m l .answer, extended-fit f (record { answer = refl; leaves = record { holds = holds } }))))
+    let holds = overlaid-holds (y .order) (lower-low y) (lower-left y) (laid-fits f .sound) cells in
+    (overlaid (lower y) (y .order) l cells, (batch y m l .answer, extended-fit f (record { answer = refl; leaves = record { holds = holds } }))))
     (λ failed. (l, (tested (sizeTests y m (length l)) Done, extended-unfit refl failed)))
 
 -- batches over the cuts stop somewhere

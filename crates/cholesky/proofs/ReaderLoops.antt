@@ -1,5 +1,6 @@
 -- The laws of the readers' loops. Assumes nothing.
 use mathlib.Core.Path.{_≡_, refl, sym, _∙_, ap, subst}
+use mathlib.Core.Bool.{false}
 use mathlib.Core.List.{List}
 use mathlib.Core.Logic.{⊎-elim}
 use Prim.Native.Nat.{ℕ, _+_, _*_, _-_, _≤_, _<_}
@@ -13,12 +14,12 @@ use Rattle.matrix.specs.Matrix.{Matrix, allZero}
 use Rattle.matrix.specs.Grid.{Holds, load, mask}
 use Rattle.matrix.specs.Layouts.{Roomy, startOf, placeIn, lower, strict, square, Laid, Fills}
 use Rattle.matrix.proofs.Grids.{load-is}
-use Rattle.matrix.proofs.Places.{digits-column, strict-low, strict-left, in-strict, strict-fair, lower-at}
+use Rattle.matrix.proofs.Places.{digits-column, strict-low, strict-left, in-strict, strict-fair, lower-at, plain-start}
 use Rattle.matrix.proofs.Squares.{fills-each}
 use Rattle.strips.specs.inner.Strip.{Strip, rowAt, zeroAt}
 use Rattle.cholesky.specs.Readers.{triangle}
 use Rattle.cholesky.specs.inner.Engine.{down}
-use Rattle.strips.proofs.Strips.{strip-as, strip-join}
+use Rattle.strips.proofs.Strips.{strip-as, strip-at, strip-join}
 
 -- ---- l, column by column
 
@@ -63,9 +64,8 @@ pub record Unpacking (y : Layout) (l₀ : List Float) (j : ℕ) (l : List Float)
 pub unpacking-none : {y : Layout} {l : List Float} → Unpacking y l 0 l
 unpacking-none = record { upto = omega arith; long = refl; each = λ i c row column. absurd (omega arith); kept = λ p free. refl }
 
-pub unpacking-more : {y : Layout} {l₀ : List Float} {j : ℕ} {l l' : List Float} (s : ℕ) → Unpacking y l₀ j l → Roomy y → j < y .order → s ≡ startOf y j → Strip s 0 j zeroAt l l' → Unpacking y l₀ (j + 1) l'
-unfolding startOf
-unpacking-more {y} {l₀} {j} {l} {l'} s f roomy lt is strip' = record {
+pub unpacking-more : {y : Layout} {l₀ : List Float} {j : ℕ} {l l' : List Float} (s : ℕ) → Unpacking y l₀ j l → y .packed ≡ false → Roomy y → j < y .order → s ≡ startOf y j → Strip s 0 j zeroAt l l' → Unpacking y l₀ (j + 1) l'
+unpacking-more {y} {l₀} {j} {l} {l'} s f plain roomy lt is strip' = record {
   upto = omega arith;
   long = strip .long ∙ f .long;
   each = each;
@@ -73,7 +73,7 @@ unpacking-more {y} {l₀} {j} {l} {l'} s f roomy lt is strip' = record {
 }
   where
     strip : Strip (startOf y j) 0 j zeroAt l l'
-    strip = subst (λ (s : ℕ). Strip s 0 j zeroAt l l') is strip'
+    strip = strip-at is strip'
 
     each : (i c : ℕ) → i < c → c < j + 1 → getD l' (i + startOf y c) nan ≡ allZero i c
     each i c row column =
@@ -81,14 +81,15 @@ unpacking-more {y} {l₀} {j} {l} {l'} s f roomy lt is strip' = record {
         (λ (same : c ≡ j). subst (λ (c : ℕ). getD l' (i + startOf y c) nan ≡ allZero i c) (sym same) (strip .inside i (omega arith) (omega arith)))
         (λ (less : c < j).
         strip .outside (i + startOf y c)
-        (λ k low under e. let same : c ≡ j = digits-column (y .room) i c k j (omega arith) (omega arith) e in omega arith)
+        (λ k low under e.
+        let same : c ≡ j = digits-column (y .room) i c k j (omega arith) (omega arith) (rw (plain-start y plain c, plain-start y plain j) at e) in omega arith)
         ∙ f .each i c row less)
         (eq-or-lt-of-le {n = c} {m = j} (omega arith))
 
-pub unpacking-all : {y : Layout} {l₀ : List Float} {j : ℕ} {l : List Float} → Unpacking y l₀ j l → y .order ≤ j → Laid y l₀ → Holds (strict y) l₀ l (mask (strict y) allZero)
+pub unpacking-all : {y : Layout} {l₀ : List Float} {j : ℕ} {l : List Float} → Unpacking y l₀ j l → y .order ≤ j → y .packed ≡ false → Laid y l₀ → Holds (strict y) l₀ l (mask (strict y) allZero)
 unfolding strict lower placeIn
-unpacking-all {y} {l₀} {j} {l} f past laid = record {
-  sound = record { fair = strict-fair y (laid .roomy); long = f .long ∙ laid .sound .long };
+unpacking-all {y} {l₀} {j} {l} f past plain laid = record {
+  sound = record { fair = strict-fair y plain (laid .roomy); long = f .long ∙ laid .sound .long };
   cells = load-is (strict y) l allZero (λ i c t. let b = strict-left y i c t in f .each i c (strict-low y i c t) (omega arith));
   kept = λ p free. f .kept p (λ i c row column e. free i c (in-strict y i c row (let h = f .upto in omega arith)) e);
 }

@@ -67,9 +67,10 @@ fn source(y: Layout, a: &[f64], j: usize, k: usize) -> Source
     requires { ⌜ j < y .order ⌝ }
     ensures { λ s. ⌜ Sourced y (now (a .entry)) j k s ⌝ }
 {
+    let start = y.start(k);
     Source {
-        start: y.start(k),
-        scale: -matrix::get(y, a, j, k),
+        start: start,
+        scale: -a[j + start],
     }
 }
 

@@ -11,16 +11,21 @@ use answer::Answer;
 use answer::Valued;
 use matrix::Layout;
 
-// The first `earlier` rows are factored already: rows `earlier` to n are.
-pub fn extend(a: &mut [f64], room: usize, earlier: usize, n: usize) -> Answer
-    ensures { λ r. ⌜ Extended (inRoom n room) earlier (now (a .entry)) (now (a .exit)) r ⌝ }
+// The first `earlier` rows of a layout are factored already: the others are.
+pub fn extend_on(y: Layout, a: &mut [f64], earlier: usize) -> Answer
+    ensures { λ r. ⌜ Extended y earlier (now (a .entry)) (now (a .exit)) r ⌝ }
 {
-    let y = Layout::in_room(n, room);
     let fault = y.check(earlier, a.len());
     if fault.code() != 0 {
         return fault;
     }
     engine::run(y, a, earlier)
+}
+
+pub fn extend(a: &mut [f64], room: usize, earlier: usize, n: usize) -> Answer
+    ensures { λ r. ⌜ Extended (inRoom n room) earlier (now (a .entry)) (now (a .exit)) r ⌝ }
+{
+    extend_on(Layout::in_room(n, room), a, earlier)
 }
 
 pub fn factor(a: &mut [f64], room: usize, n: usize) -> Answer
@@ -29,14 +34,13 @@ pub fn factor(a: &mut [f64], room: usize, n: usize) -> Answer
     extend(a, room, 0, n)
 }
 
-// Solves A x = b for each of the columns of b, n numbers a column, by the factor of A.
-pub fn solve_mut(a: &[f64], b: &mut [f64], room: usize, n: usize, columns: usize) -> Answer
-    ensures { λ r. ⌜ CholeskySolved (inRoom n room) columns (now (a .entry)) (now (b .entry)) (now (b .exit)) r ⌝ }
+// Solves A x = b for each of the columns of b, n numbers a column, by the factor of A in a layout.
+pub fn solve_on(y: Layout, a: &[f64], b: &mut [f64], columns: usize) -> Answer
+    ensures { λ r. ⌜ CholeskySolved y columns (now (a .entry)) (now (b .entry)) (now (b .exit)) r ⌝ }
 {
     if 1024 < columns {
         return Answer::OutOfRange;
     }
-    let y = Layout::in_room(n, room);
     let fault = y.check(0, a.len());
     if fault.code() != 0 {
         return fault;
@@ -46,6 +50,12 @@ pub fn solve_mut(a: &[f64], b: &mut [f64], room: usize, n: usize, columns: usize
     }
     cholesky_solve_four::solve_sides(y, a, b, columns);
     Answer::Done
+}
+
+pub fn solve_mut(a: &[f64], b: &mut [f64], room: usize, n: usize, columns: usize) -> Answer
+    ensures { λ r. ⌜ CholeskySolved (inRoom n room) columns (now (a .entry)) (now (b .entry)) (now (b .exit)) r ⌝ }
+{
+    solve_on(Layout::in_room(n, room), a, b, columns)
 }
 
 // The factor in a lent n·n matrix of its own, +0 above the diagonal.

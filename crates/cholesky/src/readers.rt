@@ -1,4 +1,5 @@
 // What is read from a factor.
+ghost use mathlib.Core.Bool.{false};
 ghost use mathlib.Core.Path.{_≡_};
 ghost use Prim.Native.Nat.{_*_, _<_};
 ghost use lib.ListN.{length};
@@ -28,6 +29,7 @@ pub fn diagonal(y: Layout, a: &[f64]) -> f64
 // The strict upper part becomes +0.
 pub fn clear_above(y: Layout, a: &mut [f64])
     requires { ⌜ Laid y (now a) ⌝ }
+    requires { ⌜ y .packed ≡ false ⌝ }
     ensures { λ _. ⌜ Holds (strict y) (now (a .entry)) (now (a .exit)) (mask (strict y) allZero) ⌝ }
 {
     let n = y.order;

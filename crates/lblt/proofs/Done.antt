@@ -25,11 +25,6 @@ use Rattle.lblt.specs.inner.Engine.{Steps}
 
 -- ---- the ways out
 
--- the sizes were tested, and the code of the answer is 0
-pub right-size : (n : ℕ) (a : List Float) {y : Layout} (r : Answer) {code : ℕ}
-    → y ≡ full n → r ≡ tested (sizeTests y 0 (length a)) Done → code ≡ codeOf r → code ≡ 0 → Fits (full n) 0 (length a)
-right-size n a r made is read zero = done-fits (full n) 0 (length a) Done (ap isDone (sym (rw made at is)) ∙ code-done r read zero)
-
 module _ (y : Layout) (a : List Float) (words : List ℕ) where
   -- after the tests of size, the record's
   abbrev lengthTest : List Test

@@ -64,21 +64,27 @@ fn steps(y: Layout, a: &mut [f64], words: &mut [u32]) -> u32
     s.mark
 }
 
-// Factors the lower triangle of a matrix of order n in n·n numbers, column by column, and writes its pivot record, which ends with
-// the caller's run number. An order above 1,024, then a wrong length of the matrix, then of the record, is refused, and nothing is written.
-pub fn factor(a: &mut [f64], words: &mut [u32], n: usize, run: u32) -> Answer
-    ensures { λ r. ⌜ Factored (full n) run (now (a .entry)) (now (words .entry)) r (now (a .exit)) (now (words .exit)) ⌝ }
+// Factors the lower triangle of a layout, and writes its pivot record, which ends with the caller's run number. An order above 1,024,
+// then a wrong length of the matrix, then of the record, is refused, and nothing is written.
+pub fn factor_on(y: Layout, a: &mut [f64], words: &mut [u32], run: u32) -> Answer
+    ensures { λ r. ⌜ Factored y run (now (a .entry)) (now (words .entry)) r (now (a .exit)) (now (words .exit)) ⌝ }
 {
-    let y = Layout::full(n);
     let fault = y.check(0, a.len());
     if fault.code() != 0 {
         return fault;
     }
-    if words.len() != pivots::words(n) {
+    if words.len() != pivots::words(y.order) {
         return Answer::SliceLength;
     }
     let mark = steps(y, a, words);
-    pivots::put_mark(words, n, mark);
-    pivots::put_run(words, n, run);
+    pivots::put_mark(words, y.order, mark);
+    pivots::put_run(words, y.order, run);
     Answer::Done
+}
+
+// The same of a matrix of order n in n·n numbers, column by column.
+pub fn factor(a: &mut [f64], words: &mut [u32], n: usize, run: u32) -> Answer
+    ensures { λ r. ⌜ Factored (full n) run (now (a .entry)) (now (words .entry)) r (now (a .exit)) (now (words .exit)) ⌝ }
+{
+    factor_on(Layout::full(n), a, words, run)
 }

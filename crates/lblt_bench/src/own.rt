@@ -3,7 +3,7 @@ ghost use mathlib.Core.Path.{_≡_};
 ghost use Prim.Native.Nat.{_+_, _≤_, _<_};
 ghost use lib.ListN.{length, getD};
 ghost use Rattle.matrix.specs.Grid.{load};
-ghost use Rattle.matrix.specs.Layouts.{full, lower};
+ghost use Rattle.matrix.specs.Layouts.{lower};
 ghost use Rattle.matrix.specs.Loop.{for};
 ghost use Rattle.matrix.specs.Columns.{atColumn, eachChosen, Lined};
 ghost use Rattle.lblt_solve_one.specs.Column.{solveColumn};
@@ -58,7 +58,7 @@ fn solve_stretch(
     requires { ⌜ Readable y (now a) (now words) ⌝ }
     requires { ⌜ Lined (y .order) columns (now b) ⌝ }
     requires { ⌜ j + count ≤ columns ⌝ }
-    requires { ⌜ y ≡ full (y .order) ⌝ }
+    requires { ⌜ y .room ≡ y .order ⌝ }
     ensures { λ _. ⌜ now (b .exit) ≡ for j (j + count) (atColumn (y .order) (solveColumn (y .order) (load (lower y) (now (a .entry))) (now (words .entry)))) (now (b .entry)) ⌝ }
 {
     let n = y.order;
@@ -81,7 +81,7 @@ fn solve_from(
     requires { ⌜ Readable y (now a) (now words) ⌝ }
     requires { ⌜ Lined (y .order) (length (now benches)) (now b) ⌝ }
     requires { ⌜ j < length (now benches) ⌝ }
-    requires { ⌜ y ≡ full (y .order) ⌝ }
+    requires { ⌜ y .room ≡ y .order ⌝ }
     ensures { λ r. ⌜ Gone (y .order) (solveColumn (y .order) (load (lower y) (now (a .entry))) (now (words .entry))) (now (benches .entry)) bench j r (now (b .entry)) (now (b .exit)) ⌝ }
 {
     let number = benches[j];
@@ -100,7 +100,7 @@ fn solve_from(
 pub fn solve(y: Layout, a: &[f64], words: &[u32], b: &mut [f64], benches: &[u32], bench: u32)
     requires { ⌜ Readable y (now a) (now words) ⌝ }
     requires { ⌜ Lined (y .order) (length (now benches)) (now b) ⌝ }
-    requires { ⌜ y ≡ full (y .order) ⌝ }
+    requires { ⌜ y .room ≡ y .order ⌝ }
     ensures { λ _. ⌜ now (b .exit) ≡ eachChosen (y .order) (length (now (benches .entry))) (owns (now (benches .entry)) bench) (solveColumn (y .order) (load (lower y) (now (a .entry))) (now (words .entry))) (now (b .entry)) ⌝ }
 {
     let mut j: usize = 0;

@@ -68,16 +68,21 @@ pub fn check_sides(y: Layout, columns: usize, a: &[f64], b: &[f64]) -> Answer
 
 // ---- the readers
 
-pub fn determinant(a: &[f64], words: &[u32], n: usize, run: u32) -> Valued
-    ensures { λ r. ⌜ LbltDetermined (full n) run (now (a .entry)) (now (words .entry)) r ⌝ }
+pub fn determinant_on(y: Layout, a: &[f64], words: &[u32], run: u32) -> Valued
+    ensures { λ r. ⌜ LbltDetermined y run (now (a .entry)) (now (words .entry)) r ⌝ }
 {
-    let y = Layout::full(n);
     let answer = check_factor(y, a, words, run);
     if answer.code() != 0 {
         return Valued { answer, value: 0.0 };
     }
     let value = diagonal::product(y, a, words);
     Valued { answer, value }
+}
+
+pub fn determinant(a: &[f64], words: &[u32], n: usize, run: u32) -> Valued
+    ensures { λ r. ⌜ LbltDetermined (full n) run (now (a .entry)) (now (words .entry)) r ⌝ }
+{
+    determinant_on(Layout::full(n), a, words, run)
 }
 
 // Fills d with the block diagonal matrix.

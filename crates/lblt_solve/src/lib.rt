@@ -36,7 +36,27 @@ fn check(y: Layout, columns: usize, a: &[f64], words: &[u32], b: &[f64], run: u3
     check_mark(read, words, y.order)
 }
 
-// Solves A x = b for each of the columns of b, n numbers a column.
+// Solves A x = b for each of the columns of b, n numbers a column, in a layout that is no larger than its order.
+pub fn solve_on(
+    y: Layout,
+    a: &[f64],
+    words: &[u32],
+    b: &mut [f64],
+    columns: usize,
+    run: u32,
+) -> Answer
+    requires { ⌜ y .room ≡ y .order ⌝ }
+    ensures { λ r. ⌜ LbltSolved y columns run (now (a .entry)) (now (words .entry)) (now (b .entry)) r (now (b .exit)) ⌝ }
+{
+    let answer = check(y, columns, a, words, b, run);
+    if answer.code() != 0 {
+        return answer;
+    }
+    sides::solve(y, a, words, b, columns);
+    answer
+}
+
+// The same of a factor in n·n numbers.
 pub fn solve_mut(
     a: &[f64],
     words: &[u32],
@@ -47,11 +67,5 @@ pub fn solve_mut(
 ) -> Answer
     ensures { λ r. ⌜ LbltSolved (full n) columns run (now (a .entry)) (now (words .entry)) (now (b .entry)) r (now (b .exit)) ⌝ }
 {
-    let y = Layout::full(n);
-    let answer = check(y, columns, a, words, b, run);
-    if answer.code() != 0 {
-        return answer;
-    }
-    sides::solve(y, a, words, b, columns);
-    answer
+    solve_on(Layout::full(n), a, words, b, columns, run)
 }

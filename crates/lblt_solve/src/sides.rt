@@ -1,7 +1,7 @@
 // The columns of a solve: few of them one by one, else together.
 ghost use mathlib.Core.Path.{_≡_};
 ghost use Rattle.matrix.specs.Grid.{load};
-ghost use Rattle.matrix.specs.Layouts.{full, lower};
+ghost use Rattle.matrix.specs.Layouts.{lower};
 ghost use Rattle.matrix.specs.Columns.{eachColumn, Lined};
 ghost use Rattle.lblt_solve_one.specs.Column.{solveColumn};
 ghost use Rattle.lblt_solve_one.specs.inner.Engine.{Readable};
@@ -13,7 +13,7 @@ use matrix::Layout;
 pub fn solve(y: Layout, a: &[f64], words: &[u32], b: &mut [f64], columns: usize)
     requires { ⌜ Readable y (now a) (now words) ⌝ }
     requires { ⌜ Lined (y .order) columns (now b) ⌝ }
-    requires { ⌜ y ≡ full (y .order) ⌝ }
+    requires { ⌜ y .room ≡ y .order ⌝ }
     ensures { λ _. ⌜ now (b .exit) ≡ eachColumn (y .order) columns (solveColumn (y .order) (load (lower y) (now (a .entry))) (now (words .entry))) (now (b .entry)) ⌝ }
 {
     if columns < 4 {
@@ -27,11 +27,10 @@ pub fn solve(y: Layout, a: &[f64], words: &[u32], b: &mut [f64], columns: usize)
 pub fn together(y: Layout, a: &[f64], words: &[u32], b: &mut [f64], columns: usize)
     requires { ⌜ Readable y (now a) (now words) ⌝ }
     requires { ⌜ Lined (y .order) columns (now b) ⌝ }
-    requires { ⌜ y ≡ full (y .order) ⌝ }
+    requires { ⌜ y .room ≡ y .order ⌝ }
     ensures { λ _. ⌜ now (b .exit) ≡ eachColumn (y .order) columns (solveColumn (y .order) (load (lower y) (now (a .entry))) (now (words .entry))) (now (b .entry)) ⌝ }
 {
-    // the same layout, with its room known to the compiler
-    let z = Layout::full(y.order);
+    let z = y.tight();
     // just four columns are one group of four, which pays from order 5 on
     let small = if columns == 4 { 5 } else { 8 };
     if z.order < small {

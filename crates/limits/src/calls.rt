@@ -22,6 +22,13 @@ pub enum Call {
     UduFactor,
     FirstTwin,
     FirstTwinSince,
+    PackedLbltFactor,
+    PackedLbltSolve,
+    PackedLbltDeterminant,
+    PackedCholeskyFactor,
+    PackedCholeskyExtend,
+    PackedCholeskySolve,
+    PackedFirstTwin,
 }
 
 impl Call {
@@ -45,6 +52,13 @@ impl Call {
             Call::UduFactor => io::write_all(1, b"udu_factor"),
             Call::FirstTwin => io::write_all(1, b"first_twin"),
             Call::FirstTwinSince => io::write_all(1, b"first_twin_since"),
+            Call::PackedLbltFactor => io::write_all(1, b"packed_lblt_factor"),
+            Call::PackedLbltSolve => io::write_all(1, b"packed_lblt_solve"),
+            Call::PackedLbltDeterminant => io::write_all(1, b"packed_lblt_determinant"),
+            Call::PackedCholeskyFactor => io::write_all(1, b"packed_cholesky_factor"),
+            Call::PackedCholeskyExtend => io::write_all(1, b"packed_cholesky_extend"),
+            Call::PackedCholeskySolve => io::write_all(1, b"packed_cholesky_solve"),
+            Call::PackedFirstTwin => io::write_all(1, b"packed_first_twin"),
         }
     }
 
@@ -91,6 +105,17 @@ impl Call {
             Call::UduFactor => plain(udu::factor(&a, &mut u, &mut d, n)),
             Call::FirstTwin => told(twins::first_twin(&a, room, n)),
             Call::FirstTwinSince => told(twins::first_twin_since(&a, room, earlier, n)),
+            Call::PackedLbltFactor => plain(packed::lblt_factor(&mut a, &mut record, n, 7)),
+            Call::PackedLbltSolve => {
+                plain(packed::lblt_solve(&a, &record, &mut b, n, columns, 7))
+            }
+            Call::PackedLbltDeterminant => valued(packed::lblt_determinant(&a, &record, n, 7)),
+            Call::PackedCholeskyFactor => plain(packed::cholesky_factor(&mut a, n)),
+            Call::PackedCholeskyExtend => {
+                plain(packed::cholesky_extend(&u, &a, &mut d, earlier, n))
+            }
+            Call::PackedCholeskySolve => plain(packed::cholesky_solve(&a, &mut b, n, columns)),
+            Call::PackedFirstTwin => told(packed::first_twin(&a, n)),
         }
     }
 }

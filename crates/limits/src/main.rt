@@ -10,6 +10,7 @@ fn main() {
     cholesky();
     order(Call::UduFactor);
     twins();
+    packed_triangles();
 }
 
 fn lblt() {
@@ -51,6 +52,19 @@ fn twins() {
     room(Call::FirstTwinSince);
     order(Call::FirstTwinSince);
     earlier_order(Call::FirstTwinSince);
+}
+
+fn packed_triangles() {
+    order(Call::PackedLbltFactor);
+    order(Call::PackedLbltSolve);
+    columns(Call::PackedLbltSolve);
+    order(Call::PackedLbltDeterminant);
+    order(Call::PackedCholeskyFactor);
+    order(Call::PackedCholeskyExtend);
+    earlier_order(Call::PackedCholeskyExtend);
+    order(Call::PackedCholeskySolve);
+    columns(Call::PackedCholeskySolve);
+    order(Call::PackedFirstTwin);
 }
 
 fn room(call: Call) {

@@ -42,6 +42,9 @@ pub mask-in : (g : Grid) (M : Matrix) (i j : ℕ) → T (g .inside i j) → mask
 unfolding mask
 mask-in g M i j t = rw (is-true (g .inside i j) t)
 
+pub mask-load : (g : Grid) (l : List Float) → mask g (load g l) ≡ load g l
+mask-load g l = sym (load-is g l (load g l) (λ i j t. sym (load-in g l i j t)))
+
 -- two matrices that agree on the grid
 pub same-cells : (g : Grid) (M N : Matrix) → ((i j : ℕ) → T (g .inside i j) → M i j ≡ N i j) → mask g M ≡ mask g N
 unfolding mask

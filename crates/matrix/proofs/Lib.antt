@@ -2,11 +2,13 @@ pub mod Loops
 pub mod Turning
 pub mod Stores
 pub mod Grids
+pub mod Triangles
 pub mod Places
 pub mod Sizes
 pub mod Squares
 pub mod Products
 pub mod Slices
+pub mod Engines
 pub mod ColumnsLoops
 pub mod Columns
 pub mod ColumnsLent

@@ -1,11 +1,11 @@
 -- Where entries stand: the project's grids are fair, and what engines on plain offsets need of places.
 -- Assumes nothing.
 use mathlib.Core.Path.{_≡_, refl, sym, _∙_, ap}
-use mathlib.Core.Bool.{_&&_}
+use mathlib.Core.Bool.{Bool, true, false, cond, _&&_}
 use mathlib.Core.List.{List}
-use Prim.Native.Nat.{ℕ, _+_, _*_, _/_, _%_, _≤_, _<_}
-use native.Mathlib.Nat.{mod-eq-of-lt, add-mul-mod-self-right, add-mul-div-right, div-eq-of-lt, zero-add, mul-le-mul, mul-le-mul-right, suc-mul}
-use native.Mathlib.Numerals.{add-one}
+use Prim.Native.Nat.{ℕ, _+_, _-_, _*_, _/_, _%_, _≤_, _<_}
+use native.Mathlib.Nat.{mod-eq-of-lt, add-mul-mod-self-right, add-mul-div-right, div-eq-of-lt, zero-add, mul-le-mul, mul-le-mul-right}
+use native.Mathlib.Decide.{decLt}
 use native.Mathlib.Omega.{arith}
 use lib.Dec.{T, leb, ltb, leb→le, ltb→lt, le→leb, lt→ltb}
 use lib.ListN.{length, getD}
@@ -13,8 +13,9 @@ use lib.Ieee.{Float, nan}
 use lib.Ieee.Fits.{and-l, and-r, and-i}
 use Rattle.matrix.specs.declared.Layout.{Layout}
 use Rattle.matrix.specs.Grid.{Grid, Fair, load}
-use Rattle.matrix.specs.Layouts.{Roomy, startOf, sizeOf, inLower, placeIn, lower, inStrict, strict, inUpper, inSquare, placeSquare, upper, square, Laid}
+use Rattle.matrix.specs.Layouts.{inRoom, Roomy, entriesOf, startOf, sizeOf, inLower, placeIn, lower, inStrict, strict, inUpper, inSquare, placeSquare, upper, square, Laid}
 use Rattle.matrix.proofs.Grids.{load-in}
+use Rattle.matrix.proofs.Triangles.{one-more, entries-square, columns-apart, column-within-size}
 
 -- ---- i + j·n with i below n
 
@@ -33,27 +34,46 @@ digits-column n i j r c below below' e =
 pub digits-within : (n m i j : ℕ) → i < n → j < m → i + j * n < m * n
 digits-within n m i j below below' =
     let row : (j + 1) * n ≤ m * n = mul-le-mul-right n (omega arith) in
-    let split : (j + 1) * n ≡ j * n + n = rw add-one (suc-mul j n) in
+    let split = one-more j n in
     omega arith
+
+-- ---- an entry of the lower triangle, by plain comparisons
+
+pub lower-low : (y : Layout) (i j : ℕ) → T (lower y .inside i j) → i < y .order
+unfolding lower inLower
+lower-low y i j t = ltb→lt i (y .order) (and-r (leb j i) (ltb i (y .order)) t)
+
+pub lower-under : (y : Layout) (i j : ℕ) → T (lower y .inside i j) → j ≤ i
+unfolding lower inLower
+lower-under y i j t = leb→le j i (and-l (leb j i) (ltb i (y .order)) t)
+
+pub lower-left : (y : Layout) (i j : ℕ) → T (lower y .inside i j) → j < y .order
+lower-left y i j t = let low = lower-low y i j t in let under = lower-under y i j t in omega arith
 
 -- ---- the grids are fair
 
+-- two places of a layout that are the same are in one column
+one-column-at : (y : Layout) (i j r c : ℕ) → Roomy y → j ≤ i → i < y .order → c ≤ r → r < y .order → i + startOf y j ≡ r + startOf y c → j ≡ c
+one-column-at y i j r c roomy low inside low' inside' e = pick (decLt j c) (decLt c j)
+  where
+    pick : Dec (j < c) → Dec (c < j) → j ≡ c
+    pick (yes left) right = absurd (let apart = columns-apart y j c left (omega arith) in omega arith)
+    pick (no left) (yes right) = absurd (let apart = columns-apart y c j right (omega arith) in omega arith)
+    pick (no left) (no right) = omega (arith, left, right)
+
 pub lower-fair : (y : Layout) → Roomy y → Fair (lower y)
-unfolding lower inLower placeIn startOf sizeOf
+unfolding lower placeIn sizeOf
 lower-fair y roomy = record {
   reach = y .order;
-  low = λ i j t. row i j t;
-  left = λ i j t. let r = row i j t in let c = column i j t in omega arith;
-  within = λ i j t. let r = row i j t in let c = column i j t in digits-within (y .room) (y .room) i j (omega arith) (omega arith);
-  row = λ i j r c t u e. let a = row i j t in let b = row r c u in digits-row (y .room) i j r c (omega arith) (omega arith) e;
-  column = λ i j r c t u e. let a = row i j t in let b = row r c u in digits-column (y .room) i j r c (omega arith) (omega arith) e;
+  low = lower-low y;
+  left = lower-left y;
+  within = λ i j t. let low = lower-low y i j t in let left = lower-left y i j t in column-within-size y i j (omega arith) (omega arith);
+  row = λ i j r c t u e. let same : startOf y j ≡ startOf y c = ap (startOf y) (column i j r c t u e) in omega arith;
+  column = column;
 }
   where
-    row : (i j : ℕ) → T (leb j i && ltb i (y .order)) → i < y .order
-    row i j t = ltb→lt i (y .order) (and-r (leb j i) (ltb i (y .order)) t)
-
-    column : (i j : ℕ) → T (leb j i && ltb i (y .order)) → j ≤ i
-    column i j t = leb→le j i (and-l (leb j i) (ltb i (y .order)) t)
+    column : (i j r c : ℕ) → T (lower y .inside i j) → T (lower y .inside r c) → i + startOf y j ≡ r + startOf y c → j ≡ c
+    column i j r c t u e = one-column-at y i j r c roomy (lower-under y i j t) (lower-low y i j t) (lower-under y r c u) (lower-low y r c u) e
 
 -- any grid of rows and columns below n at i + j·n
 square-like : (n : ℕ) (g : Grid) → ((i j : ℕ) → T (g .inside i j) → (i < n) × (j < n)) → ((i j : ℕ) → g .place i j ≡ i + j * n) → g .size ≡ n * n → Fair g
@@ -83,10 +103,16 @@ pub in-strict : (y : Layout) (i j : ℕ) → i < j → j < y .order → T (stric
 unfolding strict inStrict
 in-strict y i j low left = and-i (ltb i j) (ltb j (y .order)) (lt→ltb i j low) (lt→ltb j (y .order) left)
 
-pub strict-fair : (y : Layout) → Roomy y → Fair (strict y)
-unfolding strict placeIn startOf sizeOf
-strict-fair y roomy =
-    square-like (y .room) (strict y) (λ i j t. let low = strict-low y i j t in let left = strict-left y i j t in (omega arith, omega arith)) (λ i j. refl) refl
+-- in a room that is not packed
+pub plain-start : (y : Layout) → y .packed ≡ false → (j : ℕ) → startOf y j ≡ j * y .room
+unfolding startOf
+plain-start y plain j = rw plain refl
+
+pub strict-fair : (y : Layout) → y .packed ≡ false → Roomy y → Fair (strict y)
+unfolding strict placeIn sizeOf
+strict-fair y plain roomy =
+    square-like (y .room) (strict y) (λ i j t. let low = strict-low y i j t in let left = strict-left y i j t in (omega arith, omega arith))
+    (λ i j. ap (λ (s : ℕ). i + s) (plain-start y plain j)) (rw plain refl)
 
 -- ---- entries by plain comparisons
 
@@ -116,9 +142,9 @@ lower-at y l i j le lt = load-in (lower y) l i j (in-lower y i j le lt)
 
 -- an entry stands at one place in every order
 pub lower-across : (room c d : ℕ) (l : List Float) (i j : ℕ) → j ≤ i → i < c → i < d
-    → load (lower (record { order = c; room = room })) l i j ≡ load (lower (record { order = d; room = room })) l i j
+    → load (lower (inRoom c room)) l i j ≡ load (lower (inRoom d room)) l i j
 unfolding startOf
-lower-across room c d l i j le here there = lower-at (record { order = c; room = room }) l i j le here ∙ sym (lower-at (record { order = d; room = room }) l i j le there)
+lower-across room c d l i j le here there = lower-at (inRoom c room) l i j le here ∙ sym (lower-at (inRoom d room) l i j le there)
 
 pub upper-at : (n : ℕ) (l : List Float) (i j : ℕ) → i ≤ j → j < n → load (upper n) l i j ≡ getD l (i + j * n) nan
 unfolding upper placeSquare
@@ -134,9 +160,16 @@ square-at n l i j row column = load-in (square n) l i j (in-square n i j row col
 pub product-small : (n m : ℕ) → n ≤ 1024 → m ≤ 1024 → n * m ≤ 1048576
 product-small n m h g = mul-le-mul {n₁ = n} {m₁ = m} {n₂ = 1024} {m₂ = 1024} h g
 
+pub entries-small : (n : ℕ) → n ≤ 1024 → entriesOf n ≤ 1048576
+entries-small n small = let square = entries-square n in let product = product-small n n small small in omega arith
+
 pub start-small : (y : Layout) (j : ℕ) → Roomy y → j ≤ y .order → startOf y j ≤ 1048576
 unfolding startOf
-start-small y j roomy below = product-small j (y .room) (omega arith) (omega arith)
+start-small y j roomy below = by (y .packed) (product-small j (y .room) (omega arith) (omega arith))
+  where
+    by : (b : Bool) → j * y .room ≤ 1048576 → cond b (j * y .room - entriesOf j) (j * y .room) ≤ 1048576
+    by true small = omega arith
+    by false small = small
 
 pub lower-within : (y : Layout) (l : List Float) (i j : ℕ) → Laid y l → j ≤ i → i < y .order → i + startOf y j < length l
 unfolding lower placeIn

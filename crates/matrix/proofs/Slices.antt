@@ -1,22 +1,24 @@
 -- A slice of which a promise says what it holds, written out. Assumes nothing.
-use mathlib.Core.Path.{_≡_, refl, sym, ap, ap₂, _∙_, subst}
-use mathlib.Core.Bool.{Bool, true, false, cond}
+use mathlib.Core.Path.{_≡_, refl, sym, ap, _∙_, subst}
+use mathlib.Core.Bool.{Bool, true, false, cond, _&&_}
 use mathlib.Core.List.{List, [], _∷_}
 use Prim.Native.Nat.{ℕ, zero, suc, _+_, _*_, _/_, _%_, _≤_, _<_, suc-le-suc}
 use native.Mathlib.Nat.{zero-lt-suc, not-suc-le-zero, mod-lt, mod-add-div', div-lt-iff-lt-mul}
 use native.Mathlib.Decide.{decLt}
 use native.Mathlib.Omega.{arith}
-use lib.Dec.{T, leb, ltb, ltb→lt}
+use lib.Dec.{T, eqb}
 use lib.ListN.{length, getD, List·getD-eq-default}
 use lib.Ieee.{Float, nan}
 use lib.Ieee.Bits.{is-true}
-use lib.Ieee.Fits.{and-r}
+use borrow.Author.Tests.{eq-eqb, eqb-true}
 use Rattle.matrix.specs.declared.Layout.{Layout}
 use Rattle.matrix.specs.Matrix.{Matrix}
-use Rattle.matrix.specs.Grid.{Sound, mask, Free, Holds}
-use Rattle.matrix.specs.Layouts.{startOf, sizeOf, inLower, placeIn, lower, Fills}
-use Rattle.matrix.proofs.Grids.{load-in, load-is}
-use Rattle.matrix.proofs.Places.{digits-row, digits-column, square-at}
+use Rattle.matrix.specs.Loop.{for}
+use Rattle.matrix.specs.Grid.{Grid, Fair, Sound, mask, Free, Holds}
+use Rattle.matrix.specs.Layouts.{lower, Laid, Fills}
+use Rattle.matrix.proofs.Loops.{for-at, for-still}
+use Rattle.matrix.proofs.Grids.{load-is, mask-load, holds-as, holds-unique}
+use Rattle.matrix.proofs.Places.{lower-low, lower-left, square-at}
 
 -- ---- c numbers: f 0, f 1, ..
 
@@ -44,91 +46,87 @@ is-listed (x ∷ l) f (suc c) long each =
     ap (λ (y : Float). y ∷ l) (each zero (zero-lt-suc c))
     ∙ ap (λ (t : List Float). f zero ∷ t) (is-listed l (λ i. f (suc i)) c (omega arith) (λ i h. each (suc i) (suc-le-suc h)))
 
--- ---- the lower triangle of a layout
+-- ---- the slice that holds a matrix on a grid, and is as another elsewhere
 
--- place p: M there, if it is a place of the triangle, else as in l
-unfoldable pub overlay : Layout → List Float → Matrix → ℕ → Float
-overlay y l M p = cond (inLower (y .order) (p % y .room) (p / y .room)) (M (p % y .room) (p / y .room)) (getD l p nan)
+-- number p, if (i, j) stands there: M's
+unfoldable pub overlayAt : Grid → Matrix → ℕ → ℕ → ℕ → Float → Float
+overlayAt g M p j i x = cond (g .inside i j && eqb (g .place i j) p) (M i j) x
 
-unfoldable pub overlaid : Layout → List Float → Matrix → List Float
-overlaid y l M = listed (overlay y l M) (y .room * y .room)
+-- number p, of a grid whose rows and columns are below n: M's, if an entry stands there, else as in l
+unfoldable pub overlay : Grid → ℕ → List Float → Matrix → ℕ → Float
+unfolding overlayAt
+overlay g n l M p = for 0 n (λ (j : ℕ). for 0 n (overlayAt g M p j)) (getD l p nan)
 
-module _ {y : Layout} (ordered : y .order ≤ y .room) where
-  under : (i j : ℕ) → T (inLower (y .order) i j) → i < y .order
-  unfolding inLower
-  under i j t = ltb→lt i (y .order) (and-r (leb j i) (ltb i (y .order)) t)
+unfoldable pub overlaid : Grid → ℕ → List Float → Matrix → List Float
+overlaid g n l M = listed (overlay g n l M) (g .size)
 
-  -- the row and the column of an entry's place are the entry's
-  digits : (i j p : ℕ) → T (inLower (y .order) i j) → p ≡ i + j * y .room → (p % y .room ≡ i) × (p / y .room ≡ j)
-  digits i j p t at =
-      let row : i < y .order = under i j t in
-      let same : p % y .room + p / y .room * y .room ≡ i + j * y .room = mod-add-div' p (y .room) ∙ at in
-      let low : p % y .room < y .room = mod-lt p (omega arith) in
-      let left : i < y .room = omega arith in
-      (digits-row (y .room) (p % y .room) (p / y .room) i j low left same, digits-column (y .room) (p % y .room) (p / y .room) i j low left same)
+module _ (g : Grid) (M : Matrix) (p : ℕ) where
+  -- an entry that does not stand there
+  overlay-other : (r c : ℕ) (x : Float) → (T (g .inside r c) → g .place r c ≡ p → ⊥) → overlayAt g M p c r x ≡ x
+  unfolding overlayAt
+  overlay-other r c x apart = by (g .inside r c) (eqb (g .place r c) p) refl refl
+    where
+      by : (a b : Bool) → g .inside r c ≡ a → eqb (g .place r c) p ≡ b → cond (a && b) (M r c) x ≡ x
+      by true true e f = absurd (apart (subst T (sym e) tt) (eqb-true (g .place r c) p f))
+      by true false e f = refl
+      by false b e f = refl
 
-  outside-free : (p : ℕ) → inLower (y .order) (p % y .room) (p / y .room) ≡ false → Free (lower y) p
-  unfolding lower placeIn startOf
-  outside-free p e i j t at =
-      let same = digits i j p t at in
-      subst T e (subst (λ (r : ℕ). T (inLower (y .order) r (p / y .room))) (sym (same .0)) (subst (λ (c : ℕ). T (inLower (y .order) i c)) (sym (same .1)) t))
+  overlay-here : (i j : ℕ) (x : Float) → T (g .inside i j) → g .place i j ≡ p → overlayAt g M p j i x ≡ M i j
+  unfolding overlayAt
+  overlay-here i j x t e = rw (is-true (g .inside i j) t, eq-eqb (g .place i j) p e)
 
-  module _ (l₀ : List Float) (M : Matrix) where
-    overlay-in : (i j p : ℕ) → T (inLower (y .order) i j) → p ≡ i + j * y .room → overlay y l₀ M p ≡ M i j
+  overlay-free : (n : ℕ) (l : List Float) → Free g p → overlay g n l M p ≡ getD l p nan
+  unfolding overlay
+  overlay-free n l free =
+      for-still (λ (x : Float). x) 0 n (λ (j : ℕ). for 0 n (overlayAt g M p j)) (getD l p nan)
+      (λ j x from upto. for-still (λ (x : Float). x) 0 n (overlayAt g M p j) x (λ i x from upto. overlay-other i j x (λ t e. free i j t (sym e))))
+
+  module _ (fair : Fair g) (i j : ℕ) (t : T (g .inside i j)) (at : g .place i j ≡ p) where
+    apart-row : (r c : ℕ) → (r ≡ i → ⊥) → T (g .inside r c) → g .place r c ≡ p → ⊥
+    apart-row r c other u e = other (fair .row r c i j u t (e ∙ sym at))
+
+    apart-column : (r c : ℕ) → (c ≡ j → ⊥) → T (g .inside r c) → g .place r c ≡ p → ⊥
+    apart-column r c other u e = other (fair .column r c i j u t (e ∙ sym at))
+
+    overlay-in : (n : ℕ) (l : List Float) → i < n → j < n → overlay g n l M p ≡ M i j
     unfolding overlay
-    overlay-in i j p t at =
-        let same = digits i j p t at in
-        ap₂ (λ (r c : ℕ). cond (inLower (y .order) r c) (M r c) (getD l₀ p nan)) (same .0) (same .1) ∙ rw (is-true (inLower (y .order) i j) t)
-
-    overlay-free : (p : ℕ) → Free (lower y) p → overlay y l₀ M p ≡ getD l₀ p nan
-    unfolding overlay lower placeIn startOf
-    overlay-free p free = pick (inLower (y .order) (p % y .room) (p / y .room)) refl
+    overlay-in n l row column =
+        for-at 0 n j turn (getD l p nan) (omega arith) column
+        ∙ for-still (λ (x : Float). x) (j + 1) n turn _
+        (λ c x from upto. for-still (λ (x : Float). x) 0 n (overlayAt g M p c) x (λ r x from' upto'. overlay-other r c x (apart-column r c (λ (e : c ≡ j). omega arith))))
+        ∙ for-at 0 n i (overlayAt g M p j) _ (omega arith) row
+        ∙ for-still (λ (x : Float). x) (i + 1) n (overlayAt g M p j) _ (λ r x from upto. overlay-other r j x (apart-row r j (λ (e : r ≡ i). omega arith)))
+        ∙ overlay-here i j _ t at
       where
-        pick : (b : Bool) → inLower (y .order) (p % y .room) (p / y .room) ≡ b → cond b (M (p % y .room) (p / y .room)) (getD l₀ p nan) ≡ getD l₀ p nan
-        pick true e = absurd (free (p % y .room) (p / y .room) (subst T (sym e) tt) (sym (mod-add-div' p (y .room))))
-        pick false e = refl
+        turn : ℕ → Float → Float
+        turn c = for 0 n (overlayAt g M p c)
 
-  module _ {l₀ l : List Float} {M : Matrix} (h : Holds (lower y) l₀ l M) where
-    inside : (p : ℕ) → inLower (y .order) (p % y .room) (p / y .room) ≡ true → getD l p nan ≡ M (p % y .room) (p / y .room)
-    unfolding lower placeIn startOf
-    inside p e =
-        ap (λ (k : ℕ). getD l k nan) (sym (mod-add-div' p (y .room)))
-        ∙ sym (load-in (lower y) l (p % y .room) (p / y .room) (subst T (sym e) tt))
-        ∙ ap (λ (N : Matrix). N (p % y .room) (p / y .room)) (h .cells)
-
-    -- a slice that holds M is this one
-    pub holds-overlaid : l ≡ overlaid y l₀ M
-    unfolding overlaid overlay lower sizeOf
-    holds-overlaid = is-listed l _ (y .room * y .room) (h .sound .long) (λ p below. at p (inLower (y .order) (p % y .room) (p / y .room)) refl)
-      where
-        at : (p : ℕ) (b : Bool) → inLower (y .order) (p % y .room) (p / y .room) ≡ b
-            → getD l p nan ≡ cond (inLower (y .order) (p % y .room) (p / y .room)) (M (p % y .room) (p / y .room)) (getD l₀ p nan)
-        at p true e = rw e (inside p e)
-        at p false e = rw e (h .kept p (outside-free p e))
-
-  -- and this one holds M
-  pub overlaid-holds : {l₀ : List Float} → Sound (lower y) l₀ → (M : Matrix) → Holds (lower y) l₀ (overlaid y l₀ M) (mask (lower y) M)
+module _ {g : Grid} (n : ℕ) (low : (i j : ℕ) → T (g .inside i j) → i < n) (left : (i j : ℕ) → T (g .inside i j) → j < n) where
+  pub overlaid-holds : {l₀ : List Float} → Sound g l₀ → (M : Matrix) → Holds g l₀ (overlaid g n l₀ M) (mask g M)
   unfolding overlaid
   overlaid-holds {l₀} good M = record {
-    sound = record { fair = good .fair; long = listed-length (overlay y l₀ M) (y .room * y .room) ∙ whole };
-    cells = load-is (lower y) (overlaid y l₀ M) M cell;
-    kept = λ p free. kept p free (decLt p (y .room * y .room));
+    sound = record { fair = good .fair; long = listed-length (overlay g n l₀ M) (g .size) };
+    cells = load-is g (overlaid g n l₀ M) M (λ i j t.
+        listed-at (overlay g n l₀ M) (g .size) (g .place i j) (good .fair .within i j t)
+        ∙ overlay-in g M (g .place i j) (good .fair) i j t refl n l₀ (low i j t) (left i j t));
+    kept = λ p free. kept p free (decLt p (g .size));
   }
     where
-      whole : y .room * y .room ≡ lower y .size
-      whole = unfold lower sizeOf in refl
-
-      cell : (i j : ℕ) → T (lower y .inside i j) → getD (overlaid y l₀ M) (lower y .place i j) nan ≡ M i j
-      cell i j t =
-          listed-at (overlay y l₀ M) (y .room * y .room) (lower y .place i j) (subst (λ (k : ℕ). lower y .place i j < k) (sym whole) (good .fair .within i j t))
-          ∙ overlay-in l₀ M i j (lower y .place i j) (unfold lower in t) (unfold lower placeIn startOf in refl)
-
-      kept : (p : ℕ) → Free (lower y) p → Dec (p < y .room * y .room) → getD (overlaid y l₀ M) p nan ≡ getD l₀ p nan
-      kept p free (yes below) = listed-at (overlay y l₀ M) (y .room * y .room) p below ∙ overlay-free l₀ M p free
+      kept : (p : ℕ) → Free g p → Dec (p < g .size) → getD (overlaid g n l₀ M) p nan ≡ getD l₀ p nan
+      kept p free (yes below) = listed-at (overlay g n l₀ M) (g .size) p below ∙ overlay-free g M p n l₀ free
       kept p free (no past) =
-          let long : length (overlaid y l₀ M) ≡ y .room * y .room = listed-length (overlay y l₀ M) (y .room * y .room) in
-          let long₀ : length l₀ ≡ y .room * y .room = good .long ∙ sym whole in
-          List·getD-eq-default (overlaid y l₀ M) nan (omega arith) ∙ sym (List·getD-eq-default l₀ nan (omega arith))
+          let long : length (overlaid g n l₀ M) ≡ g .size = listed-length (overlay g n l₀ M) (g .size) in
+          let long₀ : length l₀ ≡ g .size = good .long in
+          List·getD-eq-default (overlaid g n l₀ M) nan (omega arith) ∙ sym (List·getD-eq-default l₀ nan (omega arith))
+
+  -- a slice that holds M is this one
+  pub holds-overlaid : {l₀ l : List Float} {M : Matrix} → length l₀ ≡ g .size → Holds g l₀ l M → l ≡ overlaid g n l₀ M
+  holds-overlaid {l₀} {l} {M} long h =
+      holds-unique h (holds-as (overlaid-holds (record { fair = h .sound .fair; long = long }) M) (ap (mask g) (sym (h .cells)) ∙ mask-load g l ∙ h .cells))
+
+-- of the lower triangle of a layout
+pub lower-overlaid : {y : Layout} {l₀ l : List Float} {M : Matrix} → Laid y l₀ → Holds (lower y) l₀ l M → l ≡ overlaid (lower y) (y .order) l₀ M
+lower-overlaid {y} laid h = holds-overlaid (y .order) (lower-low y) (lower-left y) (laid .sound .long) h
 
 -- ---- the whole of a square matrix
 

@@ -1,8 +1,8 @@
 -- The grids of the project: the lower triangle of a layout and what stands above it, the upper triangle and the whole of a square matrix.
 use mathlib.Core.Path.{_≡_}
-use mathlib.Core.Bool.{Bool, _&&_}
+use mathlib.Core.Bool.{Bool, true, false, cond, _&&_}
 use mathlib.Core.List.{List}
-use Prim.Native.Nat.{ℕ, _+_, _*_, _≤_}
+use Prim.Native.Nat.{ℕ, _+_, _-_, _*_, _/_, _≤_}
 use lib.Dec.{leb, ltb}
 use lib.ListN.{length}
 use lib.Ieee.{Float}
@@ -12,24 +12,34 @@ use Rattle.matrix.specs.declared.Layout.{Layout}
 
 -- a square matrix of order n
 abbrev pub full : ℕ → Layout
-full n = record { order = n; room = n }
+full n = record { order = n; room = n; packed = false }
 
 -- the first n rows and columns of a room
 abbrev pub inRoom : ℕ → ℕ → Layout
-inRoom n room = record { order = n; room = room }
+inRoom n room = record { order = n; room = room; packed = false }
+
+-- the lower triangle of order n and nothing else
+abbrev pub packed : ℕ → Layout
+packed n = record { order = n; room = n; packed = true }
 
 -- the order is at most the room, and the room at most 1,024
 pub record Roomy (y : Layout) : Type 0 where
   pub ordered : y .order ≤ y .room
   pub small : y .room ≤ 1024
 
--- entry (i, j) stands at i + startOf y j
+-- how many entries the lower triangle of n rows has
+unfoldable pub entriesOf : ℕ → ℕ
+entriesOf n = n * (n + 1) / 2
+
+-- entry (i, j) stands at i + startOf y j; packed, what would stand above the diagonal up to column j is left out
 unfoldable pub startOf : Layout → ℕ → ℕ
-startOf y j = j * y .room
+unfolding entriesOf
+startOf y j = cond (y .packed) (j * y .room - entriesOf j) (j * y .room)
 
 -- how many numbers a slice of the layout has
 unfoldable pub sizeOf : Layout → ℕ
-sizeOf y = y .room * y .room
+unfolding entriesOf
+sizeOf y = cond (y .packed) (entriesOf (y .room)) (y .room * y .room)
 
 unfoldable pub inLower : ℕ → ℕ → ℕ → Bool
 inLower n i j = leb j i && ltb i n
@@ -50,7 +60,7 @@ pub record Laid (y : Layout) (l : List Float) : Type 0 where
 unfoldable pub inStrict : ℕ → ℕ → ℕ → Bool
 inStrict n i j = ltb i j && ltb j n
 
--- above the diagonal, in the first rows and columns of a room
+-- above the diagonal, in the first rows and columns of a room that is not packed
 unfoldable pub strict : Layout → Grid
 unfolding inStrict placeIn sizeOf
 strict y = record { inside = inStrict (y .order); place = placeIn y; size = sizeOf y }

@@ -5,3 +5,5 @@ pub mod Grid
 pub mod Layouts
 pub mod Columns
 pub mod Sizes
+pub mod Engines
+pub mod inner

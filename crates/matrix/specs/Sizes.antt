@@ -3,8 +3,11 @@ use mathlib.Core.Path.{_≡_}
 use mathlib.Core.List.{List, [], _∷_}
 use Prim.Native.Nat.{ℕ, _≤_}
 use lib.Dec.{leb, eqb}
-use Rattle.answer.specs.declared.Answer.the-variants.{OutOfRange, OrderAboveRoom, MatrixLength}
-use Rattle.answer.specs.Refusals.{Test, _otherwise_}
+use lib.ListN.{length}
+use lib.Ieee.{Float}
+use Rattle.answer.specs.declared.Answer.{Answer}
+use Rattle.answer.specs.declared.Answer.the-variants.{Done, OutOfRange, OrderAboveRoom, MatrixLength}
+use Rattle.answer.specs.Refusals.{Test, _otherwise_, tested}
 use Rattle.matrix.specs.declared.Layout.{Layout}
 use Rattle.matrix.specs.Layouts.{Roomy, sizeOf}
 
@@ -17,6 +20,10 @@ sizeTests y m len =
     ∷ (leb m (y .order) otherwise OrderAboveRoom)
     ∷ (eqb len (sizeOf y) otherwise MatrixLength)
     ∷ []
+
+-- what they answer: done, or the refusal of the first that fails
+abbrev pub sizesOf : Layout → ℕ → List Float → Answer
+sizesOf y m l = tested (sizeTests y m (length l)) Done
 
 -- all of these tests hold
 pub record Fits (y : Layout) (m len : ℕ) : Type 0 where

@@ -3,16 +3,26 @@ ghost use mathlib.Core.Path.{_≡_};
 ghost use Prim.Native.Nat.{_≤_, _<_};
 ghost use Rattle.matrix.specs.Matrix.{entry, exchange};
 ghost use Rattle.matrix.specs.Grid.{Holds, load};
-ghost use Rattle.matrix.specs.Layouts.{full, inRoom, Roomy, startOf, sizeOf, lower, Laid};
+ghost use Rattle.matrix.specs.Layouts.{full, inRoom, packed, Roomy, entriesOf, startOf, sizeOf, lower, Laid};
+ghost use Rattle.matrix.specs.inner.Starts.{leftOut};
 ghost use Rattle.matrix.specs.Sizes.{sizeTests};
 ghost use Rattle.answer.specs.Refusals.{tested};
 ghost use Rattle.answer.specs.declared.Answer.the-variants.{Done};
 use answer::Answer;
 
-// Where the lower triangle of a matrix stands: `order` rows and columns in a room of room·room numbers.
+// Where the lower triangle of a matrix stands: `order` rows and columns in a room of room·room numbers, or, packed, of room·(room + 1)/2.
 pub struct Layout {
     pub order: usize,
     pub room: usize,
+    pub packed: bool,
+}
+
+// How many entries the lower triangle of n rows has.
+pub fn entries(n: usize) -> usize
+    requires { ⌜ n ≤ 1024 ⌝ }
+    ensures { λ r. ⌜ r ≡ entriesOf n ⌝ }
+{
+    n * (n + 1) / 2
 }
 
 impl Layout {
@@ -20,7 +30,11 @@ impl Layout {
     pub fn full(n: usize) -> Layout
         ensures { λ r. ⌜ r ≡ full n ⌝ }
     {
-        Layout { order: n, room: n }
+        Layout {
+            order: n,
+            room: n,
+            packed: false,
+        }
     }
 
     // The first n rows and columns of a room.
@@ -30,6 +44,30 @@ impl Layout {
         Layout {
             order: n,
             room: room,
+            packed: false,
+        }
+    }
+
+    // The lower triangle of order n, column by column, and nothing else.
+    pub fn packed(n: usize) -> Layout
+        ensures { λ r. ⌜ r ≡ packed n ⌝ }
+    {
+        Layout {
+            order: n,
+            room: n,
+            packed: true,
+        }
+    }
+
+    // The same layout, with its room known to the compiler, where that is the order.
+    pub fn tight(self) -> Layout
+        requires { ⌜ self .room ≡ self .order ⌝ }
+        ensures { λ r. ⌜ r ≡ self ⌝ }
+    {
+        Layout {
+            order: self.order,
+            room: self.order,
+            packed: self.packed,
         }
     }
 
@@ -38,6 +76,9 @@ impl Layout {
         requires { ⌜ Roomy self ⌝ }
         ensures { λ r. ⌜ r ≡ sizeOf self ⌝ }
     {
+        if self.packed {
+            return entries(self.room);
+        }
         self.room * self.room
     }
 
@@ -69,10 +110,33 @@ impl Layout {
     // Where column j starts: entry (i, j) stands at i + start(j).
     pub fn start(self, j: usize) -> usize
         requires { ⌜ Roomy self ⌝ }
-        requires { ⌜ j ≤ self .order ⌝ }
+        requires { ⌜ j < self .order ⌝ }
         ensures { λ r. ⌜ r ≡ startOf self j ⌝ }
     {
+        if self.packed {
+            return j * self.room - entries(j);
+        }
         j * self.room
+    }
+
+    // What a packed layout leaves out of two columns before column j.
+    fn left_out(self, j: usize) -> usize
+        requires { ⌜ j ≤ 1024 ⌝ }
+        ensures { λ r. ⌜ r ≡ leftOut self j ⌝ }
+    {
+        if self.packed {
+            return j + 1;
+        }
+        0
+    }
+
+    // The same start by one form for all layouts: entries are read and stored in loops, which it keeps free of branches.
+    fn offset(self, j: usize) -> usize
+        requires { ⌜ Roomy self ⌝ }
+        requires { ⌜ j < self .order ⌝ }
+        ensures { λ r. ⌜ r ≡ startOf self j ⌝ }
+    {
+        j * (2 * self.room - self.left_out(j)) / 2
     }
 }
 
@@ -82,7 +146,7 @@ pub fn get(y: Layout, a: &[f64], i: usize, j: usize) -> f64
     requires { ⌜ i < y .order ⌝ }
     ensures { λ r. ⌜ r ≡ load (lower y) (now (a .entry)) i j ⌝ }
 {
-    a[i + y.start(j)]
+    a[i + y.offset(j)]
 }
 
 pub fn put(y: Layout, a: &mut [f64], i: usize, j: usize, v: f64)
@@ -91,7 +155,7 @@ pub fn put(y: Layout, a: &mut [f64], i: usize, j: usize, v: f64)
     requires { ⌜ i < y .order ⌝ }
     ensures { λ _. ⌜ Holds (lower y) (now (a .entry)) (now (a .exit)) (entry (load (lower y) (now (a .entry))) i j v) ⌝ }
 {
-    a[i + y.start(j)] = v;
+    a[i + y.offset(j)] = v;
 }
 
 // Exchanges the entries (i, j) and (r, c).

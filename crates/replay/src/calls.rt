@@ -1,5 +1,6 @@
 // The calls by number, on what the registers hold.
 use crate::lists;
+use crate::packed_calls;
 use crate::registers::halves;
 use crate::registers::low;
 use crate::registers::part;
@@ -15,14 +16,14 @@ pub struct Outcome {
     pub value: u64,
 }
 
-fn plain(answer: Answer) -> Outcome {
+pub fn plain(answer: Answer) -> Outcome {
     Outcome {
         answer: answer.number(),
         value: 0,
     }
 }
 
-fn valued(v: Valued) -> Outcome {
+pub fn valued(v: Valued) -> Outcome {
     let answer = v.answer;
     Outcome {
         answer: answer.number(),
@@ -30,7 +31,7 @@ fn valued(v: Valued) -> Outcome {
     }
 }
 
-fn told(twin: Twin) -> Outcome {
+pub fn told(twin: Twin) -> Outcome {
     Outcome {
         answer: twin.number(),
         value: 0,
@@ -80,6 +81,23 @@ pub fn call(
         ),
         16 => lists::read(n, x as u64, y as u64, part(c, s.c), part_words(r, s.r)),
         17 => lists::write(n, part(c, s.c), part_words(r, s.r)),
+        18..=20 => packed_calls::lblt(
+            which,
+            n,
+            x,
+            low(y as u64),
+            part(a, s.a),
+            part(b, s.b),
+            part_words(r, s.r),
+        ),
+        21..=24 => packed_calls::others(
+            which,
+            n,
+            x,
+            part(a, s.a),
+            part(b, s.b),
+            part(c, s.c),
+        ),
         _ => no_call(),
     }
 }

@@ -3,6 +3,7 @@ mod calls;
 mod list;
 mod lists;
 mod machine;
+mod packed_calls;
 mod registers;
 mod repeat;
 mod report;
@@ -19,7 +20,7 @@ pub fn run() {
     let mut block = io::large_buffer();
     let mut a = [0.0; 4096];
     let mut b = [0.0; 4096];
-    let mut c = [0.0; 64];
+    let mut c = [0.0; 4096];
     let mut r = [0u32; pivots::WORDS_OF_64];
     report::summary(blocks(&mut block, &mut a, &mut b, &mut c, &mut r));
 }

@@ -2,7 +2,7 @@
 --     Partway                                   a loop over a strip: rows lo up to i are done
 --     strip-none, strip-more, strip-all         no row, one row more, all rows
 --     strip-ahead, strip-apart                  a row that is not done yet, a row of another column
---     strip-nothing, strip-then, strip-as, strip-join   strips that meet
+--     strip-nothing, strip-then, strip-as, strip-at, strip-join   strips that meet
 --     plus-kept                                 what another column adds, before and after
 --     axpy-row, axpy4-row, ratio-row            what the loops store
 --     strip-holds                               a strip of a column of a grid
@@ -88,6 +88,10 @@ strip-then p q = record { long = q .long ∙ p .long; inside = q .inside; outsid
 
 pub strip-as : {s lo hi : ℕ} {v w : ℕ → Float} {l₀ l : List Float} → Strip s lo hi v l₀ l → ((i : ℕ) → lo ≤ i → i < hi → v i ≡ w i) → Strip s lo hi w l₀ l
 strip-as p same = record { long = p .long; inside = λ i a b. p .inside i a b ∙ same i a b; outside = p .outside }
+
+-- the column's start under its other name
+pub strip-at : {s s' lo hi : ℕ} {v : ℕ → Float} {l₀ l : List Float} → s ≡ s' → Strip s lo hi v l₀ l → Strip s' lo hi v l₀ l
+strip-at {lo = lo} {hi = hi} {v = v} {l₀ = l₀} {l = l} is strip = subst (λ (s : ℕ). Strip s lo hi v l₀ l) is strip
 
 pub strip-join : {s lo mid hi : ℕ} {v : ℕ → Float} {l₀ l l' : List Float} → lo ≤ mid → mid ≤ hi → Strip s lo mid v l₀ l → Strip s mid hi v l l' → Strip s lo hi v l₀ l'
 strip-join {s} {lo} {mid} {hi} {v} {l₀} {l} {l'} from upto p q = record {

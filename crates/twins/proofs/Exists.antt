@@ -77,7 +77,7 @@ module _ (n : ℕ) (M : Matrix) (m : ℕ) where
       go (yes since) (no-one f) = no (λ again. f (again .row) (again .before) (again .twins))
       go (no early) x = no (λ again. early (again .since))
 
-  some-first : (t : Twin) × First n M m t
+  pub some-first : (t : Twin) × First n M m t
   some-first = go (search-least (Again n M m) again-or-not n)
     where
       at : (q : ℕ) → q < n → Again n M m q → ((s : ℕ) → s < q → Again n M m s → ⊥) → Least (λ p. Twins n M p q) q → (t : Twin) × First n M m t

@@ -10,9 +10,12 @@ use Rattle.answer.specs.declared.Answer.{Answer}
 use Rattle.answer.specs.Number.{codeOf, isDone, placeOf, numberOf}
 use Rattle.answer.proofs.Done.{done-or-refused}
 use Rattle.matrix.specs.Matrix.{Matrix}
+use Rattle.matrix.specs.declared.Layout.{Layout}
+use Rattle.matrix.specs.Layouts.{inRoom}
+use Rattle.matrix.specs.Sizes.{sizesOf}
 use Rattle.twins.specs.declared.Twin.{Twin}
 use Rattle.twins.specs.declared.Twin.the-variants.{Nothing, Pair, Refused}
-use Rattle.twins.specs.First.{FirstPair, First, sizeAnswer, FirstTwinSince, FirstTwin, none, pair}
+use Rattle.twins.specs.First.{FirstPair, First, FirstTwinOn, FirstTwinSince, FirstTwin, none, pair}
 use Rattle.twins.specs.Number.{twinNumber}
 
 -- no later second row, and no later first row of one second row
@@ -44,11 +47,14 @@ first-unique {n} {M} {m} (pair {p} {q} f) (pair {p = r} {q = s} g) =
     ap (λ (k : ℕ). Pair k q) (same-first f g') ∙ ap (Pair r) second
 
 -- two answers that meet the promise are equal
-pub first-twin-since-unique : (l : List Float) (room m n : ℕ) {t u : Twin} → FirstTwinSince l room m n t → FirstTwinSince l room m n u → t ≡ u
-first-twin-since-unique l room m n a b =
-    done-or-refused (sizeAnswer l room m n)
+pub first-twin-on-unique : (y : Layout) (m : ℕ) (l : List Float) {t u : Twin} → FirstTwinOn y m l t → FirstTwinOn y m l u → t ≡ u
+first-twin-on-unique y m l a b =
+    done-or-refused (sizesOf y m l)
     (λ fits. first-unique (a .found fits) (b .found fits))
     (λ wrong. a .refused wrong ∙ sym (b .refused wrong))
+
+pub first-twin-since-unique : (l : List Float) (room m n : ℕ) {t u : Twin} → FirstTwinSince l room m n t → FirstTwinSince l room m n u → t ≡ u
+first-twin-since-unique l room m n = first-twin-on-unique (inRoom n room) m l
 
 pub first-twin-unique : (l : List Float) (room n : ℕ) {t u : Twin} → FirstTwin l room n t → FirstTwin l room n u → t ≡ u
 first-twin-unique l room n = first-twin-since-unique l room 0 n

@@ -3,16 +3,14 @@ use mathlib.Core.Path.{_≡_}
 use mathlib.Core.Bool.{true, false}
 use mathlib.Core.List.{List}
 use Prim.Native.Nat.{ℕ, _≤_, _<_}
-use lib.ListN.{length}
 use lib.Ieee.{Float}
 use Rattle.answer.specs.declared.Answer.{Answer}
-use Rattle.answer.specs.declared.Answer.the-variants.{Done}
 use Rattle.answer.specs.Number.{isDone}
-use Rattle.answer.specs.Refusals.{tested}
 use Rattle.matrix.specs.Matrix.{Matrix}
 use Rattle.matrix.specs.Grid.{load}
 use Rattle.matrix.specs.Layouts.{inRoom, lower}
-use Rattle.matrix.specs.Sizes.{sizeTests}
+use Rattle.matrix.specs.Sizes.{sizesOf}
+use Rattle.matrix.specs.declared.Layout.{Layout}
 use Rattle.twins.specs.declared.Twin.{Twin}
 use Rattle.twins.specs.declared.Twin.the-variants.{Nothing, Pair, Refused}
 use Rattle.twins.specs.Twins.{Twins}
@@ -41,14 +39,17 @@ pub data First (n : ℕ) (M : Matrix) (m : ℕ) : Twin → Type 0 where
 abbrev pub rowsIn : ℕ → ℕ → List Float → Matrix
 rowsIn room n l = load (lower (inRoom n room)) l
 
--- the refusal by size, or done
-abbrev pub sizeAnswer : List Float → ℕ → ℕ → ℕ → Answer
-sizeAnswer l room m n = tested (sizeTests (inRoom n room) m (length l)) Done
+-- a refusal by size, or the first pair of the lower triangle of a layout whose second row is at or after m
+pub record FirstTwinOn (y : Layout) (m : ℕ) (l : List Float) (r : Twin) : Type 0 where
+  pub refused : isDone (sizesOf y m l) ≡ false → r ≡ Refused (sizesOf y m l)
+  pub found : isDone (sizesOf y m l) ≡ true → First (y .order) (load (lower y) l) m r
 
--- a refusal by size, or the first pair of the lower triangle whose second row is at or after m
-pub record FirstTwinSince (l : List Float) (room m n : ℕ) (r : Twin) : Type 0 where
-  pub refused : isDone (sizeAnswer l room m n) ≡ false → r ≡ Refused (sizeAnswer l room m n)
-  pub found : isDone (sizeAnswer l room m n) ≡ true → First n (rowsIn room n l) m r
+-- the same in a room: the refusal by size, or done; and the promise
+abbrev pub sizeAnswer : List Float → ℕ → ℕ → ℕ → Answer
+sizeAnswer l room m n = sizesOf (inRoom n room) m l
+
+abbrev pub FirstTwinSince : List Float → ℕ → ℕ → ℕ → Twin → Type 0
+FirstTwinSince l room m n r = FirstTwinOn (inRoom n room) m l r
 
 -- `first_twin` looks from row 0 on
 abbrev pub FirstTwin : List Float → ℕ → ℕ → Twin → Type 0

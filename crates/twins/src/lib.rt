@@ -7,7 +7,7 @@ ghost use lib.Ieee.{binary64, toBits};
 ghost use Rattle.matrix.specs.Grid.{load};
 ghost use Rattle.matrix.specs.Layouts.{lower, Laid};
 ghost use Rattle.twins.specs.Twins.{symmetric};
-ghost use Rattle.twins.specs.First.{First, FirstTwinSince, FirstTwin};
+ghost use Rattle.twins.specs.First.{First, FirstTwinOn, FirstTwinSince, FirstTwin};
 ghost use Rattle.twins.specs.inner.Search.{Told, FirstBefore};
 ghost use Rattle.twins.specs.Number.{twinNumber};
 ghost use Rattle.twins.specs.inner.Fingerprints.{mixed, Fingerprinted, Brought, Cleared, Apart, OthersPassed};
@@ -217,11 +217,10 @@ fn first_of_many(y: Layout, a: &[f64], earlier: usize) -> Twin
     first_pair(y, a, &mut fingerprints, earlier)
 }
 
-// The first pair of twin rows, the second of them at or after `earlier`, of the symmetric matrix of order n whose lower part stands in the room.
-pub fn first_twin_since(a: &[f64], room: usize, earlier: usize, n: usize) -> Twin
-    ensures { λ r. ⌜ FirstTwinSince (now (a .entry)) room earlier n r ⌝ }
+// The first pair of twin rows, the second of them at or after `earlier`, of the symmetric matrix whose lower part stands in a layout.
+pub fn first_twin_on(y: Layout, a: &[f64], earlier: usize) -> Twin
+    ensures { λ r. ⌜ FirstTwinOn y earlier (now (a .entry)) r ⌝ }
 {
-    let y = Layout::in_room(n, room);
     let answer = y.check(earlier, a.len());
     if answer.code() != 0 {
         return Twin::Refused(answer);
@@ -230,6 +229,13 @@ pub fn first_twin_since(a: &[f64], room: usize, earlier: usize, n: usize) -> Twi
         return first_of_few(y, a, earlier);
     }
     first_of_many(y, a, earlier)
+}
+
+// The same of the first n rows of a room.
+pub fn first_twin_since(a: &[f64], room: usize, earlier: usize, n: usize) -> Twin
+    ensures { λ r. ⌜ FirstTwinSince (now (a .entry)) room earlier n r ⌝ }
+{
+    first_twin_on(Layout::in_room(n, room), a, earlier)
 }
 
 // The first pair of twin rows of all n.

@@ -1,4 +1,4 @@
--- The code and the place of an answer come back from the number that goes across: every place is at most 1,024.
+-- The code and the place of an answer come back from the number that goes across: every place is at most 1,024, in any layout.
 -- Assumes nothing.
 use mathlib.Core.List.{List}
 use mathlib.Core.Path.{_≡_, sym, ap, subst}
@@ -10,15 +10,17 @@ use Rattle.answer.specs.declared.Answer.{Answer}
 use Rattle.answer.specs.Number.{codeOf, placeOf, numberOf}
 use Rattle.answer.proofs.Back.{code-back, place-back}
 use Rattle.answer.proofs.Within.{Within}
+use Rattle.matrix.specs.declared.Layout.{Layout}
 use Rattle.twins.specs.declared.Twin.{Twin}
 use Rattle.twins.specs.declared.Twin.the-variants.{Nothing, Pair, Refused}
 use Rattle.twins.specs.Number.{twinNumber}
 use Rattle.urgyelpat.specs.declared.Determined.{Determined}
 use Rattle.urgyelpat.specs.declared.Listed.{Listed}
-use Rattle.urgyelpat.specs.Calls.{LbltFactor, LbltSolve, LbltSolveBench, LbltDeterminant, LbltD, LbltLPermuted}
+use Rattle.urgyelpat.specs.Calls.{FactorOn, SolveOn, DeterminantOn, ExtendOn, SolveTrianglesOn, FirstTwinPairOn}
+use Rattle.urgyelpat.specs.Calls.{LbltSolveBench, LbltD, LbltLPermuted}
 use Rattle.urgyelpat.specs.Calls.{PivotsFromLapack, PivotsToLapack}
-use Rattle.urgyelpat.specs.Calls.{CholeskyExtend, CholeskySolve, CholeskyL, CholeskyUnpack, CholeskyDeterminant}
-use Rattle.urgyelpat.specs.Calls.{UduFactor, FirstTwinPair}
+use Rattle.urgyelpat.specs.Calls.{CholeskyL, CholeskyUnpack, CholeskyDeterminant}
+use Rattle.urgyelpat.specs.Calls.{UduFactor, PackedCholeskyExtend}
 use Rattle.urgyelpat.proofs.FactorPlaces as lblt
 use Rattle.urgyelpat.proofs.ReaderPlaces as readers
 use Rattle.urgyelpat.proofs.ListPlaces.{read-within, written-within}
@@ -37,18 +39,19 @@ number-back {answer} e within =
 
 -- ---- LBLT
 
-module _ {n run : ℕ} {a : List Float} {words : List ℕ} where
-  pub lblt-factor-back : {r : ℕ} {a' : List Float} {words' : List ℕ} (c : LbltFactor n run a words r a' words') → Back (c .below) r
+module _ {y : Layout} {run : ℕ} {a : List Float} {words : List ℕ} where
+  pub lblt-factor-back : {r : ℕ} {a' : List Float} {words' : List ℕ} (c : FactorOn y run a words r a' words') → Back (c .below) r
   lblt-factor-back c = number-back (c .result) (lblt.factored-within (c .given))
 
-  pub lblt-solve-back : {columns : ℕ} {b b' : List Float} {r : ℕ} (c : LbltSolve n columns run a words b r b') → Back (c .below) r
+  pub lblt-solve-back : {columns : ℕ} {b b' : List Float} {r : ℕ} (c : SolveOn y columns run a words b r b') → Back (c .below) r
   lblt-solve-back c = number-back (c .result) (readers.solved-within (c .given))
 
+  pub lblt-determinant-back : {r : Determined} (c : DeterminantOn y run a words r) → Back (c .below .answer) (r .answer)
+  lblt-determinant-back c = number-back (ap (λ (d : Determined). d .answer) (c .result)) (readers.determined-within (c .given))
+
+module _ {n run : ℕ} {a : List Float} {words : List ℕ} where
   pub lblt-solve-bench-back : {columns bench : ℕ} {b b' : List Float} {benches : List ℕ} {r : ℕ} (c : LbltSolveBench n columns bench run a words b benches r b') → Back (c .below) r
   lblt-solve-bench-back c = number-back (c .result) (readers.bench-within (c .given))
-
-  pub lblt-determinant-back : {r : Determined} (c : LbltDeterminant n run a words r) → Back (c .below .answer) (r .answer)
-  lblt-determinant-back c = number-back (ap (λ (d : Determined). d .answer) (c .result)) (readers.determined-within (c .given))
 
   pub lblt-d-back : {d d' : List Float} {r : ℕ} (c : LbltD n run a words d r d') → Back (c .below) r
   lblt-d-back c = number-back (c .result) (readers.filled-within (c .given))
@@ -67,13 +70,14 @@ pivots-to-lapack-back c = number-back (ap (λ (l : Listed). l .answer) (c .resul
 
 -- ---- Cholesky
 
-module _ {room n : ℕ} {a : List Float} where
-  pub cholesky-extend-back : {m r : ℕ} {a' : List Float} (c : CholeskyExtend room m n a r a') → Back (c .below) r
+module _ {y : Layout} {a : List Float} where
+  pub cholesky-extend-back : {m r : ℕ} {a' : List Float} (c : ExtendOn y m a r a') → Back (c .below) r
   cholesky-extend-back c = number-back (c .result) (cholesky.extended-within (c .given))
 
-  pub cholesky-solve-back : {columns : ℕ} {b b' : List Float} {r : ℕ} (c : CholeskySolve room n columns a b r b') → Back (c .below) r
+  pub cholesky-solve-back : {columns : ℕ} {b b' : List Float} {r : ℕ} (c : SolveTrianglesOn y columns a b r b') → Back (c .below) r
   cholesky-solve-back c = number-back (c .result) (cholesky.solved-within (c .given))
 
+module _ {room n : ℕ} {a : List Float} where
   pub cholesky-l-back : {l l' : List Float} {r : ℕ} (c : CholeskyL room n a l r l') → Back (c .below) r
   cholesky-l-back c = number-back (c .result) (cholesky.copied-within (c .given))
 
@@ -101,5 +105,10 @@ twin-back Nothing e small = e
 twin-back (Pair p q) e small = (omega (arith, e, small), omega (arith, e, small))
 twin-back (Refused answer) e small = number-back e small
 
-pub first-twin-back : {room m n : ℕ} {a : List Float} {r : ℕ} (c : FirstTwinPair room m n a r) → TwinBack (c .below) r
-first-twin-back {room} {m} {n} {a} c = twin-back (c .below) (c .result) (twin-small a room m n (c .given))
+pub first-twin-back : {y : Layout} {m : ℕ} {a : List Float} {r : ℕ} (c : FirstTwinPairOn y m a r) → TwinBack (c .below) r
+first-twin-back {y} {m} {a} c = twin-back (c .below) (c .result) (twin-small y m a (c .given))
+
+-- ---- the packed further batch
+
+pub packed-cholesky-extend-back : {m n : ℕ} {old rows fresh fresh' : List Float} {r : ℕ} (c : PackedCholeskyExtend m n old rows fresh r fresh') → Back (c .below) r
+packed-cholesky-extend-back c = number-back (c .result) (cholesky.grown-within (c .given))

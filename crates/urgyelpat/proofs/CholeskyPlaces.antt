@@ -1,10 +1,11 @@
 -- The places that Cholesky's calls answer. Assumes nothing.
 use mathlib.Core.List.{List}
 use mathlib.Core.Path.{refl, sym, subst}
-use Prim.Native.Nat.{ℕ}
+use Prim.Native.Nat.{ℕ, _≤_}
 use native.Mathlib.Omega.{arith}
 use lib.ListN.{length}
 use lib.Ieee.{Float}
+use borrow.Author.Tests.{leb-true}
 use Rattle.answer.specs.declared.Answer.{Answer}
 use Rattle.answer.specs.declared.Answer.the-variants.{Done}
 use Rattle.answer.specs.declared.Valued.{Valued}
@@ -21,6 +22,7 @@ use Rattle.cholesky.specs.Promise.{Extended}
 use Rattle.cholesky.specs.Solve.{sidesTests, CholeskySolved}
 use Rattle.cholesky.specs.Readers.{copyTests, Copied, Unpacked, CholeskyDetermined}
 use Rattle.cholesky.proofs.Refusals.{columns-answered, refused-in}
+use Rattle.packed.specs.Growing.{growTests, handedIn, Grown}
 
 -- n columns are refused, if at all, at one of them
 columns-within : (m n : ℕ) (A : Matrix) → Within n (factorColumns crateRule m n A .answer)
@@ -50,3 +52,9 @@ unpacked-within {y} {l₀} x = subst (Within 1024) (sym (x .answer)) (sizes-with
 
 pub determined-within : {y : Layout} {l : List Float} {r : Valued} → CholeskyDetermined y l r → Within 1024 (r .answer)
 determined-within {y} {l} x = subst (Within 1024) (sym (x .answer)) (sizes-within y 0 (length l) Done (within-none (y .order)))
+
+pub grown-within : {m n : ℕ} {old rows fresh fresh' : List Float} {r : Answer} → Grown m n old rows fresh r fresh' → Within 1024 r
+grown-within {m} {n} {old} {rows} {fresh} x =
+    subst (Within 1024) (sym (x .answer))
+    (within-tested 1024 (growTests m n (length old) (length rows) (length fresh)) _ (omega arith, (omega arith, (omega arith, (omega arith, (omega arith, (omega arith, tt))))))
+    (λ h. let small : n ≤ 1024 = leb-true n 1024 (h .0) in let last = columns-within m n (handedIn m n old rows) in omega (arith, last, small)))

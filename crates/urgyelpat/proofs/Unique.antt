@@ -1,4 +1,5 @@
--- Two results that meet the promise of an exported call on one input are equal, and so are the slices. Assumes nothing.
+-- Two results that meet the promise of an exported call on one input are equal, and so are the slices; for calls that both layouts have, of any layout.
+-- Assumes nothing.
 use mathlib.Core.List.{List}
 use mathlib.Core.Path.{_≡_, sym, _∙_, ap}
 use Prim.Native.Nat.{ℕ}
@@ -6,6 +7,7 @@ use lib.IntN.{ℤ}
 use lib.Ieee.{Float}
 use Rattle.answer.specs.declared.Answer.{Answer}
 use Rattle.answer.specs.declared.Valued.{Valued}
+use Rattle.matrix.specs.declared.Layout.{Layout}
 use Rattle.pivots_lapack.specs.declared.Listed as lapack
 use Rattle.pivots_lapack.proofs.Once.{WrittenOnce, read-once, written-once}
 use Rattle.lblt.proofs.Done as lblt
@@ -16,14 +18,16 @@ use Rattle.cholesky.proofs.Promises.{extended-unique}
 use Rattle.cholesky.proofs.SolvePromises.{solved-unique}
 use Rattle.cholesky.proofs.ReaderPromises.{determined-unique, copied-unique, unpacked-unique}
 use Rattle.udu.proofs.Unique as udu
-use Rattle.twins.proofs.Unique.{first-twin-since-unique}
+use Rattle.twins.proofs.Unique.{first-twin-on-unique}
+use Rattle.packed.proofs.Growing.{grown-unique}
 use Rattle.urgyelpat.specs.declared.Determined.{Determined}
 use Rattle.urgyelpat.specs.declared.Listed.{Listed}
 use Rattle.urgyelpat.specs.Passed.{Passed}
-use Rattle.urgyelpat.specs.Calls.{LbltFactor, LbltSolve, LbltSolveBench, LbltDeterminant, LbltD, LbltLPermuted}
+use Rattle.urgyelpat.specs.Calls.{FactorOn, SolveOn, DeterminantOn, ExtendOn, SolveTrianglesOn, FirstTwinPairOn}
+use Rattle.urgyelpat.specs.Calls.{LbltSolveBench, LbltD, LbltLPermuted}
 use Rattle.urgyelpat.specs.Calls.{PivotsFromLapack, PivotsToLapack}
-use Rattle.urgyelpat.specs.Calls.{CholeskyExtend, CholeskySolve, CholeskyL, CholeskyUnpack, CholeskyDeterminant}
-use Rattle.urgyelpat.specs.Calls.{UduFactor, FirstTwinPair}
+use Rattle.urgyelpat.specs.Calls.{CholeskyL, CholeskyUnpack, CholeskyDeterminant}
+use Rattle.urgyelpat.specs.Calls.{UduFactor, PackedCholeskyExtend}
 
 -- what is given below is one, so its numbers are
 passed-same : {A B : Type 0} {numbers : A → B} {G H : A → Type 0} {r s : B} (p : Passed numbers G r) (q : Passed numbers H s) → p .below ≡ q .below → r ≡ s
@@ -37,17 +41,21 @@ valued-same {v} {w} (answer, value) = ap (λ (x : Answer). valued-by x (v .value
 
 -- ---- LBLT
 
-module _ {n run : ℕ} {a : List Float} {words : List ℕ} where
-  pub lblt-factor-unique : {r s : ℕ} {a₁ a₂ : List Float} {words₁ words₂ : List ℕ} → LbltFactor n run a words r a₁ words₁ → LbltFactor n run a words s a₂ words₂ → (r ≡ s) × (a₁ ≡ a₂) × (words₁ ≡ words₂)
+module _ {y : Layout} {run : ℕ} {a : List Float} {words : List ℕ} where
+  pub lblt-factor-unique : {r s : ℕ} {a₁ a₂ : List Float} {words₁ words₂ : List ℕ} → FactorOn y run a words r a₁ words₁ → FactorOn y run a words s a₂ words₂ → (r ≡ s) × (a₁ ≡ a₂) × (words₁ ≡ words₂)
   lblt-factor-unique p q =
       let same = lblt.factored-unique (p .given) (q .given) in
       (passed-same p q (same .answer), same .matrix, same .pivots)
 
-  pub lblt-solve-unique : {columns : ℕ} {b b₁ b₂ : List Float} {r s : ℕ} → LbltSolve n columns run a words b r b₁ → LbltSolve n columns run a words b s b₂ → (r ≡ s) × (b₁ ≡ b₂)
+  pub lblt-solve-unique : {columns : ℕ} {b b₁ b₂ : List Float} {r s : ℕ} → SolveOn y columns run a words b r b₁ → SolveOn y columns run a words b s b₂ → (r ≡ s) × (b₁ ≡ b₂)
   lblt-solve-unique p q =
       let same = solved-once (p .given) (q .given) in
       (passed-same p q (same .0), same .1)
 
+  pub lblt-determinant-unique : {r s : Determined} → DeterminantOn y run a words r → DeterminantOn y run a words s → r ≡ s
+  lblt-determinant-unique p q = passed-same p q (valued-same (determined-once (p .given) (q .given)))
+
+module _ {n run : ℕ} {a : List Float} {words : List ℕ} where
   pub lblt-solve-bench-unique
       : {columns bench : ℕ} {b b₁ b₂ : List Float} {benches : List ℕ} {r s : ℕ}
       → LbltSolveBench n columns bench run a words b benches r b₁ → LbltSolveBench n columns bench run a words b benches s b₂
@@ -55,9 +63,6 @@ module _ {n run : ℕ} {a : List Float} {words : List ℕ} where
   lblt-solve-bench-unique p q =
       let same = bench-once (p .given) (q .given) in
       (passed-same p q (same .0), same .1)
-
-  pub lblt-determinant-unique : {r s : Determined} → LbltDeterminant n run a words r → LbltDeterminant n run a words s → r ≡ s
-  lblt-determinant-unique p q = passed-same p q (valued-same (determined-once (p .given) (q .given)))
 
   pub lblt-d-unique : {d d₁ d₂ : List Float} {r s : ℕ} → LbltD n run a words d r d₁ → LbltD n run a words d s d₂ → (r ≡ s) × (d₁ ≡ d₂)
   lblt-d-unique p q =
@@ -96,17 +101,18 @@ pivots-to-lapack-unique p q =
 
 -- ---- Cholesky
 
-module _ {room n : ℕ} {a : List Float} where
-  pub cholesky-extend-unique : {m r s : ℕ} {a₁ a₂ : List Float} → CholeskyExtend room m n a r a₁ → CholeskyExtend room m n a s a₂ → (r ≡ s) × (a₁ ≡ a₂)
+module _ {y : Layout} {a : List Float} where
+  pub cholesky-extend-unique : {m r s : ℕ} {a₁ a₂ : List Float} → ExtendOn y m a r a₁ → ExtendOn y m a s a₂ → (r ≡ s) × (a₁ ≡ a₂)
   cholesky-extend-unique p q =
       let same = extended-unique (p .given) (q .given) in
       (passed-same p q (same .0), same .1)
 
-  pub cholesky-solve-unique : {columns : ℕ} {b b₁ b₂ : List Float} {r s : ℕ} → CholeskySolve room n columns a b r b₁ → CholeskySolve room n columns a b s b₂ → (r ≡ s) × (b₁ ≡ b₂)
+  pub cholesky-solve-unique : {columns : ℕ} {b b₁ b₂ : List Float} {r s : ℕ} → SolveTrianglesOn y columns a b r b₁ → SolveTrianglesOn y columns a b s b₂ → (r ≡ s) × (b₁ ≡ b₂)
   cholesky-solve-unique p q =
       let same = solved-unique (p .given) (q .given) in
       (passed-same p q (same .0), same .1)
 
+module _ {room n : ℕ} {a : List Float} where
   pub cholesky-l-unique : {l l₁ l₂ : List Float} {r s : ℕ} → CholeskyL room n a l r l₁ → CholeskyL room n a l s l₂ → (r ≡ s) × (l₁ ≡ l₂)
   cholesky-l-unique p q =
       let same = copied-unique (p .given) (q .given) in
@@ -127,5 +133,15 @@ udu-factor-unique x y =
     let same = udu.factored-unique (x .given) (y .given) in
     (passed-same x y (same .0), same .1, same .2)
 
-pub first-twin-pair-unique : {room m n : ℕ} {a : List Float} {r s : ℕ} → FirstTwinPair room m n a r → FirstTwinPair room m n a s → r ≡ s
-first-twin-pair-unique {room} {m} {n} {a} p q = passed-same p q (first-twin-since-unique a room m n (p .given) (q .given))
+pub first-twin-pair-unique : {y : Layout} {m : ℕ} {a : List Float} {r s : ℕ} → FirstTwinPairOn y m a r → FirstTwinPairOn y m a s → r ≡ s
+first-twin-pair-unique {y} {m} {a} p q = passed-same p q (first-twin-on-unique y m a (p .given) (q .given))
+
+-- ---- the packed further batch
+
+pub packed-cholesky-extend-unique
+    : {m n : ℕ} {old rows fresh fresh₁ fresh₂ : List Float} {r s : ℕ}
+    → PackedCholeskyExtend m n old rows fresh r fresh₁ → PackedCholeskyExtend m n old rows fresh s fresh₂
+    → (r ≡ s) × (fresh₁ ≡ fresh₂)
+packed-cholesky-extend-unique p q =
+    let same = grown-unique (p .given) (q .given) in
+    (passed-same p q (same .0), same .1)

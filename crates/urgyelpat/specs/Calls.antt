@@ -5,8 +5,9 @@ use lib.IntN.{ℤ}
 use lib.Ieee.{Float}
 use Rattle.answer.specs.declared.Answer.{Answer}
 use Rattle.answer.specs.Number.{numberOf}
+use Rattle.matrix.specs.declared.Layout.{Layout}
 use Rattle.matrix.specs.Grid.{load}
-use Rattle.matrix.specs.Layouts.{full, inRoom, lower}
+use Rattle.matrix.specs.Layouts.{full, inRoom, packed, lower}
 use Rattle.pivots_lapack.specs.Calls.{ListRead, ListWritten}
 use Rattle.lblt.specs.Factor as lblt
 use Rattle.lblt_read.specs.Calls.{LbltDetermined, LbltFilled}
@@ -18,25 +19,46 @@ use Rattle.cholesky.specs.Promise.{Extended}
 use Rattle.cholesky.specs.Readers.{Copied, Unpacked, CholeskyDetermined}
 use Rattle.cholesky.specs.Solve.{CholeskySolved}
 use Rattle.udu.specs.Promise as udu
-use Rattle.twins.specs.First.{FirstTwinSince}
+use Rattle.twins.specs.First.{FirstTwinOn}
 use Rattle.twins.specs.Number.{twinNumber}
+use Rattle.packed.specs.Growing.{Grown}
 use Rattle.urgyelpat.specs.Passed.{Passed, determinedOf, listedOf}
 use Rattle.urgyelpat.specs.declared.Determined.{Determined}
 use Rattle.urgyelpat.specs.declared.Listed.{Listed}
 
+-- ---- over a layout
+
+abbrev pub FactorOn : Layout → ℕ → List Float → List ℕ → ℕ → List Float → List ℕ → Type 0
+FactorOn y run a words r a' words' = Passed numberOf (λ (answer : Answer). lblt.Factored y run a words answer a' words') r
+
+abbrev pub SolveOn : Layout → ℕ → ℕ → List Float → List ℕ → List Float → ℕ → List Float → Type 0
+SolveOn y columns run a words b r b' = Passed numberOf (λ (answer : Answer). LbltSolved y columns run a words b answer b') r
+
+abbrev pub DeterminantOn : Layout → ℕ → List Float → List ℕ → Determined → Type 0
+DeterminantOn y run a words r = Passed determinedOf (LbltDetermined y run a words) r
+
+abbrev pub ExtendOn : Layout → ℕ → List Float → ℕ → List Float → Type 0
+ExtendOn y earlier a r a' = Passed numberOf (Extended y earlier a a') r
+
+abbrev pub SolveTrianglesOn : Layout → ℕ → List Float → List Float → ℕ → List Float → Type 0
+SolveTrianglesOn y columns a b r b' = Passed numberOf (CholeskySolved y columns a b b') r
+
+abbrev pub FirstTwinPairOn : Layout → ℕ → List Float → ℕ → Type 0
+FirstTwinPairOn y earlier a r = Passed twinNumber (FirstTwinOn y earlier a) r
+
 -- ---- LBLT
 
 abbrev pub LbltFactor : ℕ → ℕ → List Float → List ℕ → ℕ → List Float → List ℕ → Type 0
-LbltFactor n run a words r a' words' = Passed numberOf (λ (answer : Answer). lblt.Factored (full n) run a words answer a' words') r
+LbltFactor n = FactorOn (full n)
 
 abbrev pub LbltSolve : ℕ → ℕ → ℕ → List Float → List ℕ → List Float → ℕ → List Float → Type 0
-LbltSolve n columns run a words b r b' = Passed numberOf (λ (answer : Answer). LbltSolved (full n) columns run a words b answer b') r
+LbltSolve n = SolveOn (full n)
 
 abbrev pub LbltSolveBench : ℕ → ℕ → ℕ → ℕ → List Float → List ℕ → List Float → List ℕ → ℕ → List Float → Type 0
 LbltSolveBench n columns bench run a words b benches r b' = Passed numberOf (λ (answer : Answer). BenchSolved (full n) columns bench run a words b benches answer b') r
 
 abbrev pub LbltDeterminant : ℕ → ℕ → List Float → List ℕ → Determined → Type 0
-LbltDeterminant n run a words r = Passed determinedOf (LbltDetermined (full n) run a words) r
+LbltDeterminant n = DeterminantOn (full n)
 
 abbrev pub LbltD : ℕ → ℕ → List Float → List ℕ → List Float → ℕ → List Float → Type 0
 LbltD n run a words d r d' = Passed numberOf (λ (answer : Answer). LbltFilled (full n) run a words (dOf n (load (lower (full n)) a) words) d answer d') r
@@ -55,10 +77,10 @@ PivotsToLapack n words list r list' = Passed listedOf (λ listed. ListWritten n 
 -- ---- Cholesky
 
 abbrev pub CholeskyExtend : ℕ → ℕ → ℕ → List Float → ℕ → List Float → Type 0
-CholeskyExtend room earlier n a r a' = Passed numberOf (Extended (inRoom n room) earlier a a') r
+CholeskyExtend room earlier n = ExtendOn (inRoom n room) earlier
 
 abbrev pub CholeskySolve : ℕ → ℕ → ℕ → List Float → List Float → ℕ → List Float → Type 0
-CholeskySolve room n columns a b r b' = Passed numberOf (CholeskySolved (inRoom n room) columns a b b') r
+CholeskySolve room n = SolveTrianglesOn (inRoom n room)
 
 abbrev pub CholeskyL : ℕ → ℕ → List Float → List Float → ℕ → List Float → Type 0
 CholeskyL room n a l r l' = Passed numberOf (Copied (inRoom n room) a l l') r
@@ -75,4 +97,27 @@ abbrev pub UduFactor : ℕ → List Float → List Float → List Float → ℕ 
 UduFactor n p u d r u' d' = Passed numberOf (λ (answer : Answer). udu.UduFactored p u d n answer u' d') r
 
 abbrev pub FirstTwinPair : ℕ → ℕ → ℕ → List Float → ℕ → Type 0
-FirstTwinPair room earlier n a r = Passed twinNumber (FirstTwinSince a room earlier n) r
+FirstTwinPair room earlier n = FirstTwinPairOn (inRoom n room) earlier
+
+-- ---- packed triangles
+
+abbrev pub PackedLbltFactor : ℕ → ℕ → List Float → List ℕ → ℕ → List Float → List ℕ → Type 0
+PackedLbltFactor n = FactorOn (packed n)
+
+abbrev pub PackedLbltSolve : ℕ → ℕ → ℕ → List Float → List ℕ → List Float → ℕ → List Float → Type 0
+PackedLbltSolve n = SolveOn (packed n)
+
+abbrev pub PackedLbltDeterminant : ℕ → ℕ → List Float → List ℕ → Determined → Type 0
+PackedLbltDeterminant n = DeterminantOn (packed n)
+
+abbrev pub PackedCholeskyFactor : ℕ → List Float → ℕ → List Float → Type 0
+PackedCholeskyFactor n = ExtendOn (packed n) 0
+
+abbrev pub PackedCholeskyExtend : ℕ → ℕ → List Float → List Float → List Float → ℕ → List Float → Type 0
+PackedCholeskyExtend earlier n old rows fresh r fresh' = Passed numberOf (λ (answer : Answer). Grown earlier n old rows fresh answer fresh') r
+
+abbrev pub PackedCholeskySolve : ℕ → ℕ → List Float → List Float → ℕ → List Float → Type 0
+PackedCholeskySolve n = SolveTrianglesOn (packed n)
+
+abbrev pub PackedFirstTwin : ℕ → List Float → ℕ → Type 0
+PackedFirstTwin n = FirstTwinPairOn (packed n) 0

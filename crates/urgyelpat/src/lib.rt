@@ -5,6 +5,7 @@ ghost use Rattle.urgyelpat.specs.Calls.{LbltFactor, LbltSolve, LbltSolve
 ghost use Rattle.urgyelpat.specs.Calls.{PivotsFromLapack, PivotsToLapack};
 ghost use Rattle.urgyelpat.specs.Calls.{CholeskyExtend, CholeskySolve, CholeskyL, CholeskyUnpack, CholeskyDeterminant};
 ghost use Rattle.urgyelpat.specs.Calls.{UduFactor, FirstTwinPair};
+ghost use Rattle.urgyelpat.specs.Calls.{PackedLbltFactor, PackedLbltSolve, PackedLbltDeterminant, PackedCholeskyFactor, PackedCholeskyExtend, PackedCholeskySolve, PackedFirstTwin};
 use answer::Valued;
 
 // A determinant, +0 where refused, and the number of its answer.
@@ -227,4 +228,83 @@ pub extern "C" fn urgyelpat_first_twin_since(
     ensures { λ r. ⌜ FirstTwinPair room earlier n (now (a .entry)) r ⌝ }
 {
     twins::first_twin_since(a, room, earlier, n).number()
+}
+
+// A packed lower triangle of order n: n·(n + 1)/2 numbers, entry (i, j) at i + j·(2n − j − 1)/2.
+#[no_mangle]
+pub extern "C" fn urgyelpat_packed_lblt_factor(
+    a: &mut [f64],
+    record: &mut [u32],
+    n: usize,
+    run: u32,
+) -> u64
+    ensures { λ r. ⌜ PackedLbltFactor n run (now (a .entry)) (now («record» .entry)) r (now (a .exit)) (now («record» .exit)) ⌝ }
+{
+    packed::lblt_factor(a, record, n, run).number()
+}
+
+#[no_mangle]
+pub extern "C" fn urgyelpat_packed_lblt_solve(
+    a: &[f64],
+    record: &[u32],
+    b: &mut [f64],
+    n: usize,
+    columns: usize,
+    run: u32,
+) -> u64
+    ensures { λ r. ⌜ PackedLbltSolve n columns run (now (a .entry)) (now («record» .entry)) (now (b .entry)) r (now (b .exit)) ⌝ }
+{
+    packed::lblt_solve(a, record, b, n, columns, run).number()
+}
+
+#[no_mangle]
+pub extern "C" fn urgyelpat_packed_lblt_determinant(
+    a: &[f64],
+    record: &[u32],
+    n: usize,
+    run: u32,
+) -> Determined
+    ensures { λ r. ⌜ PackedLbltDeterminant n run (now (a .entry)) (now («record» .entry)) r ⌝ }
+{
+    numbered(packed::lblt_determinant(a, record, n, run))
+}
+
+#[no_mangle]
+pub extern "C" fn urgyelpat_packed_cholesky_factor(a: &mut [f64], n: usize) -> u64
+    ensures { λ r. ⌜ PackedCholeskyFactor n (now (a .entry)) r (now (a .exit)) ⌝ }
+{
+    packed::cholesky_factor(a, n).number()
+}
+
+// `old` is the factor of the first `earlier` rows, `rows` the others, i + 1 numbers for row i.
+#[no_mangle]
+pub extern "C" fn urgyelpat_packed_cholesky_extend(
+    old: &[f64],
+    rows: &[f64],
+    fresh: &mut [f64],
+    earlier: usize,
+    n: usize,
+) -> u64
+    ensures { λ r. ⌜ PackedCholeskyExtend earlier n (now (old .entry)) (now (rows .entry)) (now (fresh .entry)) r (now (fresh .exit)) ⌝ }
+{
+    packed::cholesky_extend(old, rows, fresh, earlier, n).number()
+}
+
+#[no_mangle]
+pub extern "C" fn urgyelpat_packed_cholesky_solve(
+    a: &[f64],
+    b: &mut [f64],
+    n: usize,
+    columns: usize,
+) -> u64
+    ensures { λ r. ⌜ PackedCholeskySolve n columns (now (a .entry)) (now (b .entry)) r (now (b .exit)) ⌝ }
+{
+    packed::cholesky_solve(a, b, n, columns).number()
+}
+
+#[no_mangle]
+pub extern "C" fn urgyelpat_packed_first_twin(a: &[f64], n: usize) -> u64
+    ensures { λ r. ⌜ PackedFirstTwin n (now (a .entry)) r ⌝ }
+{
+    packed::first_twin(a, n).number()
 }

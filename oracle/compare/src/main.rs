@@ -2,7 +2,8 @@
 //! families, solves by Cholesky's factor, twin rows, benches and LAPACK's lists of the seeds FIRST, FIRST + 1, .. Every word of every slice is
 //! compared, all NaNs being one. The calls that the steps alone answer are compared with the port. UDU of every block of rows and columns m to n − 1 is
 //! held against those rows and columns of UDU of the whole, a bench's solve against one that differs only in the columns of the other benches, and a list
-//! or a record against what comes back of it.
+//! or a record against what comes back of it. Beside every full call that has one its packed call is made and held against it, and packed batches are held
+//! against one packed call on the whole and against the batches of the full layout. What is packed is counted by itself.
 
 use std::collections::BTreeMap;
 use std::process::ExitCode;
@@ -12,7 +13,7 @@ use oracle::cases::{self, Chain};
 use oracle::line::{case_line, outcome_line};
 use oracle::paper::Paper;
 use oracle::text::Text;
-use oracle::{back, pair, tail};
+use oracle::{back, packed, pair, tail};
 
 fn main() -> ExitCode {
     let words: Vec<String> = std::env::args().skip(1).collect();
@@ -56,17 +57,25 @@ fn main() -> ExitCode {
     let lists = [cases::short_lists(), cases::sound_lists(), cases::lists_but_one_bit(), cases::short_records()];
     lists.iter().flatten().for_each(|case| tally.hold(case));
     println!("LAPACK's lists of orders up to 5: {} calls", tally.calls() - before);
+    cases::packed_refusals().iter().chain(&cases::largest_packed()).for_each(|case| _ = tally.hold_packed(case));
+    cases::full_calls_on_triangles().iter().for_each(|case| tally.hold_unfit(case));
+    cases::largest_chains().iter().chain(&cases::chains_of_all_cuts()).for_each(|chain| tally.hold_packed_chain(chain));
+    println!("packed beside these, and of their own: {} calls, {} chains", tally.packed.calls(), tally.packed.chains());
     let before = tally.calls();
+    let (packed_calls, packed_chains) = (tally.packed.calls(), tally.packed.chains());
     for seed in first..first + seeds {
         let family = cases::family(seed);
         family.cases.iter().for_each(|case| tally.hold(case));
         family.chains.iter().for_each(|chain| tally.hold_chain(chain));
+        family.chains.iter().chain([&cases::packed_chain(seed)]).for_each(|chain| tally.hold_packed_chain(chain));
         cases::solves(seed).iter().for_each(|case| tally.hold(case));
         cases::twins(seed).iter().for_each(|case| tally.hold(case));
         cases::benches(seed).iter().for_each(|case| tally.hold(case));
         cases::lists(seed).iter().for_each(|case| tally.hold(case));
     }
     println!("seeds {first} to {}: {} calls", (first + seeds).saturating_sub(1), tally.calls() - before);
+    let (calls, chains) = (tally.packed.calls() - packed_calls, tally.packed.chains() - packed_chains);
+    println!("packed beside these, and of their own: {calls} calls, {chains} chains");
     tally.print(against);
     if tally.differences == 0 { ExitCode::SUCCESS } else { ExitCode::FAILURE }
 }
@@ -84,6 +93,7 @@ struct Tally<'a> {
     tails: Tails,
     pairs: Pairs,
     backs: Backs,
+    packed: Packed,
     differences: u64,
     smallest: Option<(usize, String)>,
 }
@@ -111,6 +121,32 @@ struct Backs {
     records: u64,
 }
 
+/// The packed calls, and what they are held against.
+#[derive(Default)]
+struct Packed {
+    per_call: BTreeMap<Call, u64>,
+    per_code: BTreeMap<u64, u64>,
+    twins: u64,
+    /// Held against the full call of the same implementation.
+    beside: u64,
+    /// Full calls on as many numbers as the packed ones take.
+    unfit: u64,
+    /// Chains whose rows are all accepted, and chains that end with a refused batch.
+    accepted: u64,
+    refused: u64,
+    batches: u64,
+}
+
+impl Packed {
+    fn calls(&self) -> u64 {
+        self.per_call.values().sum()
+    }
+
+    fn chains(&self) -> u64 {
+        self.accepted + self.refused
+    }
+}
+
 impl<'a> Tally<'a> {
     fn new(other: &'a dyn Calls, steps: bool) -> Self {
         Tally {
@@ -125,6 +161,7 @@ impl<'a> Tally<'a> {
             tails: Tails::default(),
             pairs: Pairs::default(),
             backs: Backs::default(),
+            packed: Packed::default(),
             differences: 0,
             smallest: None,
         }
@@ -134,33 +171,109 @@ impl<'a> Tally<'a> {
         self.per_call.values().sum()
     }
 
+    /// The case, and the packed one beside it.
     fn hold(&mut self, case: &Case) {
-        if self.steps && case.call.by_steps_alone() {
+        let one_implementation = self.steps && case.call.by_steps_alone();
+        let packed = packed::beside(case);
+        if one_implementation && packed.is_none() {
             return;
         }
         let text = case.outcome(&Text);
         let other = case.outcome(self.other);
+        if !one_implementation {
+            self.hold_full(case, &text, &other);
+        }
+        if let Some(packed) = packed {
+            self.hold_beside(&packed, case, &text, &other);
+        }
+    }
+
+    fn hold_full(&mut self, case: &Case, text: &Outcome, other: &Outcome) {
         *self.per_call.entry(case.call).or_default() += 1;
         match text.answer / 4096 {
             code if code < 4096 => *self.per_code.entry(code).or_default() += 1,
             _ => self.twins += 1,
         }
         if case.call == Call::LbltFactor && text.answer == 0 {
-            self.size_two += blocks_of_two(&text);
+            self.size_two += blocks_of_two(text);
             self.marks += (mark(&text.record) != 0) as u64;
         }
-        if text != other {
-            let said = format!("{}\ntext  {}\nother {}", case_line(case), outcome_line(case, &text), outcome_line(case, &other));
-            self.differ(case.size(), said);
-        }
+        self.hold_alike(case, text, other);
         if case.call == Call::UduFactor && matches!(text.answer / 4096, 0 | 8) {
-            self.hold_tails(case, &text, &other);
+            self.hold_tails(case, text, other);
         }
         if case.call == Call::LbltSolveBench {
-            self.hold_pair(case, &text, &other);
+            self.hold_pair(case, text, other);
         }
         if text.answer == 0 && matches!(case.call, Call::PivotsFromLapack | Call::PivotsToLapack) {
-            self.hold_back(case, &text, &other);
+            self.hold_back(case, text, other);
+        }
+    }
+
+    fn hold_alike(&mut self, case: &Case, text: &Outcome, other: &Outcome) {
+        if text != other {
+            let said = format!("{}\ntext  {}\nother {}", case_line(case), outcome_line(case, text), outcome_line(case, other));
+            self.differ(case.size(), said);
+        }
+    }
+
+    /// A packed call: what the text and the other implementation answer and leave.
+    fn hold_packed(&mut self, case: &Case) -> [Outcome; 2] {
+        let [text, other] = [&Text, self.other].map(|calls: &dyn Calls| case.outcome(calls));
+        *self.packed.per_call.entry(case.call).or_default() += 1;
+        match text.answer / 4096 {
+            code if code < 4096 => *self.packed.per_code.entry(code).or_default() += 1,
+            _ => self.packed.twins += 1,
+        }
+        self.hold_alike(case, &text, &other);
+        [text, other]
+    }
+
+    /// A packed call and the full one, by the text and by the other implementation, each against its own.
+    fn hold_beside(&mut self, packed: &Case, full: &Case, text: &Outcome, other: &Outcome) {
+        self.packed.beside += 1;
+        let found = self.hold_packed(packed);
+        for ((left, found), name) in [text, other].into_iter().zip(found).zip(["text", "other"]) {
+            self.hold_kept(packed, full, &packed::kept(packed, full, left), &found, name);
+        }
+    }
+
+    /// What a packed call is to leave by what another call leaves, and what is found.
+    fn hold_kept(&mut self, packed: &Case, by: &Case, kept: &Outcome, found: &Outcome, name: &str) {
+        if kept != found {
+            let [kept, found] = [kept, found].map(|outcome| outcome_line(packed, outcome));
+            let said = format!("{}\n{}\nby the {name}\nkept  {kept}\nfound {found}", case_line(by), case_line(packed));
+            self.differ(packed.size(), said);
+        }
+    }
+
+    /// A full call that both refuse, on as many numbers as the packed one takes.
+    fn hold_unfit(&mut self, case: &Case) {
+        self.packed.unfit += 1;
+        self.hold_alike(case, &case.outcome(&Text), &case.outcome(self.other));
+    }
+
+    /// Demand 3 over the chain of new buffers: each batch by the text and by the other implementation, and the batches of each against its own batches in
+    /// one room, the last against its own one call.
+    fn hold_packed_chain(&mut self, chain: &Chain) {
+        let whole = packed::whole(chain);
+        let [text, other] = [&Text, self.other].map(|calls: &dyn Calls| packed::packed_batches(calls, chain));
+        self.packed.batches += text.len() as u64;
+        match text.last() {
+            Some((_, left)) if left.answer != 0 => self.packed.refused += 1,
+            _ => self.packed.accepted += 1,
+        }
+        for ((batch, left), (_, by_other)) in text.iter().zip(&other) {
+            self.hold_alike(batch, left, by_other);
+        }
+        for (calls, batches, name) in [(&Text as &dyn Calls, text, "text"), (self.other, other, "other")] {
+            let in_a_room = packed::full_batches(calls, chain);
+            for ((batch, found), (full, left)) in batches.iter().zip(&in_a_room) {
+                self.hold_kept(batch, full, &packed::kept(batch, full, left), found, name);
+            }
+            let (last, found) = batches.last().expect("a chain has a cut");
+            let kept = packed::by_the_whole(last, &whole, &whole.outcome(calls));
+            self.hold_kept(last, &whole, &kept, found, name);
         }
     }
 
@@ -233,7 +346,7 @@ impl<'a> Tally<'a> {
     /// Demand 3: the batches of the other implementation against the one call of the text.
     fn hold_chain(&mut self, chain: &Chain) {
         self.chains += 1;
-        let n = *chain.cuts.last().expect("a chain has a cut");
+        let n = chain.n;
         let mut whole = chain.a.clone();
         let answer = Text.cholesky_factor(&mut whole, chain.room, n);
         let mut batched = chain.a.clone();
@@ -278,13 +391,29 @@ impl<'a> Tally<'a> {
             self.pairs.solved, self.pairs.without, self.pairs.refused
         );
         println!("  there and back: {} lists, {} records", self.backs.lists, self.backs.records);
+        for (call, count) in &self.packed.per_call {
+            println!("  {:<24}{count:>7}", call.form().name);
+        }
+        for (code, count) in &self.packed.per_code {
+            println!("  packed, code {code:<11}{count:>7}");
+        }
         println!(
-            "text against {against}: {} calls, {} chains, {} blocks, {} pairs, {} there and back, {} differ",
+            "  packed calls beside full ones: {}; full calls on packed matrices: {}; pairs of twin rows in packed matrices: {}",
+            self.packed.beside, self.packed.unfit, self.packed.twins
+        );
+        println!(
+            "  chains of packed batches: {} accepted, {} refused, with {} batches",
+            self.packed.accepted, self.packed.refused, self.packed.batches
+        );
+        println!(
+            "text against {against}: {} calls, {} chains, {} blocks, {} pairs, {} there and back, {} packed calls, {} packed chains, {} differ",
             self.calls(),
             self.chains,
             self.tails.accepted + self.tails.before + self.tails.within,
             self.pairs.solved + self.pairs.without + self.pairs.refused,
             self.backs.lists + self.backs.records,
+            self.packed.calls(),
+            self.packed.chains(),
             self.differences
         );
         if let Some((_, said)) = &self.smallest {

@@ -82,6 +82,39 @@ unsafe extern "C" {
         run: u32,
     ) -> u64;
     fn urgyelpat_pivots_to_lapack(record: *const u32, record_len: usize, list: *mut i32, list_len: usize, n: usize) -> Listed;
+    fn urgyelpat_packed_lblt_factor(a: *mut f64, a_len: usize, record: *mut u32, record_len: usize, n: usize, run: u32) -> u64;
+    fn urgyelpat_packed_lblt_solve(
+        a: *const f64,
+        a_len: usize,
+        record: *const u32,
+        record_len: usize,
+        b: *mut f64,
+        b_len: usize,
+        n: usize,
+        columns: usize,
+        run: u32,
+    ) -> u64;
+    fn urgyelpat_packed_lblt_determinant(
+        a: *const f64,
+        a_len: usize,
+        record: *const u32,
+        record_len: usize,
+        n: usize,
+        run: u32,
+    ) -> Determinant;
+    fn urgyelpat_packed_cholesky_factor(a: *mut f64, a_len: usize, n: usize) -> u64;
+    fn urgyelpat_packed_cholesky_extend(
+        old: *const f64,
+        old_len: usize,
+        rows: *const f64,
+        rows_len: usize,
+        fresh: *mut f64,
+        fresh_len: usize,
+        earlier: usize,
+        n: usize,
+    ) -> u64;
+    fn urgyelpat_packed_cholesky_solve(a: *const f64, a_len: usize, b: *mut f64, b_len: usize, n: usize, columns: usize) -> u64;
+    fn urgyelpat_packed_first_twin(a: *const f64, a_len: usize, n: usize) -> u64;
 }
 
 pub struct Port;
@@ -199,5 +232,52 @@ impl Calls for Port {
     fn pivots_to_lapack(&self, record: &[u32], list: &mut [i32], n: usize) -> (u64, i32, u32) {
         let r = unsafe { urgyelpat_pivots_to_lapack(record.as_ptr(), record.len(), list.as_mut_ptr(), list.len(), n) };
         (r.answer, r.info, r.run)
+    }
+
+    #[inline]
+    fn packed_lblt_factor(&self, a: &mut [f64], record: &mut [u32], n: usize, run: u32) -> u64 {
+        unsafe { urgyelpat_packed_lblt_factor(a.as_mut_ptr(), a.len(), record.as_mut_ptr(), record.len(), n, run) }
+    }
+
+    #[inline]
+    fn packed_lblt_solve(&self, a: &[f64], record: &[u32], b: &mut [f64], n: usize, columns: usize, run: u32) -> u64 {
+        unsafe { urgyelpat_packed_lblt_solve(a.as_ptr(), a.len(), record.as_ptr(), record.len(), b.as_mut_ptr(), b.len(), n, columns, run) }
+    }
+
+    #[inline]
+    fn packed_lblt_determinant(&self, a: &[f64], record: &[u32], n: usize, run: u32) -> (u64, f64) {
+        let r = unsafe { urgyelpat_packed_lblt_determinant(a.as_ptr(), a.len(), record.as_ptr(), record.len(), n, run) };
+        (r.answer, r.value)
+    }
+
+    #[inline]
+    fn packed_cholesky_factor(&self, a: &mut [f64], n: usize) -> u64 {
+        unsafe { urgyelpat_packed_cholesky_factor(a.as_mut_ptr(), a.len(), n) }
+    }
+
+    #[inline]
+    fn packed_cholesky_extend(&self, old: &[f64], rows: &[f64], fresh: &mut [f64], earlier: usize, n: usize) -> u64 {
+        unsafe {
+            urgyelpat_packed_cholesky_extend(
+                old.as_ptr(),
+                old.len(),
+                rows.as_ptr(),
+                rows.len(),
+                fresh.as_mut_ptr(),
+                fresh.len(),
+                earlier,
+                n,
+            )
+        }
+    }
+
+    #[inline]
+    fn packed_cholesky_solve(&self, a: &[f64], b: &mut [f64], n: usize, columns: usize) -> u64 {
+        unsafe { urgyelpat_packed_cholesky_solve(a.as_ptr(), a.len(), b.as_mut_ptr(), b.len(), n, columns) }
+    }
+
+    #[inline]
+    fn packed_first_twin(&self, a: &[f64], n: usize) -> u64 {
+        unsafe { urgyelpat_packed_first_twin(a.as_ptr(), a.len(), n) }
     }
 }

@@ -7,8 +7,9 @@ use std::{env, fs, io};
 
 use oracle::back::reader;
 use oracle::call::{Call, Calls, Case, Slice, record_length};
-use oracle::cases::{self, SPECIAL, fill, filled};
+use oracle::cases::{self, Rng, SPECIAL, fill, filled};
 use oracle::list::{MOST, Machine, Pattern, Spot, Writer};
+use oracle::packed::{beside, pack, packed_length};
 use oracle::paper::Paper;
 use oracle::text::Text;
 
@@ -66,9 +67,9 @@ fn replay(folder: &Path) -> io::Result<()> {
 fn emit(w: &mut Writer, case: &Case) -> u64 {
     for &slice in case.call.form().slices {
         let words: Vec<u64> = match slice {
-            Slice::A => case.a.iter().map(|x| x.to_bits()).collect(),
-            Slice::B => case.b.iter().map(|x| x.to_bits()).collect(),
-            Slice::C => case.c.iter().map(|x| x.to_bits()).collect(),
+            Slice::A => bits(&case.a),
+            Slice::B => bits(&case.b),
+            Slice::C => bits(&case.c),
             Slice::Record => halves(&case.record),
             Slice::Benches => halves(&case.benches),
             Slice::List => signed(&case.list),
@@ -80,6 +81,10 @@ fn emit(w: &mut Writer, case: &Case) -> u64 {
 
 fn signed(list: &[i32]) -> Vec<u64> {
     list.iter().map(|&number| number as u32 as u64).collect()
+}
+
+fn bits(s: &[f64]) -> Vec<u64> {
+    s.iter().map(|x| x.to_bits()).collect()
 }
 
 fn halves(words: &[u32]) -> Vec<u64> {
@@ -94,8 +99,10 @@ fn emit_all<'a>(w: &mut Writer, cases: impl IntoIterator<Item = &'a Case>) {
 }
 
 fn fits(case: &Case) -> bool {
-    let in_c = case.c.len().max(case.benches.len()).max(case.list.len());
-    case.a.len().max(case.b.len()) <= MOST[0] && in_c <= MOST[1] && case.record.len() <= MOST[2]
+    let [floats, halves, record] = MOST;
+    case.a.len().max(case.b.len()).max(case.c.len()) <= floats
+        && case.benches.len().max(case.list.len()) <= halves
+        && case.record.len() <= record
 }
 
 /// Families of this library with orders from `orders`, until `words` more have been written.
@@ -113,7 +120,11 @@ fn families(w: &mut Writer, first: Call, orders: std::ops::RangeInclusive<usize>
 
 /// Of the refusals of these calls, some for each call and code.
 fn refusals(w: &mut Writer, calls: &[Call]) {
-    let all: Vec<Case> = cases::refusals().into_iter().filter(|c| calls.contains(&c.call) && fits(c)).collect();
+    some_of_each_code(w, cases::refusals(), calls);
+}
+
+fn some_of_each_code(w: &mut Writer, cases: Vec<Case>, calls: &[Call]) {
+    let all: Vec<Case> = cases.into_iter().filter(|c| calls.contains(&c.call) && fits(c)).collect();
     for &call in calls {
         for code in (1..=6).chain([12, 13]) {
             let of_code = |c: &&Case| c.call == call && c.outcome(&Text).answer / 4096 == code;
@@ -230,6 +241,7 @@ fn lblt(w: &mut Writer) {
     w.sweep(1, &SPECIAL);
     benches(w);
     lists(w);
+    packed_lblt(w);
 }
 
 /// A bench's call on what the registers hold.
@@ -261,7 +273,6 @@ const STRETCHES: [&[(u32, usize)]; 2] = [
 
 fn benches(w: &mut Writer) {
     let run = 7;
-    let bits = |s: &[f64]| s.iter().map(|x| x.to_bits()).collect::<Vec<_>>();
     // each bench in turn, one that has no column, and another run; the second matrix is marked
     let sides = [3.0, 5.0, f64::NAN, f64::INFINITY, 7.0, 11.0];
     let first: [(usize, &[f64]); 4] = [(2, &[0.0, 1.0, 0.0]), (2, &[0.0, f64::NAN, 5.0]), (1, &[2.0]), (0, &[])];
@@ -543,6 +554,7 @@ fn cholesky(w: &mut Writer) {
     }
     w.sweep(2, &SPECIAL);
     cholesky_solves(w);
+    packed_cholesky(w);
 }
 
 /// Solves of the seeds from `seed` on with orders from `orders`, the shorter ones, until `words` more have been written.
@@ -781,4 +793,361 @@ fn twins(w: &mut Writer) {
         w.places(Pattern { n: 3, room: 4, base: ONE, kept: ALL, rest: FILL, mask: 1 << bit });
     }
     w.sweep(4, &SPECIAL);
+    packed_twins(w);
+}
+
+/// The packed calls beside the full ones of the seeds from `seed` on, if the last of these has an order from `orders`, until `words` more have been
+/// written.
+fn packed_families(w: &mut Writer, of_a_seed: impl Fn(u64) -> Vec<Case>, orders: std::ops::RangeInclusive<usize>, words: usize, seed: u64) {
+    let end = w.list.len() + words;
+    let mut seed = seed;
+    while w.list.len() < end {
+        let cases: Vec<Case> = of_a_seed(seed).iter().filter_map(beside).collect();
+        if cases.last().is_some_and(|last| orders.contains(&last.n)) && cases.iter().all(|case| case.b.len() <= 60) {
+            emit_all(w, &cases);
+        }
+        seed += 1;
+    }
+}
+
+/// The cases of a family of this library.
+fn family_of(first: Call) -> impl Fn(u64) -> Vec<Case> {
+    move |seed| Some(cases::family(seed).cases).filter(|family| family[0].call == first).unwrap_or_default()
+}
+
+/// A packed matrix of order n by chance in register A. The shift is added to each diagonal, and to the first n times.
+fn packed_by_chance(w: &mut Writer, n: usize, seed: u64, shift: Option<f64>) {
+    w.random(Slice::A, packed_length(n), seed);
+    if let Some(by) = shift {
+        let mut diagonal = 0;
+        for rows in (2..=n).rev() {
+            diagonal += rows;
+            // entries 0 and 1 + stride
+            w.shift(Slice::A, 2, diagonal - 1, by);
+        }
+        w.shift(Slice::A, n.min(1), 0, by);
+    }
+}
+
+/// Numbers that a call is to write over.
+fn rubbish(w: &mut Writer, slice: Slice, len: usize) {
+    w.set_or_fill(slice, &bits(&filled(len)));
+}
+
+const COUNTS: [usize; 5] = [1024, 1025, 1 << 32, 1 << 63, usize::MAX];
+
+fn packed_lblt(w: &mut Writer) {
+    let calls = |w: &mut Writer, n: usize, columns: &[usize]| {
+        let run = run_of(n);
+        w.set_or_fill(Slice::Record, &(100..100 + record_length(n) as u64).collect::<Vec<_>>());
+        w.call(Call::PackedLbltFactor, n, 0, run);
+        for &columns in columns {
+            w.random(Slice::B, n * columns, 41);
+            w.call(Call::PackedLbltSolve, n, columns, run);
+        }
+        w.call(Call::PackedLbltSolve, n, columns[columns.len() - 1], run + 1);
+        w.call(Call::PackedLbltDeterminant, n, 0, run + 1);
+        w.call(Call::PackedLbltDeterminant, n, 0, run);
+    };
+    let tiny = f64::from_bits((1023 - 600) << 52);
+    let huge = f64::from_bits((1023 + 600) << 52);
+    let first: [(usize, &[f64]); 10] = [
+        (0, &[]),
+        (1, &[2.0]),
+        (1, &[f64::NAN]),
+        (2, &[0.0, 1.0, 0.0]),
+        (2, &[0.0, 1.0, 4.0]),
+        (2, &[0.0, f64::NAN, 5.0]),
+        (2, &[4.0, 2.0, 3.0]),
+        (3, &[0.0, 3.0, 1.0, -3.0, 2.0, 1.0]),
+        (3, &[0.0, tiny, 0.0, 0.0, huge, 0.0]),
+        (4, &[0.0, 1.0, 2.0, 5.0, 3.0, 4.0, 2.0, 7.0, 1.0, 0.0]),
+    ];
+    for (n, lower) in first {
+        w.case();
+        w.set(Slice::A, &bits(&pack(&matrix(n, lower), n, n)));
+        calls(w, n, &[0, 1, 3]);
+    }
+    let of_lblt = [Call::PackedLbltFactor, Call::PackedLbltSolve, Call::PackedLbltDeterminant];
+    some_of_each_code(w, cases::packed_refusals(), &of_lblt);
+    // each count by itself at the most, above it, and not that of what is lent; then two at a time, so that the order of the checks shows
+    let run = 7;
+    let all = |w: &mut Writer, n: usize, columns: usize| {
+        w.call(Call::PackedLbltSolve, n, columns, run);
+        w.call(Call::PackedLbltDeterminant, n, 0, run);
+        w.call(Call::PackedLbltFactor, n, 0, run);
+    };
+    w.case();
+    w.set(Slice::A, &bits(&[2.0]));
+    w.set(Slice::Record, &[0, 1, 0, run as u64]);
+    w.set(Slice::B, &bits(&[3.0]));
+    for (n, columns) in
+        COUNTS.iter().flat_map(|&far| [(far, 1), (1, far)]).chain([(0, 1), (2, 1), (1, 0), (1, 2), (1025, 1025), (2, 1025), (2, 2)])
+    {
+        all(w, n, columns);
+    }
+    // one length at a time that is not the counts'; 4 and 9 are those of full matrices
+    for n in [2, 3] {
+        let (whole, words) = (packed_length(n), record_length(n));
+        let sound: Vec<u64> = (0..n as u64).flat_map(|k| [k, 1]).chain([0, run as u64, 9]).collect();
+        let others = |right: usize| [0, 1, right - 1, right + 1];
+        let lengths = others(whole).into_iter().chain([n * n]).map(|len| (len, words, n));
+        let lengths =
+            lengths.chain(others(words).map(|len| (whole, len, n))).chain([0, n - 1, n + 1, n * n].map(|len| (whole, words, len)));
+        for (a, record, b) in lengths {
+            w.case();
+            w.set_or_fill(Slice::A, &bits(&filled(a)));
+            w.set(Slice::Record, &sound[..record]);
+            w.set_or_fill(Slice::B, &bits(&filled(b)));
+            all(w, n, 1);
+        }
+    }
+    // sound records with each word changed to each of a few; sides that lack a column, and another run's number
+    for record in [&[0, 1, 0][..], &[1, 1, 1, 1, 2], &[1, 2, 1, 2, 0], &[2, 2, 2, 2, 2, 1, 0]] {
+        let n = record.len() / 2;
+        w.case();
+        w.set(Slice::A, &bits(&(1..=packed_length(n)).map(|x| x as f64).collect::<Vec<_>>()));
+        w.set(Slice::B, &bits(&[3.0, 5.0, 7.0][..n]));
+        for at in 0..record.len() + 1 {
+            for word in [0, 1, 2, 3, u32::MAX] {
+                let mut changed = [record, &[run as u32]].concat();
+                changed[at] = word;
+                w.case();
+                w.set(Slice::Record, &halves(&changed));
+                w.call(Call::PackedLbltSolve, n, 1, run);
+                w.call(Call::PackedLbltSolve, n, 2, run);
+                w.call(Call::PackedLbltDeterminant, n, 0, run);
+                w.call(Call::PackedLbltDeterminant, n, 0, run + 1);
+            }
+        }
+    }
+    packed_families(w, family_of(Call::LbltFactor), 1..=4, 1500, 8_000_000);
+    packed_families(w, family_of(Call::LbltFactor), 5..=8, 1500, 8_010_000);
+    packed_families(w, family_of(Call::LbltFactor), 9..=12, 1000, 8_020_000);
+    for n in ORDERS {
+        for shift in [None, Some(n as f64)] {
+            w.case();
+            packed_by_chance(w, n, 50 + n as u64, shift);
+            calls(w, n, &[1, 7]);
+        }
+    }
+}
+
+/// A packed further batch on what register A holds, of these rows, over rubbish.
+fn packed_batch(w: &mut Writer, earlier: usize, n: usize, rows: &[u64]) -> u64 {
+    w.set(Slice::B, rows);
+    rubbish(w, Slice::C, packed_length(n));
+    w.call(Call::PackedCholeskyExtend, n, earlier, 0)
+}
+
+/// Solves of 1 and 7 columns by the packed factor in register A.
+fn packed_solves(w: &mut Writer, n: usize) {
+    for columns in [1, 7] {
+        w.random(Slice::B, n * columns, 42);
+        w.call(Call::PackedCholeskySolve, n, columns, 0);
+    }
+}
+
+/// What the last batch left becomes the old factor.
+fn fresh_to_old(w: &mut Writer) {
+    let fresh = w.words(Slice::C);
+    set_unless_there(w, Slice::A, &fresh);
+}
+
+fn packed_cholesky(w: &mut Writer) {
+    let first: [(usize, &[f64]); 8] = [
+        (0, &[]),
+        (1, &[4.0]),
+        (1, &[-0.0]),
+        (2, &[4.0, 2.0, 5.0]),
+        (2, &[1.0, 1.0, 1.0]),
+        (2, &[3.0, 3.0, 3.0]),
+        (3, &[4.0, 2.0, 5.0, 6.0, 7.0, 26.0]),
+        (3, &[f64::INFINITY, 1.0, 1.0, 1.0, 2.0, 9.0]),
+    ];
+    // at once, and in batches of one row after a batch of none
+    for (n, lower) in first {
+        w.case();
+        w.set(Slice::A, &bits(&pack(&matrix(n, lower), n, n)));
+        w.call(Call::PackedCholeskyFactor, n, 0, 0);
+        packed_solves(w, n);
+        w.set(Slice::A, &[]);
+        packed_batch(w, 0, 0, &[]);
+        for i in 0..n {
+            let row = &lower[packed_length(i)..packed_length(i + 1)];
+            if packed_batch(w, i, i + 1, &bits(row)) != 0 {
+                break;
+            }
+            fresh_to_old(w);
+        }
+    }
+    // diagonals on both sides of each test: last of three at once and in a batch of its own, and in a batch with a row after it
+    let least = f64::from_bits(1);
+    for x in [0.0, -0.0, least, -least, f64::MAX, f64::MIN, f64::INFINITY, f64::NEG_INFINITY, f64::NAN, -f64::NAN] {
+        w.case();
+        w.set(Slice::A, &bits(&[1.0, 0.0, 0.0, 1.0, 0.0, x]));
+        w.call(Call::PackedCholeskyFactor, 3, 0, 0);
+        w.set(Slice::A, &bits(&[1.0, 0.0, 1.0]));
+        packed_batch(w, 2, 3, &bits(&[0.0, 0.0, x]));
+        packed_batch(w, 2, 4, &bits(&[0.5, 0.0, x, 2.0, 3.0, 5.0, 50.0]));
+    }
+    let of_cholesky = [Call::PackedCholeskyFactor, Call::PackedCholeskyExtend, Call::PackedCholeskySolve];
+    some_of_each_code(w, cases::packed_refusals(), &of_cholesky);
+    // each count by itself at the most, above it, and not that of what is lent; then two at a time, so that the order of the checks shows
+    w.case();
+    w.set(Slice::A, &bits(&[2.0]));
+    w.set(Slice::B, &bits(&[3.0, 9.0]));
+    w.set(Slice::C, &bits(&[7.0; 3]));
+    let counts = COUNTS.iter().flat_map(|&far| [(far, 1), (2, far), (far, far)]);
+    for (n, x) in counts.chain([(0, 0), (0, 1), (1, 0), (1, 1), (1, 2), (2, 0), (2, 2), (2, 3), (3, 1), (1024, 1025), (1025, 1024), (2, 1)])
+    {
+        w.call(Call::PackedCholeskyExtend, n, x, 0);
+        w.call(Call::PackedCholeskySolve, n, x, 0);
+    }
+    for n in COUNTS.into_iter().chain([0, 2]) {
+        w.call(Call::PackedCholeskyFactor, n, 0, 0);
+    }
+    // one length at a time that is not the counts': of a factor, then of a batch of rows 2 and 3
+    for len in [0, 2, 4, 5, 7, 9] {
+        w.case();
+        w.set_or_fill(Slice::A, &bits(&filled(len)));
+        w.set_or_fill(Slice::B, &bits(&filled(3)));
+        w.call(Call::PackedCholeskyFactor, 3, 0, 0);
+        w.call(Call::PackedCholeskySolve, 3, 1, 0);
+    }
+    for (old, rows, fresh) in [
+        (0, 7, 10),
+        (2, 7, 10),
+        (4, 7, 10),
+        (10, 7, 10),
+        (3, 0, 10),
+        (3, 6, 10),
+        (3, 8, 10),
+        (3, 10, 10),
+        (3, 7, 0),
+        (3, 7, 7),
+        (3, 7, 9),
+        (3, 7, 11),
+        (3, 7, 16),
+        (2, 6, 10),
+        (2, 7, 9),
+        (3, 6, 11),
+        (3, 7, 10),
+    ] {
+        w.case();
+        for (slice, len) in [(Slice::A, old), (Slice::B, rows), (Slice::C, fresh)] {
+            w.set_or_fill(slice, &bits(&filled(len)));
+        }
+        w.call(Call::PackedCholeskyExtend, 4, 2, 0);
+    }
+    packed_families(w, family_of(Call::CholeskyFactor), 1..=3, 1500, 8_100_000);
+    packed_families(w, family_of(Call::CholeskyFactor), 4..=6, 1500, 8_110_000);
+    packed_families(w, family_of(Call::CholeskyFactor), 9..=12, 1000, 8_120_000);
+    packed_families(w, cases::solves, 1..=6, 1000, 8_130_000);
+    for n in ORDERS {
+        // the smaller shift makes the matrix indefinite at most orders
+        for shift in [n as f64, 0.5] {
+            w.case();
+            packed_by_chance(w, n, 60 + n as u64, Some(shift));
+            w.call(Call::PackedCholeskyFactor, n, 0, 0);
+            packed_solves(w, n);
+        }
+        chain_of_fresh_buffers(w, n);
+    }
+}
+
+/// Batches that are accepted, one of no rows among them; above order 33 the last of them alone, after one call. On each old factor also rows by chance,
+/// rows that are no numbers, and subnormal ones.
+fn chain_of_fresh_buffers(w: &mut Writer, n: usize) {
+    let r = &mut Rng::new(8_140_000 + n as u64);
+    let places = (0..n).flat_map(|i| (0..=i).map(move |j| (i, j)));
+    let lower: Vec<f64> = places.map(|(i, j)| r.unit() + if i == j { n as f64 } else { 0.0 }).collect();
+    let (mut earlier, cuts) = if n <= 33 { (0, vec![n / 3, n / 3, 2 * n / 3, n]) } else { (2 * n / 3, vec![n]) };
+    w.case();
+    packed_by_chance(w, earlier, 44, Some(n as f64));
+    w.call(Call::PackedCholeskyFactor, earlier, 0, 0);
+    for cut in cuts {
+        w.case();
+        packed_batch(w, earlier, cut, &bits(&lower[packed_length(earlier)..packed_length(cut)]));
+        if n <= 33 {
+            fresh_to_old(w);
+            earlier = cut;
+        }
+        let further = (earlier + 3).min(64);
+        let rows = packed_length(further) - packed_length(earlier);
+        for first_word in [None, Some(NANS), Some(0)] {
+            w.case();
+            match first_word {
+                None => w.random(Slice::B, rows, 43),
+                Some(word) => w.set_or_fill(Slice::B, &(word..word + rows as u64).collect::<Vec<_>>()),
+            }
+            rubbish(w, Slice::C, packed_length(further));
+            w.call(Call::PackedCholeskyExtend, further, earlier, 0);
+        }
+    }
+    packed_solves(w, earlier);
+}
+
+fn packed_twins(w: &mut Writer) {
+    let nan = |payload: u64| f64::from_bits(NANS + payload);
+    let first: [(usize, &[f64]); 11] = [
+        (0, &[]),
+        (1, &[1.0]),
+        (2, &[1.0, 1.0, 1.0]),
+        (2, &[1.0, 1.0, 2.0]),
+        (2, &[1.0, 2.0, 1.0]),
+        (2, &[0.0, -0.0, 0.0]),
+        (2, &[nan(0), nan(1), -nan(2)]),
+        (3, &[4.0, 2.0, 5.0, 4.0, 2.0, 4.0]),
+        (3, &[4.0, 2.0, 5.0, 2.0, 5.0, 5.0]),
+        (3, &[4.0, 4.0, 4.0, 2.0, 2.0, 5.0]),
+        (3, &[1.0, 1.0, 1.0, 1.0, 1.0, 1.0]),
+    ];
+    let call = |w: &mut Writer, n: usize| w.call(Call::PackedFirstTwin, n, 0, 0);
+    for (n, lower) in first {
+        w.case();
+        w.set(Slice::A, &bits(&pack(&matrix(n, lower), n, n)));
+        call(w, n);
+    }
+    some_of_each_code(w, cases::packed_refusals(), &[Call::PackedFirstTwin]);
+    // each length that is and is not an order's, asked for every order, and counts far above
+    for len in [0, 1, 2, 3, 4, 5, 6, 7, 9, 10, 11, 16] {
+        w.case();
+        w.set(Slice::A, &vec![ONE; len]);
+        for n in (0..=4).chain(COUNTS) {
+            call(w, n);
+        }
+    }
+    let first_of_a_seed = |seed: u64| cases::twins(seed).into_iter().filter(|case| case.call == Call::FirstTwin).take(4).collect();
+    packed_families(w, first_of_a_seed, 2..=4, 800, 8_200_000);
+    packed_families(w, first_of_a_seed, 5..=8, 800, 8_210_000);
+    packed_families(w, first_of_a_seed, 9..=12, 800, 8_220_000);
+    let pattern = |n: usize| Pattern { n, room: n, base: ONE, kept: ALL, rest: NANS, mask: 1 };
+    let twin = |w: &mut Writer, n: usize, spot: Spot| {
+        let pattern = pattern(n);
+        w.case();
+        w.set(Slice::A, &pack(&pattern.words(spot, pattern.count()), n, n));
+        call(w, n);
+    };
+    // every row again as every later one, with every entry changed
+    for n in 2..=5 {
+        for spot in pattern(n).spots().filter(|spot| spot.p < spot.q) {
+            twin(w, n, spot);
+        }
+    }
+    // the first row again as the last, and with its last entry changed; at orders up to 20 the two in the middle and the last two, too
+    for n in ORDERS {
+        let (middle, last) = (n / 2, n - 1);
+        let again = [(0, last), (middle.saturating_sub(1), middle), (last.saturating_sub(1), last)];
+        for &(p, q) in if n <= 20 { &again[..] } else { &again[..1] } {
+            twin(w, n, Spot { p, q, i: n, j: n });
+        }
+        twin(w, n, Spot { p: 0, q: last, i: last, j: last });
+        // no twins, and rows of NaNs, which are twins all
+        w.case();
+        w.random(Slice::A, packed_length(n), 70);
+        call(w, n);
+        w.set_or_fill(Slice::A, &(NANS..NANS + packed_length(n) as u64).collect::<Vec<_>>());
+        call(w, n);
+    }
 }

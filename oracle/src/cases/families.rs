@@ -6,9 +6,10 @@ use super::rng::Rng;
 use crate::call::{Call, Calls, Case, record_length};
 use crate::text::Text;
 
-/// A matrix in its room, to be factored in batches that end at the cuts.
+/// A matrix of order n in its room, to be factored in batches that end at the cuts.
 pub struct Chain {
     pub a: Vec<f64>,
+    pub n: usize,
     pub room: usize,
     pub cuts: Vec<usize>,
 }
@@ -202,7 +203,7 @@ fn cholesky(r: &mut Rng, n: usize) -> Family {
     out.push(Case { b: filled(n * n), ..reader(Call::CholeskyL) });
     out.push(reader(Call::CholeskyUnpack));
     out.push(reader(Call::CholeskyDeterminant));
-    let chains = cuts.into_iter().map(|cuts| Chain { a: a.clone(), room, cuts }).collect();
+    let chains = cuts.into_iter().map(|cuts| Chain { a: a.clone(), n, room, cuts }).collect();
     Family { cases: out, chains }
 }
 

@@ -1,7 +1,7 @@
 //! Cases that need no chance: special numbers at orders 1 and 2, and every way to be refused.
 
 use crate::back::{reader, writer};
-use crate::call::{Call, Calls, Case, Number, Slice, record_length};
+use crate::call::{Call, Calls, Case, FORMS, Number, Slice, record_length};
 use crate::cases::filled;
 use crate::text::Text;
 
@@ -41,7 +41,7 @@ pub const SPECIAL: [f64; 32] = [
 ];
 
 /// The run number of these cases.
-const RUN: u32 = 7;
+pub(super) const RUN: u32 = 7;
 
 /// The calls on one matrix of order 1 or 2 whose lower entries are given.
 fn on(lower: &[f64], side: [f64; 2]) -> Vec<Case> {
@@ -179,7 +179,7 @@ fn list_refusals(out: &mut Vec<Case>, n: usize) {
 }
 
 /// The case with one or two things changed in it.
-fn spoiled(out: &mut Vec<Case>, base: &Case) {
+pub(super) fn spoiled(out: &mut Vec<Case>, base: &Case) {
     let base = &taken(base.clone());
     let edits = edits(base);
     out.push(base.clone());
@@ -245,6 +245,12 @@ fn edits(base: &Case) -> Vec<Edit> {
         let numbers = [i32::MIN, -n - 1, -n, -1, 0, 1, n, n + 1, i32::MAX];
         out.extend((0..base.n).flat_map(|at| numbers.map(|number| Edit::ListNumber(at, number))));
         out.extend(numbers.map(Edit::Info));
+    }
+    if FORMS.iter().any(|form| form.call.packed() == Some(base.call)) {
+        let [a, b, c] = [&base.a, &base.b, &base.c].map(|s| s.len() as isize);
+        let all_of_a_square = (base.n * base.n) as isize;
+        out.extend([Edit::A(-a), Edit::B(-b), Edit::C(-c), Edit::A(all_of_a_square - a), Edit::C(all_of_a_square - c)]);
+        out.extend([Edit::RecordLength(-(base.record.len() as isize)), Edit::X(base.n + 1)]);
     }
     out
 }
@@ -326,7 +332,7 @@ fn taken(mut case: Case) -> Case {
 }
 
 /// Only what the call takes differs from empty and 0.
-fn fits(case: &Case) -> bool {
+pub(super) fn fits(case: &Case) -> bool {
     let only = taken(case.clone());
     (only.x, only.y, only.run, only.size()) == (case.x, case.y, case.run, case.size())
 }

@@ -1,34 +1,10 @@
 //! Two benches, one factor: the columns of one bench are solved, and the others stay as they were.
 
-use crate::numbers::{bits, Numbers};
+use crate::numbers::{bits, by_chance, strange, Numbers};
 use urgyelpat::{lblt, Refusal, LARGEST, LBLT};
 
 const LEFT: u32 = 1;
 const RIGHT: u32 = 2;
-
-/// Numbers that a copy or a sum would change: NaN of many bits, infinities, a zero below zero, the ends of the range.
-const STRANGE: [u64; 11] = [
-    0x7ff4_b1ad_e5ee_d001,
-    0xfff8_0000_0000_0001,
-    0x7ff0_0000_0000_0001,
-    0xffff_ffff_ffff_ffff,
-    0x7ff0_0000_0000_0000,
-    0xfff0_0000_0000_0000,
-    0x8000_0000_0000_0000,
-    0x0000_0000_0000_0001,
-    0x800f_ffff_ffff_ffff,
-    0x7fef_ffff_ffff_ffff,
-    0xffef_ffff_ffff_ffff,
-];
-
-fn strange(count: usize, from: usize) -> Vec<f64> {
-    let at = |i| f64::from_bits(STRANGE[(from + i) % STRANGE.len()]);
-    (0..count).map(at).collect()
-}
-
-fn by_chance(numbers: &mut Numbers, count: usize) -> Vec<f64> {
-    (0..count).map(|_| numbers.next()).collect()
-}
 
 /// Stretches of so many columns, of the left bench and the right bench in turn.
 fn in_turn(stretch: usize, columns: usize) -> Vec<u32> {

@@ -1,5 +1,5 @@
 use crate::numbers::{apart, bits, product, transposed, Numbers};
-use urgyelpat::{lblt, Refusal, LARGEST, LBLT};
+use urgyelpat::{lblt, packed, Refusal, LARGEST, LBLT};
 
 #[test]
 fn a_block_of_two_stands_in_the_record() {
@@ -45,6 +45,9 @@ fn a_mark_on_a_row_with_another_index_is_refused_by_every_reader() {
     assert_eq!(lblt::determinant(&a, &changed, 2, 7), Err(refused));
     assert_eq!(lblt::d(&a, &changed, &mut lent, 2, 7), Err(refused));
     assert_eq!(lblt::l_permuted(&a, &changed, &mut lent, 2, 7), Err(refused));
+    let packed = packed::pack(&a, 2).unwrap();
+    assert_eq!(packed::lblt_solve(&packed, &changed, &mut lent, 2, 2, 7), Err(refused));
+    assert_eq!(packed::lblt_determinant(&packed, &changed, 2, 7), Err(refused));
     assert_eq!(lent, [3.0, 5.0, 7.0, 9.0]);
 
     let on_its_own_row = [1, 1, 1, 1, 2, 7];

@@ -12,6 +12,11 @@ impl Numbers {
         (self.0 >> 11) as f64 / (1u64 << 52) as f64 - 1.0
     }
 
+    /// A whole number below a bound.
+    pub fn below(&mut self, bound: usize) -> usize {
+        (((self.next() + 1.0) / 2.0 * bound as f64) as usize).min(bound - 1)
+    }
+
     /// A symmetric matrix, whole, column by column.
     pub fn symmetric(&mut self, n: usize) -> Vec<f64> {
         let mut a = vec![0.0; n * n];
@@ -32,6 +37,11 @@ impl Numbers {
         }
         a
     }
+}
+
+/// So many numbers, one after the other.
+pub fn by_chance(numbers: &mut Numbers, count: usize) -> Vec<f64> {
+    (0..count).map(|_| numbers.next()).collect()
 }
 
 /// Rows `from..to` of the lower part of a matrix of order n, each up to its diagonal, end to end.
@@ -66,4 +76,31 @@ pub fn apart(a: &[f64], b: &[f64]) -> f64 {
 
 pub fn bits(a: &[f64]) -> Vec<u64> {
     a.iter().map(|x| x.to_bits()).collect()
+}
+
+/// The bits, all NaNs as one: which NaN a result holds is not promised.
+pub fn one_nan(a: &[f64]) -> Vec<u64> {
+    let one = |x: &f64| if x.is_nan() { f64::NAN.to_bits() } else { x.to_bits() };
+    a.iter().map(one).collect()
+}
+
+/// Numbers that a copy or a sum would change: NaN of many bits, infinities, a zero below zero, the ends of the range.
+const STRANGE: [u64; 11] = [
+    0x7ff4_b1ad_e5ee_d001,
+    0xfff8_0000_0000_0001,
+    0x7ff0_0000_0000_0001,
+    0xffff_ffff_ffff_ffff,
+    0x7ff0_0000_0000_0000,
+    0xfff0_0000_0000_0000,
+    0x8000_0000_0000_0000,
+    0x0000_0000_0000_0001,
+    0x800f_ffff_ffff_ffff,
+    0x7fef_ffff_ffff_ffff,
+    0xffef_ffff_ffff_ffff,
+];
+
+/// So many of them in turn, from one of them on.
+pub fn strange(count: usize, from: usize) -> Vec<f64> {
+    let at = |i| f64::from_bits(STRANGE[(from + i) % STRANGE.len()]);
+    (0..count).map(at).collect()
 }

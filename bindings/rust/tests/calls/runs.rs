@@ -1,10 +1,13 @@
 //! The run number at the end of the pivot record, and who expects it.
 
 use crate::numbers::{bits, Numbers};
-use urgyelpat::{lblt, Refusal, LARGEST, LBLT};
+use urgyelpat::{lblt, packed, Refusal, LARGEST, LBLT};
 
 /// The factor of the lower rows 0 / 1 4, with a number above the diagonal that is kept.
 const A: [f64; 4] = [4.0, 0.25, 7.0, -0.25];
+
+/// The same, packed.
+const PACKED: [f64; 3] = [4.0, 0.25, -0.25];
 
 /// Its record.
 fn of_run(run: u32) -> [u32; 6] {
@@ -17,7 +20,7 @@ const LENT: [f64; 4] = [3.0, 5.0, 7.0, 9.0];
 type Reader = fn(&[u32], &mut [f64], u32) -> Result<(), Refusal>;
 
 /// The calls that read the factor, and what each makes of [`LENT`]. The determinant is put at its front, where there is one.
-const READERS: [(Reader, [f64; 4]); 5] = [
+const READERS: [(Reader, [f64; 4]); 7] = [
     (
         |record, lent, run| lblt::solve_mut(&A, record, lent, 2, 2, run),
         [-7.0, 3.0, -19.0, 7.0],
@@ -37,6 +40,14 @@ const READERS: [(Reader, [f64; 4]); 5] = [
     (
         |record, lent, run| lblt::l_permuted(&A, record, lent, 2, run),
         [0.25, 1.0, 1.0, 0.0],
+    ),
+    (
+        |record, lent, run| packed::lblt_solve(&PACKED, record, lent, 2, 2, run),
+        [-7.0, 3.0, -19.0, 7.0],
+    ),
+    (
+        |record, lent, run| packed::lblt_determinant(&PACKED, record, 2, run).map(|value| lent[0] = value),
+        [-1.0, 5.0, 7.0, 9.0],
     ),
 ];
 
@@ -70,6 +81,10 @@ fn every_number_is_a_run() {
         lblt::factor(&mut a, &mut record, 2, run).unwrap();
         assert_eq!(a, A);
         assert_eq!(record, of_run(run));
+        let (mut a, mut of_packed) = ([0.0, 1.0, 4.0], [99; 6]);
+        packed::lblt_factor(&mut a, &mut of_packed, 2, run).unwrap();
+        assert_eq!(a, PACKED);
+        assert_eq!(of_packed, record);
         for (reader, made) in READERS {
             let mut lent = LENT;
             assert_eq!(reader(&record, &mut lent, run), Ok(()), "run {run}");

@@ -1,9 +1,5 @@
 -- `extend` meets its contract. Assumes nothing.
-use lib.ListN.{length}
-use denote.Ref.{now}
-use Rattle.answer.proofs.Done.{code-refused}
-use Rattle.matrix.proofs.Sizes.{code-fits, laid-fits}
-use Rattle.cholesky.proofs.Promises.{extended-unfit, extended-fit, extended-at}
+use Rattle.cholesky.proofs.Promises.{extended-at}
 use borrow.Author.Needs.{needs}
 use Rattle.cholesky.proofs.extend.Statement.{statement}
 use Rattle.cholesky.proofs.extend.Tie as tie
@@ -11,43 +7,14 @@ use Rattle.cholesky.proofs.extend.Tie as tie
 in-room-requires : tie.Need-in-room-requires
 in-room-requires c κs = search needs
 
-check-requires : tie.Need-check-requires
-check-requires c κs = search needs
-
-code-requires : tie.Need-code-requires
-code-requires c κs = search needs
-
-returns : tie.Need-returns
-returns c = extended-at (c .before .before .before .in-room .ensures) (extended-unfit (c .before .before .check .ensures) (code-refused (c .before .before .check .result) (c .before .code .ensures) (c .if1 .taken)))
-
-run-requires : tie.Need-run-requires
-run-requires c κs =
-    let given = c .before .before .before .before .before .before in
-    let in-room = c .before .before .before .before .in-room in
-    let f = code-fits (in-room .result) (given .args .earlier) (length (now (given .args .a))) (c .before .before .before .check .ensures) (c .before .before .code .ensures) (c .before .if1 .left) in
-    (laid-fits f, f .rising)
+extend-on-requires : tie.Need-extend-on-requires
+extend-on-requires c κs = search needs
 
 same-length : tie.Need-same-length
 same-length c = search needs
 
-returns-2 : tie.Need-returns-2
-returns-2 c =
-    let given = c .before .before .before .before .before .before .before .before .before in
-    let in-room = c .before .before .before .before .before .before .before .in-room in
-    let check = c .before .before .before .before .before .before .check in
-    let code = c .before .before .before .before .before .code in
-    let if1 = c .before .before .before .before .if1 in
-    let f = code-fits (in-room .result) (given .args .earlier) (length (now (given .args .a))) (check .ensures) (code .ensures) (if1 .left) in
-    extended-at (in-room .ensures) (extended-fit f (c .before .before .run .ensures))
+returns : tie.Need-returns
+returns c = extended-at (c .before .before .before .before .in-room .ensures) (c .before .before .extend-on .ensures)
 
 pub extend-spec : {M : Type 1} → statement M
-extend-spec =
-    tie.close
-    (tie.spec
-    in-room-requires
-    check-requires
-    code-requires
-    returns
-    run-requires
-    same-length
-    returns-2)
+extend-spec = tie.close (tie.spec in-room-requires extend-on-requires same-length returns)

@@ -1,7 +1,9 @@
 -- `unpack` meets its contract. Assumes nothing.
+use mathlib.Core.Path.{ap}
 use lib.ListN.{length}
 use denote.Ref.{now}
 use Rattle.answer.proofs.Done.{code-refused}
+use Rattle.matrix.specs.declared.Layout.{Layout}
 use Rattle.matrix.proofs.Sizes.{code-fits, laid-fits}
 use Rattle.cholesky.proofs.ReaderPromises.{unpacked-unfit, unpacked-fit, unpacked-at}
 use borrow.Author.Needs.{needs}
@@ -23,8 +25,10 @@ returns c = unpacked-at (c .before .before .before .in-room .ensures) (unpacked-
 clear-above-requires : tie.Need-clear-above-requires
 clear-above-requires c κs =
     let given = c .before .before .before .before .before .before in
-    let in-room = c .before .before .before .before .in-room in
-    laid-fits (code-fits (in-room .result) 0 (length (now (given .args .a))) (c .before .before .before .check .ensures) (c .before .before .code .ensures) (c .before .if1 .left))
+    let in-room = c .before .before .before .before .in-room in (
+      laid-fits (code-fits (in-room .result) 0 (length (now (given .args .a))) (c .before .before .before .check .ensures) (c .before .before .code .ensures) (c .before .if1 .left)),
+      ap (λ (y : Layout). y .packed) (in-room .ensures),
+    )
 
 same-length : tie.Need-same-length
 same-length c = search needs

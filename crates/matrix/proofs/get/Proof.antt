@@ -10,10 +10,10 @@ use Rattle.matrix.proofs.Places.{lower-at, lower-within}
 use Rattle.matrix.proofs.get.Statement.{statement}
 use Rattle.matrix.proofs.get.Tie as tie
 
-start-requires : tie.Need-start-requires
-start-requires c κs = search needs
+offset-requires : tie.Need-offset-requires
+offset-requires c κs = search needs
 
-within : (c : tie.After-start) → c .before .before .args .i + startOf (c .before .before .args .y) (c .before .before .args .j) < length (now (c .before .before .args .a))
+within : (c : tie.After-offset) → c .before .before .args .i + startOf (c .before .before .args .y) (c .before .before .args .j) < length (now (c .before .before .args .a))
 within c =
     lower-within (c .before .before .args .y) (now (c .before .before .args .a)) (c .before .before .args .i) (c .before .before .args .j) (c .before .before .pre .0) (c .before .before .pre .1 .0) (c .before .before .pre .1 .1)
 
@@ -27,8 +27,8 @@ shared-slice-read-result : tie.Need-shared-slice-read-result
 shared-slice-read-result c = omega (arith, within (c .before))
 
 returns : tie.Need-returns
-returns c = rw (c .before .start .ensures) (sym (lower-at (c .before .before .before .args .y) (now (c .before .before .before .args .a)) (c .before .before .before .args .i) (c .before .before .before .args .j) (c .before .before .before .pre .1 .0) (c .before .before .before .pre .1 .1)))
+returns c = rw (c .before .offset .ensures) (sym (lower-at (c .before .before .before .args .y) (now (c .before .before .before .args .a)) (c .before .before .before .args .i) (c .before .before .before .args .j) (c .before .before .before .pre .1 .0) (c .before .before .before .pre .1 .1)))
 
 pub get-spec : {M : Type 1} → statement M
 get-spec =
-    tie.close (tie.spec start-requires add-result mul-result shared-slice-read-result returns)
+    tie.close (tie.spec offset-requires add-result mul-result shared-slice-read-result returns)

@@ -10,10 +10,10 @@ use Rattle.matrix.proofs.Places.{in-lower, lower-within}
 use Rattle.matrix.proofs.put.Statement.{statement}
 use Rattle.matrix.proofs.put.Tie as tie
 
-start-requires : tie.Need-start-requires
-start-requires c κs = search needs
+offset-requires : tie.Need-offset-requires
+offset-requires c κs = search needs
 
-within : (c : tie.After-start) → c .before .before .args .i + startOf (c .before .before .args .y) (c .before .before .args .j) < length (now (c .before .before .args .a))
+within : (c : tie.After-offset) → c .before .before .args .i + startOf (c .before .before .args .y) (c .before .before .args .j) < length (now (c .before .before .args .a))
 within c =
     lower-within (c .before .before .args .y) (now (c .before .before .args .a)) (c .before .before .args .i) (c .before .before .args .j) (c .before .before .pre .0) (c .before .before .pre .1 .0) (c .before .before .pre .1 .1)
 
@@ -32,8 +32,8 @@ same-length c = simp length-set
 returns : tie.Need-returns
 unfolding lower placeIn
 returns c =
-    rw (c .start .ensures)
+    rw (c .offset .ensures)
     (holds-put (lower (c .before .before .args .y)) (now (c .before .before .args .a)) (c .before .before .pre .0 .sound) (c .before .before .args .i) (c .before .before .args .j) (in-lower (c .before .before .args .y) (c .before .before .args .i) (c .before .before .args .j) (c .before .before .pre .1 .0) (c .before .before .pre .1 .1)) (c .before .before .args .v))
 
 pub put-spec : {M : Type 1} → statement M
-put-spec = tie.close (tie.spec start-requires add-a mul-a slice-write-a same-length returns)
+put-spec = tie.close (tie.spec offset-requires add-a mul-a slice-write-a same-length returns)

@@ -19,14 +19,14 @@ loop-holds c = unpacking-none
 start-requires : tie.Need-start-requires Inv-loop μ-loop
 start-requires c κs =
     let given = c .before .before .before .before in
-    (given .pre .roomy, omega arith)
+    (given .pre .0 .roomy, omega arith)
 
 clear-requires : tie.Need-clear-requires Inv-loop μ-loop
 clear-requires c κs =
     let start = c .before .before .before .before .before in (
       omega arith,
       omega
-          (arith, c .before .before .before .loop .inv .long, column-inside (start .pre) (omega arith) (c .start .ensures)),
+          (arith, c .before .before .before .loop .inv .long, column-inside (start .pre .0) (omega arith) (c .start .ensures)),
     )
 
 add-j : tie.Need-add-j Inv-loop μ-loop
@@ -41,14 +41,14 @@ loop-again c =
     let loop = c .before .before .before .before .before .before .loop in
     let loop-test = c .before .before .before .before .before .loop-test in
     unpacking-more (c .before .before .before .start .result) (loop .inv)
-    (given .pre .roomy) (loop-test .taken)
+    (given .pre .1) (given .pre .0 .roomy) (loop-test .taken)
     (c .before .before .before .start .ensures) (c .before .before .clear .ensures)
 
 same-length : tie.Need-same-length Inv-loop μ-loop
 same-length c = c .before .loop .inv .long
 
 returns : tie.Need-returns Inv-loop μ-loop
-returns c = unpacking-all (c .before .loop .inv) (c .loop-test .left) (c .before .before .before .pre)
+returns c = unpacking-all (c .before .loop .inv) (c .loop-test .left) (c .before .before .before .pre .1) (c .before .before .before .pre .0)
 
 pub clear-above-spec : {M : Type 1} → statement M
 clear-above-spec =
