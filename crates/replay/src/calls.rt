@@ -90,14 +90,7 @@ pub fn call(
             part(b, s.b),
             part_words(r, s.r),
         ),
-        21..=24 => packed_calls::others(
-            which,
-            n,
-            x,
-            part(a, s.a),
-            part(b, s.b),
-            part(c, s.c),
-        ),
+        21..=24 => packed_calls::others(which, n, x, part(a, s.a), part(b, s.b), part(c, s.c)),
         _ => no_call(),
     }
 }

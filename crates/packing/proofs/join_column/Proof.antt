@@ -30,7 +30,7 @@ packed-requires-2 : tie.Need-packed-requires-2
 packed-requires-2 c κs = search needs
 
 start-requires-2 : tie.Need-start-requires-2
-start-requires-2 c κs = rw (c .packed2 .ensures) (packed-roomy (c .before .before .before .before .before .before .before .before .args .m) (omega (arith, c .before .before .before .before .before .before .before .before .pre .0 .further .small, c .before .before .before .before .before .before .before .before .pre .0 .further .rising)), omega (arith, c .before .before .if1 .left))
+start-requires-2 c κs = rw (c .packed2 .ensures) (packed-roomy _ (omega (arith, c .before .before .before .before .before .before .before .before .pre .0 .further .small, c .before .before .before .before .before .before .before .before .pre .0 .further .rising)), omega (arith, c .before .before .if1 .left))
 
 copy-requires : tie.Need-copy-requires
 copy-requires c κs = (omega (arith, c .before .before .before .if1 .left), (omega (arith, packed-column (c .before .before .before .before .before .before .before .before .before .args .m) (c .before .before .before .before .before .before .before .before .before .args .j) (omega (arith, c .before .before .before .if1 .left)), c .start2 .ensures ∙ ap (λ (y : Layout). startOf y (c .before .before .before .before .before .before .before .before .before .args .j)) (c .before .packed2 .ensures), c .before .before .before .before .before .before .before .before .before .pre .0 .first), omega (arith, column-room (c .before .before .before .before .before .before .before .before .before .pre .0 .further) (c .before .before .before .before .before .before .before .before .before .pre .1) (c .before .before .before .before .start .ensures ∙ ap (λ (y : Layout). startOf y (c .before .before .before .before .before .before .before .before .before .args .j)) (c .before .before .before .before .before .packed .ensures)), c .before .before .before .before .before .before .before .before .before .pre .0 .further .rising)))
