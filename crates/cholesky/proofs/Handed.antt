@@ -10,12 +10,11 @@ use Rattle.matrix.specs.Matrix.{Matrix}
 use Rattle.matrix.specs.Grid.{load, Free, Kept}
 use Rattle.matrix.specs.Layouts.{inRoom, startOf, placeIn, sizeOf, lower}
 use Rattle.matrix.specs.Sizes.{Fits}
-use Rattle.matrix.proofs.Places.{digits-row, in-lower, lower-at, lower-across}
+use Rattle.matrix.proofs.Places.{digits-row, in-lower, lower-low, lower-under, lower-at, lower-across}
 use Rattle.cholesky.specs.Promise.{Extended}
 use Rattle.cholesky.specs.Batches.{Rising, Batches, none, refused, more}
 use Rattle.cholesky.specs.Arriving.{Arrived, Arriving}
 use Rattle.cholesky.specs.Arriving as arriving
-use Rattle.cholesky.proofs.Parts.{entry-low, entry-left}
 use Rattle.cholesky.proofs.Promises.{extended-leaves}
 use Rattle.cholesky.proofs.Arriving.{rising-upto}
 
@@ -24,14 +23,14 @@ use Rattle.cholesky.proofs.Arriving.{rising-upto}
 free-before : (room m n p : ℕ) → m ≤ n → Free (lower (inRoom n room)) p → Free (lower (inRoom m room)) p
 unfolding startOf placeIn lower
 free-before room m n p le free i j t e =
-    let row : i < m = entry-low (inRoom m room) i j t in
-    free i j (in-lower (inRoom n room) i j (entry-left (inRoom m room) i j t) (omega arith)) e
+    let row : i < m = lower-low (inRoom m room) i j t in
+    free i j (in-lower (inRoom n room) i j (lower-under (inRoom m room) i j t) (omega arith)) e
 
 -- a row from m on is no entry of the first m rows
 free-after : (room m i j : ℕ) → m ≤ room → i < room → m ≤ i → Free (lower (inRoom m room)) (i + j * room)
 unfolding startOf placeIn lower
 free-after room m i j small under from r c t e =
-    let row : r < m = entry-low (inRoom m room) r c t in
+    let row : r < m = lower-low (inRoom m room) r c t in
     let same : i ≡ r = digits-row room i j r c under (omega arith) e in
     omega arith
 

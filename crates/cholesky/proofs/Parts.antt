@@ -5,19 +5,18 @@ use mathlib.Core.Bool.{Bool, true, false, cond, _&&_}
 use mathlib.Core.List.{List}
 use Prim.Native.Nat.{ℕ, _≤_, _<_}
 use native.Mathlib.Omega.{arith}
-use lib.Dec.{T, eqb, leb, ltb, leb→le, ltb→lt}
+use lib.Dec.{T, eqb, leb}
 use lib.Ieee.{Float, neg}
-use lib.Ieee.Fits.{and-l, and-r}
 use borrow.Author.Tests.{le-leb, lt-leb, leb-true, leb-false, eq-eqb, eqb-true, eqb-false, ne-eqb}
 use Rattle.matrix.specs.declared.Layout.{Layout}
 use Rattle.matrix.specs.Matrix.{Matrix, entry}
 use Rattle.matrix.specs.Loop.{for}
 use Rattle.matrix.specs.Grid.{Sound, load, mask}
-use Rattle.matrix.specs.Layouts.{startOf, inLower, lower, Laid}
+use Rattle.matrix.specs.Layouts.{startOf, lower, Laid}
 use Rattle.matrix.specs.Rounded.{_⊕_, _⊗_}
 use Rattle.matrix.proofs.Grids.{load-in, load-is, mask-in, same-cells}
 use Rattle.matrix.proofs.Loops.{for-same}
-use Rattle.matrix.proofs.Places.{in-lower, lower-place}
+use Rattle.matrix.proofs.Places.{in-lower, lower-place, lower-low, lower-under}
 use Rattle.matrix.proofs.Sizes.{laid-after}
 use Rattle.cholesky.specs.Column.{less, updated, part}
 use Rattle.strips.specs.inner.Strip.{Strip}
@@ -87,16 +86,8 @@ entry-agree {M = M} {N = N} i j {v} {w} same e = record { at = λ r c le lt. ap�
 -- ---- agreement with what a slice holds
 
 module _ (y : Layout) where
-  pub entry-low : (i j : ℕ) → T (lower y .inside i j) → i < y .order
-  unfolding lower inLower
-  entry-low i j t = ltb→lt i (y .order) (and-r (leb j i) (ltb i (y .order)) t)
-
-  pub entry-left : (i j : ℕ) → T (lower y .inside i j) → j ≤ i
-  unfolding lower inLower
-  entry-left i j t = leb→le j i (and-l (leb j i) (ltb i (y .order)) t)
-
   pub agree-mask : {M N : Matrix} → Agree (y .order) M N → mask (lower y) M ≡ mask (lower y) N
-  agree-mask {M} {N} same = same-cells (lower y) M N (λ i j t. same .at i j (entry-left i j t) (entry-low i j t))
+  agree-mask {M} {N} same = same-cells (lower y) M N (λ i j t. same .at i j (lower-under y i j t) (lower-low y i j t))
 
   pub mask-agree : (M : Matrix) → Agree (y .order) (mask (lower y) M) M
   mask-agree M = record { at = λ i j le lt. mask-in (lower y) M i j (in-lower y i j le lt) }
@@ -140,6 +131,6 @@ strip-leaves y r j v l₀ l good from strip = record {
 }
   where
     kept : (i c : ℕ) → T (lower y .inside i c) → (r ≤ i → i < y .order → c ≡ j → ⊥) → Where r j i c → part r j v (load (lower y) l₀) i c ≡ load (lower y) l₀ i c
-    kept i c t off (within a e) = absurd (off a (entry-low y i c t) e)
+    kept i c t off (within a e) = absurd (off a (lower-low y i c t) e)
     kept i c t off (above h) = part-above r j v (load (lower y) l₀) i c h
     kept i c t off (beside h) = part-beside r j v (load (lower y) l₀) i c h

@@ -10,15 +10,14 @@ use lib.Ieee.{Float}
 use borrow.Author.Tests.{eq-eqb, ne-eqb, eqb-true}
 use Rattle.answer.specs.declared.Answer.{Answer}
 use Rattle.answer.specs.declared.Answer.the-variants.{Done, SliceLength}
-use Rattle.answer.specs.Number.{codeOf, isDone}
+use Rattle.answer.specs.Number.{isDone}
 use Rattle.answer.specs.Refusals.{Test, _otherwise_, tested}
-use Rattle.answer.proofs.Done.{code-done}
 use Rattle.answer.proofs.Tested.{tested-all, tested-at, tested-join, tested-fixed, all-hold, here, leaving-done, leaving-refused, leaving-alike}
-use Rattle.matrix.specs.Layouts.{full, Roomy}
+use Rattle.matrix.specs.Layouts.{Roomy}
 use Rattle.matrix.specs.Sizes.{sizeTests, Fits}
 use Rattle.matrix.specs.declared.Layout.{Layout}
 use Rattle.matrix.proofs.Grids.{holds-unique}
-use Rattle.matrix.proofs.Sizes.{sizes-refuse, hold-fits, fits-pass, done-fits}
+use Rattle.matrix.proofs.Sizes.{sizes-refuse, hold-fits, fits-pass}
 use Rattle.pivots.specs.Words.{wordsOf, marked, stamped, Sized}
 use Rattle.lblt.specs.Factor.{factorTests, recorded, Factored}
 use Rattle.lblt.specs.inner.Engine.{Steps}

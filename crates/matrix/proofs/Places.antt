@@ -1,7 +1,7 @@
 -- Where entries stand: the project's grids are fair, and what engines on plain offsets need of places.
 -- Assumes nothing.
 use mathlib.Core.Path.{_≡_, refl, sym, _∙_, ap}
-use mathlib.Core.Bool.{Bool, true, false, cond, _&&_}
+use mathlib.Core.Bool.{Bool, true, false, cond}
 use mathlib.Core.List.{List}
 use Prim.Native.Nat.{ℕ, _+_, _-_, _*_, _/_, _%_, _≤_, _<_}
 use native.Mathlib.Nat.{mod-eq-of-lt, add-mul-mod-self-right, add-mul-div-right, div-eq-of-lt, zero-add, mul-le-mul, mul-le-mul-right}

@@ -1,12 +1,9 @@
 -- `cholesky_extend` joins the parts where its checks admit them, and works on the batch; else it writes nothing. Assumes nothing.
-use mathlib.Core.Path.{_≡_, refl, sym, _∙_, ap₂}
-use Prim.Native.Nat.{ℕ, _-_}
+use mathlib.Core.Path.{refl, sym, _∙_}
 use native.Mathlib.Omega.{arith}
 use borrow.Author.Tests.{le-leb, lt-leb, eq-eqb, ne-eqb}
 use Rattle.answer.proofs.Tested.{here, later}
-use Rattle.matrix.specs.Layouts.{entriesOf}
 use Rattle.matrix.proofs.Triangles.{entries-rise}
-use Rattle.packing.specs.Joined.{rowStart}
 use Rattle.packed.proofs.Growing.{rows-long, grown-unfit, grown-fit}
 use borrow.Author.Needs.{needs}
 use Rattle.packed.proofs.cholesky_extend.Statement.{statement}

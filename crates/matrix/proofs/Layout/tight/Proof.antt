@@ -1,8 +1,7 @@
 -- `Layout::tight` meets its contract. Assumes nothing.
-use mathlib.Core.Path.{_≡_, sym, ap}
+use mathlib.Core.Path.{sym, ap}
 use Prim.Native.Nat.{ℕ}
 use Rattle.matrix.specs.declared.Layout.{Layout}
-use borrow.Author.Needs.{needs}
 use Rattle.matrix.proofs.Layout.tight.Statement.{statement}
 use Rattle.matrix.proofs.Layout.tight.Tie as tie
 
