@@ -1,4 +1,4 @@
--- What `factor` promises, of the lower triangle of a layout y. The call's layout is `full n`.
+-- What `factor` promises, of the lower triangle of a layout y. The call's layout is `full n`, the packed call's `packed n`.
 use mathlib.Core.Path.{_≡_}
 use mathlib.Core.List.{List, [], _∷_, _++_}
 use Prim.Native.Nat.{ℕ}

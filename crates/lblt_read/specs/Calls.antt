@@ -1,5 +1,5 @@
 -- What the readers of an LBLT factor answer and leave behind, refused ones too. a is to be a slice of the layout y, `words` the record of its order,
--- with the number `run`; the calls' layout is `full n`.
+-- with the number `run`; the calls' layout is `full n`, that of the packed determinant `packed n`.
 use mathlib.Core.Bool.{cond}
 use mathlib.Core.List.{List, [], _∷_, _++_}
 use mathlib.Core.Path.{_≡_}

@@ -1,5 +1,5 @@
 -- What `solve_mut` answers and leaves behind, refused or not. a is to be a slice of the layout y, `words` the record of its order, with the number `run`;
--- the call's layout is `full n`.
+-- the call's layout is `full n`, the packed call's `packed n`.
 use mathlib.Core.Bool.{cond}
 use mathlib.Core.List.{List, [], _∷_, _++_}
 use mathlib.Core.Path.{_≡_}
