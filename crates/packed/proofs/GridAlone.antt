@@ -159,9 +159,6 @@ module _ (columns run : ℕ) (words : List ℕ) (b : List Float) where
           ap₂ (λ (x : Answer) (l : List Float). (x, l)) answered
           (s .sides ∙ ap (λ (x : Answer). cond (isDone x) (eachColumn (y .order) columns (solveColumn (y .order) (load (lower y) a) words) b) b) answered)
         where
-          sizes : List Test
-          sizes = sizeTests y 0 (length a)
-
           answered : r ≡ solveAnswer (sizesOf y 0 a) (y .order)
           answered =
               s .answer
