@@ -1,4 +1,4 @@
--- A batch from m to n, over the finished rows before m and the given ones from m on, runs as the one call on n rows does.
+-- A batch from m to n, over the finished rows before m and the given ones from m on, runs as the one call on n rows does, and their counts add up.
 -- Assumes nothing.
 use mathlib.Core.Path.{_≡_, refl, sym, _∙_, ap, ap₂, subst}
 use mathlib.Core.Bool.{Bool, true, false}
@@ -17,8 +17,10 @@ use Rattle.matrix.proofs.Loops.{for-none, for-more, for-same, for-join}
 use Rattle.matrix.proofs.Stores.{entry-row}
 use Rattle.cholesky.specs.Run.{Rule, Outcome, updates, below, continued, judgedColumn, worked, factorColumn, started, factorColumns}
 use Rattle.cholesky.proofs.Parts.{Where, within, above, beside, where?, updated-agree}
-use Rattle.cholesky.proofs.Onward.{accepted-before}
+use Rattle.cholesky.specs.Used.{usedFrom, usedBy}
+use Rattle.cholesky.proofs.Onward.{column-later, accepted-before}
 use Rattle.cholesky.proofs.Outcomes.{Like, columns-like}
+use Rattle.cholesky.proofs.Counting.{used-join, used-early, used-like, used-later}
 use Rattle.cholesky.proofs.Rows.{Off, updates-in, updates-above, below-in, below-above, columns-off, judged-passed}
 
 -- one column more
@@ -135,23 +137,30 @@ module _ (ρ : Rule) (m n : ℕ) (A M : Matrix) (le : m ≤ n) where
     along zero upto = along-none
     along (suc j) upto = subst Along (add-one j) (along-more j (omega arith) (along j (omega arith)))
 
-    pub batch-like : Like n (factorColumns ρ m n M) (factorColumns ρ 0 n A)
-    unfolding factorColumns
-    batch-like =
-        subst (λ (o : Outcome). Like n o (for 0 n (factorColumn ρ 0) (started A))) (for-join 0 m n (factorColumn ρ m) (started M) (omega arith) le)
-        (subst (λ (o : Outcome). Like n o (for 0 n (factorColumn ρ 0) (started A))) (sym (for-same m n (factorColumn ρ m) (factorColumn ρ 0) (two m) same))
-        (subst (Like n (for m n (factorColumn ρ 0) (two m))) (for-join 0 m n (factorColumn ρ 0) (started A) (omega arith) le)
-        (columns-like ρ 0 m n (omega arith) both)))
+    -- where the batch's own rows begin
+    begin : Like n (two m) (one m)
+    begin = record {
+      answer = along m (omega arith) .answer ∙ sym done;
+      cells = record { at = λ i c low under. at i c low under (ltb i m) refl };
+    }
       where
-        same : (j : ℕ) (o : Outcome) → m ≤ j → j < n → factorColumn ρ m j o ≡ factorColumn ρ 0 j o
-        same j o from upto = unfold factorColumn worked in rw (le-ltb j m from, le-ltb j 0 (omega arith))
-
         at : (i c : ℕ) → c ≤ i → i < n → (b : Bool) → ltb i m ≡ b → two m .cells i c ≡ one m .cells i c
         at i c low under true e = along m (omega arith) .old i c (ltb-true i m e) ∙ before i c low (ltb-true i m e)
         at i c low under false e = along m (omega arith) .new i c low (ltb-false i m e) under
 
-        both : Like n (two m) (one m)
-        both = record {
-          answer = along m (omega arith) .answer ∙ sym done;
-          cells = record { at = λ i c low under. at i c low under (ltb i m) refl };
-        }
+    pub batch-like : Like n (factorColumns ρ m n M) (factorColumns ρ 0 n A)
+    unfolding factorColumns
+    batch-like =
+        subst (λ (o : Outcome). Like n o (for 0 n (factorColumn ρ 0) (started A))) (for-join 0 m n (factorColumn ρ m) (started M) (omega arith) le)
+        (subst (λ (o : Outcome). Like n o (for 0 n (factorColumn ρ 0) (started A))) (sym (for-same m n (factorColumn ρ m) (factorColumn ρ 0) (two m) (λ j o from upto. column-later ρ m j o from)))
+        (subst (Like n (for m n (factorColumn ρ 0) (two m))) (for-join 0 m n (factorColumn ρ 0) (started A) (omega arith) le)
+        (columns-like ρ 0 m n (omega arith) begin)))
+
+    -- the batch's count, after that of the rows before
+    pub batch-used : usedBy ρ 0 n A ≡ usedBy ρ 0 m A + usedBy ρ m n M
+    batch-used =
+        let whole = used-join ρ 0 0 m n (started A) (omega arith) le in
+        let own = used-join ρ m 0 m n (started M) (omega arith) le in
+        let none = used-early ρ m 0 m (started M) (omega arith) in
+        let same : usedFrom ρ m m n (two m) ≡ usedFrom ρ 0 m n (one m) = used-later ρ m m n (two m) (omega arith) ∙ used-like ρ 0 m n (omega arith) begin in
+        omega arith

@@ -2,11 +2,14 @@ pub mod Parts
 pub mod Onward
 pub mod Outcomes
 pub mod Diagonal
+pub mod Floor
 pub mod Judging
 pub mod Columns
+pub mod Counting
 pub mod Running
 pub mod Rows
 pub mod Promises
+pub mod FlooredPromises
 pub mod Batch
 pub mod Refusals
 pub mod Nan

@@ -1,5 +1,7 @@
 -- Columns after columns. Assumes nothing.
+--     column-later     from m on, a column does not see where its batch begins
 --     columns-on       the first c columns, and then those up to n
+--     column-stays, refusal-stays  nothing is done after a refusal
 --     refusal-answers  a refusal in the first c columns is what all n give
 --     accepted-before  the columns before accepted ones are accepted
 --     judges           column j from m on is judged, if all before it passed
@@ -16,12 +18,17 @@ use Rattle.matrix.proofs.Loops.{for-more, for-join, for-keeps}
 use Rattle.cholesky.specs.Run.{Rule, Outcome, updates, judgedColumn, worked, factorColumn, started, factorColumns}
 
 module _ (ρ : Rule) (m : ℕ) where
-  -- nothing is done after a refusal
-  refusal-stays : (lo hi : ℕ) (o : Outcome) → isDone (o .answer) ≡ false → for lo hi (factorColumn ρ m) o ≡ o
+  pub column-later : (j : ℕ) (o : Outcome) → m ≤ j → factorColumn ρ m j o ≡ factorColumn ρ 0 j o
+  unfolding factorColumn worked
+  column-later j o from = rw (le-ltb j m from, le-ltb j 0 (omega arith))
+
+  pub column-stays : (j : ℕ) (o : Outcome) → isDone (o .answer) ≡ false → factorColumn ρ m j o ≡ o
   unfolding factorColumn
+  column-stays j o refused = rw refused
+
+  pub refusal-stays : (lo hi : ℕ) (o : Outcome) → isDone (o .answer) ≡ false → for lo hi (factorColumn ρ m) o ≡ o
   refusal-stays lo hi o refused =
-      for-keeps (λ (p : Outcome). p ≡ o) lo hi (factorColumn ρ m) o refl
-      (λ j p from upto e. ap (λ (q : Outcome). cond (isDone (q .answer)) (worked ρ m j (q .cells)) q) e ∙ rw refused)
+      for-keeps (λ (p : Outcome). p ≡ o) lo hi (factorColumn ρ m) o refl (λ j p from upto e. ap (factorColumn ρ m j) e ∙ column-stays j o refused)
 
   module _ (A : Matrix) where
     pub columns-on : (c n : ℕ) → c ≤ n → for c n (factorColumn ρ m) (factorColumns ρ m c A) ≡ factorColumns ρ m n A

@@ -12,7 +12,9 @@ use Rattle.matrix.specs.Matrix.{Matrix}
 use Rattle.matrix.specs.Grid.{load}
 use Rattle.matrix.specs.Layouts.{inRoom, lower}
 use Rattle.matrix.specs.Sizes.{Fits}
-use Rattle.cholesky.specs.Promise.{Extended}
+use Rattle.cholesky.specs.Run.{Rule}
+use Rattle.cholesky.specs.Crate.{crateRule}
+use Rattle.cholesky.specs.Promise.{ExtendedBy}
 use Rattle.cholesky.specs.Batches.{RefusedIn}
 
 -- The buffer l before the call on rows m to k. Rows that have not come, and all else, may hold anything.
@@ -25,12 +27,16 @@ pub record Arrived (given : Matrix) (room m k : ℕ) (M : Matrix) (l : List Floa
 
 -- Calls of `extend` for one cut after another, with m rows factored at first, which hold M. No call follows a refusal.
 -- They stop with c rows handed in, which hold N, and the last answer r.
-pub data Arriving (given : Matrix) : ℕ → Matrix → List ℕ → ℕ → Matrix → Answer → Type 0 where
-  none : {m : ℕ} {M : Matrix} → Arriving given m M [] m M Done
+pub data ArrivingBy (ρ : Rule) (given : Matrix) : ℕ → Matrix → List ℕ → ℕ → Matrix → Answer → Type 0 where
+  none : {m : ℕ} {M : Matrix} → ArrivingBy ρ given m M [] m M Done
   refused : {room m c : ℕ} {M : Matrix} {l l' : List Float} {r : Answer} {cuts : List ℕ}
-      → Arrived given room m c M l → Extended (inRoom c room) m l l' r → isDone r ≡ false → Arriving given m M (c ∷ cuts) c (load (lower (inRoom c room)) l') r
+      → Arrived given room m c M l → ExtendedBy ρ (inRoom c room) m l l' r → isDone r ≡ false → ArrivingBy ρ given m M (c ∷ cuts) c (load (lower (inRoom c room)) l') r
   more : {room m k c : ℕ} {M N : Matrix} {l l' : List Float} {r r' : Answer} {cuts : List ℕ}
-      → Arrived given room m k M l → Extended (inRoom k room) m l l' r → isDone r ≡ true → Arriving given k (load (lower (inRoom k room)) l') cuts c N r' → Arriving given m M (k ∷ cuts) c N r'
+      → Arrived given room m k M l → ExtendedBy ρ (inRoom k room) m l l' r → isDone r ≡ true → ArrivingBy ρ given k (load (lower (inRoom k room)) l') cuts c N r' → ArrivingBy ρ given m M (k ∷ cuts) c N r'
+
+-- by the crate's own rule
+abbrev pub Arriving : Matrix → ℕ → Matrix → List ℕ → ℕ → Matrix → Answer → Type 0
+Arriving = ArrivingBy crateRule
 
 -- Batches over cuts that end at e stopped with c rows handed in, which hold N, and the answer r; the one call on n rows leaves `whole` and answers w.
 pub record ArrivedAsOne (n e c : ℕ) (N : Matrix) (r : Answer) (whole : Matrix) (w : Answer) : Type 0 where

@@ -9,7 +9,9 @@ use Rattle.answer.specs.declared.Answer.the-variants.{Done}
 use Rattle.answer.specs.Number.{placeOf, isDone}
 use Rattle.matrix.specs.Grid.{load, Kept}
 use Rattle.matrix.specs.Layouts.{inRoom, lower}
-use Rattle.cholesky.specs.Promise.{Extended}
+use Rattle.cholesky.specs.Run.{Rule}
+use Rattle.cholesky.specs.Crate.{crateRule}
+use Rattle.cholesky.specs.Promise.{ExtendedBy}
 
 -- the cuts rise from m and end at e: m ≤ c₁ ≤ c₂ ≤ … ≤ e, the last one e; with no cut, m is e
 abbrev pub Rising : ℕ → List ℕ → ℕ → Type 0
@@ -18,11 +20,15 @@ Rising m (c ∷ cuts) e = (m ≤ c) × Rising c cuts e
 
 -- Calls of `extend` on one buffer, l at first with m rows factored, for one cut after another. No call follows a refusal.
 -- They stop with c rows handed in, the buffer l' and the last answer r, `Done` where there is no cut. A batch may have no rows.
-pub data Batches (room : ℕ) : ℕ → List Float → List ℕ → ℕ → List Float → Answer → Type 0 where
-  none : {m : ℕ} {l : List Float} → Batches room m l [] m l Done
-  refused : {m c : ℕ} {l l' : List Float} {r : Answer} {cuts : List ℕ} → Extended (inRoom c room) m l l' r → isDone r ≡ false → Batches room m l (c ∷ cuts) c l' r
+pub data BatchesBy (ρ : Rule) (room : ℕ) : ℕ → List Float → List ℕ → ℕ → List Float → Answer → Type 0 where
+  none : {m : ℕ} {l : List Float} → BatchesBy ρ room m l [] m l Done
+  refused : {m c : ℕ} {l l' : List Float} {r : Answer} {cuts : List ℕ} → ExtendedBy ρ (inRoom c room) m l l' r → isDone r ≡ false → BatchesBy ρ room m l (c ∷ cuts) c l' r
   more : {m k c : ℕ} {l l' l″ : List Float} {r r' : Answer} {cuts : List ℕ}
-      → Extended (inRoom k room) m l l' r → isDone r ≡ true → Batches room k l' cuts c l″ r' → Batches room m l (k ∷ cuts) c l″ r'
+      → ExtendedBy ρ (inRoom k room) m l l' r → isDone r ≡ true → BatchesBy ρ room k l' cuts c l″ r' → BatchesBy ρ room m l (k ∷ cuts) c l″ r'
+
+-- by the crate's own rule
+abbrev pub Batches : ℕ → ℕ → List Float → List ℕ → ℕ → List Float → Answer → Type 0
+Batches = BatchesBy crateRule
 
 -- refused, if at all, at one of the rows lo to hi
 abbrev pub RefusedIn : ℕ → ℕ → Answer → Type 0

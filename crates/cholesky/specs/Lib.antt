@@ -2,8 +2,11 @@ pub mod Column
 pub mod Run
 pub mod Crate
 pub mod Diagonal
+pub mod Floor
+pub mod Used
 pub mod Leaves
 pub mod Promise
+pub mod Floored
 pub mod Batches
 pub mod Arriving
 pub mod Nan

@@ -1,27 +1,32 @@
 // The columns of a batch, one after the other.
+ghost use mathlib.Core.Bool.{cond};
 ghost use mathlib.Core.Path.{_≡_};
 ghost use Prim.Native.Nat.{_+_, _≤_, _<_};
 ghost use Rattle.matrix.specs.Grid.{load};
 ghost use Rattle.matrix.specs.Layouts.{lower, Laid};
 ghost use Rattle.cholesky.specs.Column.{part};
-ghost use Rattle.cholesky.specs.Run.{updates, below, judgedColumn, factorColumns};
-ghost use Rattle.cholesky.specs.Crate.{answerTo, crateRule};
+ghost use Rattle.cholesky.specs.Run.{updates, below};
+ghost use Rattle.cholesky.specs.Crate.{answerTo};
+ghost use Rattle.cholesky.specs.Floor.{passes, standing, floorRule};
 ghost use Rattle.cholesky.specs.Leaves.{Leaves};
-ghost use Rattle.cholesky.specs.inner.Engine.{Reach, Sourced, lessColumns, TakenOff, Judgement, Ends, Advanced};
+ghost use Rattle.cholesky.specs.inner.Engine.{Reach, Sourced, lessColumns, TakenOff, Judgement, Finished, Advanced, RanThrough};
+use crate::Floored;
 use answer::Answer;
 use matrix::Layout;
 use strips::Source;
 
-// What is answered to a diagonal, `Done` if it passes, and then its root.
+// What is answered to a diagonal, `Done` if it passes, and then its root; 1 if the floor stood in for it, else 0.
 pub struct Verdict {
     pub answer: Answer,
     pub root: f64,
+    pub used: usize,
 }
 
-// What came of some columns, and the column after them.
+// What came of some columns, the column after them, and how many of them used the floor.
 pub struct Step {
     pub answer: Answer,
     pub next: usize,
+    pub used: usize,
 }
 
 // What is answered to the diagonal d of column j.
@@ -42,21 +47,47 @@ fn answer_to(d: f64, j: usize) -> Answer
     Answer::CholeskyNan(column)
 }
 
-// The diagonal d of column j is judged.
-fn judge(d: f64, j: usize) -> Verdict
-    requires { ⌜ j ≤ 1024 ⌝ }
-    ensures { λ r. ⌜ Judgement crateRule d j r ⌝ }
+// The diagonal d, or the floor where d fails its test and the floor does not.
+fn standing_in(d: f64, floor: f64) -> f64
+    ensures { λ r. ⌜ r ≡ standing floor d ⌝ }
 {
-    let answer = answer_to(d, j);
+    if 0.0 < d {
+        return d;
+    }
+    if 0.0 < floor {
+        return floor;
+    }
+    d
+}
+
+// 1 for a diagonal that fails its test.
+fn failing(d: f64) -> usize
+    ensures { λ r. ⌜ r ≡ cond (passes d) 0 1 ⌝ }
+{
+    if 0.0 < d {
+        return 0;
+    }
+    1
+}
+
+// The diagonal d of column j is judged.
+fn judge(d: f64, j: usize, floor: f64) -> Verdict
+    requires { ⌜ j ≤ 1024 ⌝ }
+    ensures { λ r. ⌜ Judgement (floorRule floor) d j r ⌝ }
+{
+    let judged = standing_in(d, floor);
+    let answer = answer_to(judged, j);
     if answer.code() == 0 {
         return Verdict {
             answer: answer,
-            root: leaf::root(d),
+            root: leaf::root(judged),
+            used: failing(d),
         };
     }
     Verdict {
         answer: answer,
         root: d,
+        used: 0,
     }
 }
 
@@ -138,27 +169,35 @@ fn divide(y: Layout, a: &mut [f64], r: usize, j: usize)
 }
 
 // The updated column j gets its root, and the rows below are divided by it.
-fn finish(y: Layout, a: &mut [f64], j: usize) -> Answer
+fn finish(y: Layout, a: &mut [f64], j: usize, floor: f64) -> Step
     requires { ⌜ Laid y (now a) ⌝ }
     requires { ⌜ j < y .order ⌝ }
-    ensures { λ r. ⌜ Ends y (now (a .entry)) (now (a .exit)) r (judgedColumn crateRule j (load (lower y) (now (a .entry)))) ⌝ }
+    ensures { λ s. ⌜ Finished (floorRule floor) y j (now (a .entry)) (now (a .exit)) s ⌝ }
 {
-    let verdict = judge(matrix::get(y, a, j, j), j);
+    let verdict = judge(matrix::get(y, a, j, j), j, floor);
     let answer = verdict.answer;
     if answer.code() == 0 {
         matrix::put(y, a, j, j, verdict.root);
         divide(y, a, j + 1, j);
-        return Answer::Done;
+        return Step {
+            answer: Answer::Done,
+            next: j + 1,
+            used: verdict.used,
+        };
     }
-    answer
+    Step {
+        answer: answer,
+        next: j + 1,
+        used: verdict.used,
+    }
 }
 
 // Column j of a batch whose rows start at m, and the next column.
-fn advance(y: Layout, a: &mut [f64], m: usize, j: usize) -> Step
+fn advance(y: Layout, a: &mut [f64], m: usize, j: usize, floor: f64) -> Step
     requires { ⌜ Laid y (now a) ⌝ }
     requires { ⌜ m ≤ y .order ⌝ }
     requires { ⌜ j < y .order ⌝ }
-    ensures { λ s. ⌜ Advanced crateRule y m j (now (a .entry)) (now (a .exit)) s ⌝ }
+    ensures { λ s. ⌜ Advanced (floorRule floor) y m j (now (a .entry)) (now (a .exit)) s ⌝ }
 {
     if j < m {
         update(y, a, m, j);
@@ -166,31 +205,36 @@ fn advance(y: Layout, a: &mut [f64], m: usize, j: usize) -> Step
         return Step {
             answer: Answer::Done,
             next: j + 1,
+            used: 0,
         };
     }
     update(y, a, j, j);
-    let answer = finish(y, a, j);
-    Step {
-        answer: answer,
-        next: j + 1,
-    }
+    finish(y, a, j, floor)
 }
 
 // The rows from m on, in all columns.
-pub fn run(y: Layout, a: &mut [f64], m: usize) -> Answer
+pub fn run(y: Layout, a: &mut [f64], m: usize, floor: f64) -> Floored
     requires { ⌜ Laid y (now a) ⌝ }
     requires { ⌜ m ≤ y .order ⌝ }
-    ensures { λ r. ⌜ Ends y (now (a .entry)) (now (a .exit)) r (factorColumns crateRule m (y .order) (load (lower y) (now (a .entry)))) ⌝ }
+    ensures { λ r. ⌜ RanThrough (floorRule floor) y m (now (a .entry)) (now (a .exit)) r ⌝ }
 {
     let n = y.order;
+    let mut used: usize = 0;
     let mut j: usize = 0;
     while j < n {
-        let step = advance(y, a, m, j);
+        let step = advance(y, a, m, j, floor);
         let answer = step.answer;
+        used = used + step.used;
         if answer.code() != 0 {
-            return answer;
+            return Floored {
+                answer: answer,
+                used: used,
+            };
         }
         j = step.next;
     }
-    Answer::Done
+    Floored {
+        answer: Answer::Done,
+        used: used,
+    }
 }

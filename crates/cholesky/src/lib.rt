@@ -1,6 +1,7 @@
 // Cholesky of a lent matrix, whole or in batches of rows: the lower triangle of the first n rows in a room of room·room numbers.
 ghost use Rattle.matrix.specs.Layouts.{inRoom};
 ghost use Rattle.cholesky.specs.Promise.{Extended};
+ghost use Rattle.cholesky.specs.Floored.{ExtendedFloored};
 ghost use Rattle.cholesky.specs.Readers.{Copied, Unpacked, CholeskyDetermined};
 ghost use Rattle.cholesky.specs.Solve.{CholeskySolved};
 
@@ -11,15 +12,32 @@ use answer::Answer;
 use answer::Valued;
 use matrix::Layout;
 
-// The first `earlier` rows of a layout are factored already: the others are.
-pub fn extend_on(y: Layout, a: &mut [f64], earlier: usize) -> Answer
-    ensures { λ r. ⌜ Extended y earlier (now (a .entry)) (now (a .exit)) r ⌝ }
+// What came of a call with a floor, and how many columns used it.
+pub struct Floored {
+    pub answer: Answer,
+    pub used: usize,
+}
+
+// The first `earlier` rows of a layout are factored already: the others are, with a floor for their diagonals.
+fn extend_within(y: Layout, a: &mut [f64], earlier: usize, floor: f64) -> Floored
+    ensures { λ r. ⌜ ExtendedFloored floor y earlier (now (a .entry)) (now (a .exit)) r ⌝ }
 {
     let fault = y.check(earlier, a.len());
     if fault.code() != 0 {
-        return fault;
+        return Floored {
+            answer: fault,
+            used: 0,
+        };
     }
-    engine::run(y, a, earlier)
+    engine::run(y, a, earlier, floor)
+}
+
+// The same without a floor: 0 fails its test, and stands in for nothing.
+pub fn extend_on(y: Layout, a: &mut [f64], earlier: usize) -> Answer
+    ensures { λ r. ⌜ Extended y earlier (now (a .entry)) (now (a .exit)) r ⌝ }
+{
+    let floored = extend_within(y, a, earlier, 0.0);
+    floored.answer
 }
 
 pub fn extend(a: &mut [f64], room: usize, earlier: usize, n: usize) -> Answer
@@ -32,6 +50,18 @@ pub fn factor(a: &mut [f64], room: usize, n: usize) -> Answer
     ensures { λ r. ⌜ Extended (inRoom n room) 0 (now (a .entry)) (now (a .exit)) r ⌝ }
 {
     extend(a, room, 0, n)
+}
+
+pub fn extend_floored(a: &mut [f64], room: usize, earlier: usize, n: usize, floor: f64) -> Floored
+    ensures { λ r. ⌜ ExtendedFloored floor (inRoom n room) earlier (now (a .entry)) (now (a .exit)) r ⌝ }
+{
+    extend_within(Layout::in_room(n, room), a, earlier, floor)
+}
+
+pub fn factor_floored(a: &mut [f64], room: usize, n: usize, floor: f64) -> Floored
+    ensures { λ r. ⌜ ExtendedFloored floor (inRoom n room) 0 (now (a .entry)) (now (a .exit)) r ⌝ }
+{
+    extend_floored(a, room, 0, n, floor)
 }
 
 // Solves A x = b for each of the columns of b, n numbers a column, by the factor of A in a layout.

@@ -3,7 +3,7 @@ use denote.Ref.{now}
 use native.Mathlib.Omega.{arith}
 use Rattle.answer.proofs.Done.{code-done, code-refused}
 use Rattle.matrix.proofs.Sizes.{laid-after}
-use Rattle.cholesky.specs.Crate.{crateRule}
+use Rattle.cholesky.specs.Floor.{floorRule}
 use Rattle.cholesky.proofs.Running.{finish-done, finish-refused}
 use borrow.Author.Needs.{needs}
 use Rattle.cholesky.proofs.engine.finish.Statement.{statement}
@@ -25,37 +25,29 @@ add-divide : tie.Need-add-divide
 add-divide c = search needs
 
 divide-requires : tie.Need-divide-requires
-divide-requires c κs =
-    let given = c .before .before .before .before .before .before .before .before .before .before .before in
-    (laid-after (given .pre .0) (c .before .before .before .put .ensures), (omega arith, omega arith))
+divide-requires c κs = (laid-after (c .before .before .before .before .before .before .before .before .before .before .before .pre .0) (c .before .before .before .put .ensures), (omega arith, omega arith))
+
+add-t17 : tie.Need-add-t17
+add-t17 c = search needs
 
 same-length : tie.Need-same-length
 same-length c = search needs
 
 returns : tie.Need-returns
 returns c =
-    let get = c .before .before .before .before .before .before .before .before .before .before .before .get in
-    let judge = c .before .before .before .before .before .before .before .before .before .before .judge in
-    let code = c .before .before .before .before .before .before .before .before .before .code in
-    let if1 = c .before .before .before .before .before .before .before .before .if1 in
-    let put = c .before .before .before .before .before .before .put in
-    let start = c .before .before .before .before .before .before .before .before .before .before .before .before .before .before in
-    finish-done crateRule (start .args .y) (now (start .args .a)) (start .args .j)
-    (get .result)
-    (judge .result)
-    (get .ensures)
-    (judge .ensures)
-    (code-done (judge .result .answer) (code .ensures) (if1 .taken))
-    (put .ensures) (c .before .before .divide .ensures)
+    finish-done (floorRule (c .before .before .before .before .before .before .before .before .before .before .before .before .before .before .args .floor)) (c .before .before .before .before .before .before .before .before .before .before .before .before .before .before .args .y) (now (c .before .before .before .before .before .before .before .before .before .before .before .before .before .before .args .a)) (c .before .before .before .before .before .before .before .before .before .before .before .before .before .before .args .j) (c .before .before .before .before .before .before .before .before .before .before .before .get .result) (c .before .before .before .before .before .before .before .before .before .before .judge .result) (c .before .before .before .before .before .before .before .before .before .before .before .get .ensures) (c .before .before .before .before .before .before .before .before .before .before .judge .ensures)
+    (code-done (c .before .before .before .before .before .before .before .before .before .before .judge .result .answer) (c .before .before .before .before .before .before .before .before .before .code .ensures) (c .before .before .before .before .before .before .before .before .if1 .taken)) (c .before .before .before .before .before .before .put .ensures) (c .before .before .divide .ensures)
+
+add-t19 : tie.Need-add-t19
+add-t19 c = search needs
 
 same-length-2 : tie.Need-same-length-2
 same-length-2 c = search needs
 
 returns-2 : tie.Need-returns-2
 returns-2 c =
-    let start = c .before .before .before .before .before .before in
-    finish-refused crateRule (start .args .y) (now (start .args .a)) (start .args .j) (c .before .before .before .get .result) (c .before .before .judge .result)
-    (c .before .before .before .get .ensures) (c .before .before .judge .ensures) (start .pre .0 .sound) (code-refused (c .before .before .judge .result .answer) (c .before .code .ensures) (c .if1 .left))
+    finish-refused (floorRule (c .before .before .before .before .before .before .args .floor)) (c .before .before .before .before .before .before .args .y) (now (c .before .before .before .before .before .before .args .a)) (c .before .before .before .before .before .before .args .j) (c .before .before .before .get .result) (c .before .before .judge .result) (c .before .before .before .get .ensures) (c .before .before .judge .ensures) (c .before .before .before .before .before .before .pre .0 .sound)
+    (code-refused (c .before .before .judge .result .answer) (c .before .code .ensures) (c .if1 .left))
 
 pub finish-spec : {M : Type 1} → statement M
 finish-spec =
@@ -67,7 +59,9 @@ finish-spec =
     put-requires
     add-divide
     divide-requires
+    add-t17
     same-length
     returns
+    add-t19
     same-length-2
     returns-2)

@@ -2,26 +2,27 @@
 use Prim.Native.Nat.{_-_}
 use native.Mathlib.Omega.{arith}
 use Rattle.answer.proofs.Done.{code-done, code-refused}
-use Rattle.cholesky.specs.Crate.{crateRule}
+use Rattle.cholesky.specs.Floor.{floorRule}
 use Rattle.cholesky.proofs.Parts.{leaves-laid}
-use Rattle.cholesky.proofs.Running.{Running, running-none, running-more, running-refused, running-all}
+use Rattle.cholesky.proofs.Running.{Running, running-none, running-small, running-more, running-refused, running-all}
 use borrow.Author.Needs.{needs}
 use Rattle.cholesky.proofs.engine.run.Statement.{statement}
 use Rattle.cholesky.proofs.engine.run.Tie as tie
 
 abbrev Inv-loop : tie.InvT-loop
-Inv-loop y a₀ m n j₀ a j = Running crateRule y m a₀ j a
+Inv-loop y a₀ m floor n used₀ j₀ a used j = Running (floorRule floor) y m a₀ j a used
 
 abbrev μ-loop : tie.MeasureT-loop
-μ-loop y a₀ m n j₀ a j = y .order - j
+μ-loop y a₀ m floor n used₀ j₀ a used j = y .order - j
 
 loop-holds : tie.Need-loop-holds Inv-loop μ-loop
 loop-holds c = running-none (c .before .pre .0 .sound)
 
 advance-requires : tie.Need-advance-requires Inv-loop μ-loop
-advance-requires c κs =
-    let given = c .before .before .before .before in
-    (leaves-laid (given .pre .0) (c .before .before .loop .inv .ends .leaves), (omega arith, omega arith))
+advance-requires c κs = (leaves-laid (c .before .before .before .before .pre .0) (c .before .before .loop .inv .ends .leaves), (omega arith, omega arith))
+
+add-used : tie.Need-add-used Inv-loop μ-loop
+add-used c = let small = running-small (c .before .before .before .before .before .before .loop .inv) (c .before .before .before .advance .ensures) in omega (arith, c .before .before .before .before .before .before .before .before .pre .0 .roomy .ordered, c .before .before .before .before .before .before .before .before .pre .0 .roomy .small)
 
 code-requires : tie.Need-code-requires Inv-loop μ-loop
 code-requires c κs = search needs
@@ -30,23 +31,13 @@ same-length : tie.Need-same-length Inv-loop μ-loop
 same-length c = search needs
 
 returns : tie.Need-returns Inv-loop μ-loop
-returns c =
-    let loop = c .before .before .before .before .before .before .before .loop in
-    let advance = c .before .before .before .before .advance in
-    running-refused (loop .inv) (advance .ensures)
-    (code-refused (advance .result .answer) (c .before .code .ensures) (c .if1 .taken))
+returns c = running-refused (c .before .before .before .before .before .before .before .before .loop .inv) (c .before .before .before .before .before .advance .ensures) (code-refused (c .before .before .before .before .before .advance .result .answer) (c .before .code .ensures) (c .if1 .taken))
 
 loop-less : tie.Need-loop-less Inv-loop μ-loop
-loop-less c =
-    let advance = c .before .before .before .before .advance in
-    omega (arith, advance .ensures .onward, advance .ensures .within)
+loop-less c = omega (arith, c .before .before .before .before .before .advance .ensures .onward, c .before .before .before .before .before .advance .ensures .within)
 
 loop-again : tie.Need-loop-again Inv-loop μ-loop
-loop-again c =
-    let loop = c .before .before .before .before .before .before .before .loop in
-    let advance = c .before .before .before .before .advance in
-    running-more (loop .inv) (advance .ensures)
-    (code-done (advance .result .answer) (c .before .code .ensures) (c .if1 .left))
+loop-again c = running-more (c .before .before .before .before .before .before .before .before .loop .inv) (c .before .before .before .before .before .advance .ensures) (code-done (c .before .before .before .before .before .advance .result .answer) (c .before .code .ensures) (c .if1 .left))
 
 same-length-2 : tie.Need-same-length-2 Inv-loop μ-loop
 same-length-2 c = search needs
@@ -62,6 +53,7 @@ run-spec =
     μ-loop
     loop-holds
     advance-requires
+    add-used
     code-requires
     same-length
     returns
