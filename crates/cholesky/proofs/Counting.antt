@@ -1,7 +1,9 @@
 -- The laws of the count of columns that used the floor, by any rule. Assumes nothing.
 --     used-none, used-one, used-join   no column, one, some after others
---     used-early                       no column before m is counted
---     used-refused                     nothing is counted after a refusal
+--     used-before, used-early          no column before m is counted
+--     used-at                          a column from m on is counted exactly if it passes and its diagonal does not
+--     used-unfinished, used-refused    a refused column is not counted, nor is one after it
+--     none-counted                     no column is
 --     used-upto                        no more than the columns
 --     used-like                        the same of two matrices that agree on the first n rows
 --     used-later                       from column m on it does not matter where the batch begins
@@ -25,9 +27,9 @@ use Rattle.cholesky.specs.Floor.{passes}
 use Rattle.cholesky.specs.Used.{usedAt, usedFrom}
 use Rattle.cholesky.specs.inner.Engine.{usedOnce}
 use Rattle.cholesky.proofs.Parts.{updated-agree}
-use Rattle.cholesky.proofs.Onward.{column-later, column-stays, refusal-stays}
+use Rattle.cholesky.proofs.Onward.{column-later, column-judged, column-stays, refusal-stays}
 use Rattle.cholesky.proofs.Outcomes.{Like, column-like, columns-like}
-use Rattle.cholesky.proofs.Rows.{updates-in}
+use Rattle.cholesky.proofs.Rows.{updates-in, judged-answer}
 
 -- c, or one more
 abbrev more-if : Bool → ℕ → ℕ
@@ -66,19 +68,28 @@ module _ (ρ : Rule) (m : ℕ) where
       past true c = omega arith
       past false c = refl
 
-  -- a column that is not counted
-  none-counted : (lo hi : ℕ) (o : Outcome) → ((j : ℕ) → lo ≤ j → j < hi → usedAt ρ m j (after lo j o) ≡ false) → usedFrom ρ m lo hi o ≡ 0
+  pub none-counted : (lo hi : ℕ) (o : Outcome) → ((j : ℕ) → lo ≤ j → j < hi → usedAt ρ m j (after lo j o) ≡ false) → usedFrom ρ m lo hi o ≡ 0
   unfolding usedFrom
   none-counted lo hi o each = for-keeps (λ (c : ℕ). c ≡ 0) lo hi (turn lo o) 0 refl (λ j c from upto is. ap (λ (b : Bool). more-if b c) (each j from upto) ∙ is)
 
-  pub used-early : (lo hi : ℕ) (o : Outcome) → hi ≤ m → usedFrom ρ m lo hi o ≡ 0
+  pub used-before : (j : ℕ) (o : Outcome) → j < m → usedAt ρ m j o ≡ false
   unfolding usedAt
-  used-early lo hi o early = none-counted lo hi o (λ j from upto. rw (lt-leb m j (omega arith)))
+  used-before j o early = rw (lt-leb m j early)
 
-  -- a column that is not finished
-  unfinished : (j : ℕ) (o : Outcome) → isDone (factorColumn ρ m j o .answer) ≡ false → usedAt ρ m j o ≡ false
+  pub used-at : (j : ℕ) (o : Outcome) → m ≤ j → isDone (o .answer) ≡ true
+      → usedAt ρ m j o ≡ (isDone (ρ .verdict (updated (o .cells) j j j) j) && not (passes (updated (o .cells) j j j)))
   unfolding usedAt
-  unfinished j o failed = rw failed (nothing (leb m j))
+  used-at j o from done =
+      rw (le-leb m j from)
+      (ap (λ (r : Answer). isDone r && not (passes (updated (o .cells) j j j)))
+      (ap (λ (p : Outcome). p .answer) (column-judged ρ m j o from done) ∙ judged-answer ρ j (updates j j (o .cells)) ∙ ap (λ (d : Float). ρ .verdict d j) (updates-in j j (o .cells) j (omega arith))))
+
+  pub used-early : (lo hi : ℕ) (o : Outcome) → hi ≤ m → usedFrom ρ m lo hi o ≡ 0
+  used-early lo hi o early = none-counted lo hi o (λ j from upto. used-before j _ (omega arith))
+
+  pub used-unfinished : (j : ℕ) (o : Outcome) → isDone (factorColumn ρ m j o .answer) ≡ false → usedAt ρ m j o ≡ false
+  unfolding usedAt
+  used-unfinished j o failed = rw failed (nothing (leb m j))
     where
       nothing : (b : Bool) → (b && false) ≡ false
       nothing true = refl
@@ -87,7 +98,7 @@ module _ (ρ : Rule) (m : ℕ) where
   pub used-refused : (lo hi : ℕ) (o : Outcome) → isDone (o .answer) ≡ false → usedFrom ρ m lo hi o ≡ 0
   used-refused lo hi o refused =
       none-counted lo hi o
-      (λ j from upto. ap (usedAt ρ m j) (refusal-stays ρ m lo j o refused) ∙ unfinished j o (ap (λ (p : Outcome). isDone (p .answer)) (column-stays ρ m j o refused) ∙ refused))
+      (λ j from upto. ap (usedAt ρ m j) (refusal-stays ρ m lo j o refused) ∙ used-unfinished j o (ap (λ (p : Outcome). isDone (p .answer)) (column-stays ρ m j o refused) ∙ refused))
 
   pub used-upto : (lo hi : ℕ) (o : Outcome) → lo ≤ hi → usedFrom ρ m lo hi o + lo ≤ hi
   used-upto lo hi o from =

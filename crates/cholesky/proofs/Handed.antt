@@ -11,9 +11,10 @@ use Rattle.matrix.specs.Grid.{load, Free, Kept}
 use Rattle.matrix.specs.Layouts.{inRoom, startOf, placeIn, sizeOf, lower}
 use Rattle.matrix.specs.Sizes.{Fits}
 use Rattle.matrix.proofs.Places.{digits-row, in-lower, lower-low, lower-under, lower-at, lower-across}
-use Rattle.cholesky.specs.Promise.{Extended}
-use Rattle.cholesky.specs.Batches.{Rising, Batches, none, refused, more}
-use Rattle.cholesky.specs.Arriving.{Arrived, Arriving}
+use Rattle.cholesky.specs.Run.{Rule}
+use Rattle.cholesky.specs.Promise.{ExtendedBy}
+use Rattle.cholesky.specs.Batches.{Rising, BatchesBy, none, refused, more}
+use Rattle.cholesky.specs.Arriving.{Arrived, ArrivingBy}
 use Rattle.cholesky.specs.Arriving as arriving
 use Rattle.cholesky.proofs.Promises.{extended-leaves}
 use Rattle.cholesky.proofs.Arriving.{rising-upto}
@@ -68,15 +69,15 @@ module _ (room n : ℕ) (l₀ : List Float) (fits : Fits (inRoom n room) 0 (leng
           ∙ lower-across room k n l₀ i c le lt (omega arith);
     }
 
-    pub handed-more : {l' : List Float} {r : Answer} → Extended (inRoom k room) m l l' r → Handed room l₀ k l'
+    pub handed-more : {ρ : Rule} {l' : List Float} {r : Answer} → ExtendedBy ρ (inRoom k room) m l l' r → Handed room l₀ k l'
     unfolding lower sizeOf
     handed-more call =
         let left = extended-leaves call fits-again in
         record { long = left .holds .sound .long ∙ sym (fits .long); kept = λ p free. left .holds .kept p free ∙ h .kept p (free-before room m k p rising free) }
 
   -- from m rows on
-  pub batches-arriving : {m e c : ℕ} {cuts : List ℕ} {l l' : List Float} {r : Answer} → Handed room l₀ m l → Rising m cuts e → e ≤ n → Batches room m l cuts c l' r
-      → Arriving given m (load (lower (inRoom m room)) l) cuts c (load (lower (inRoom c room)) l') r × Handed room l₀ c l'
+  unfoldable pub batches-arriving : {ρ : Rule} {m e c : ℕ} {cuts : List ℕ} {l l' : List Float} {r : Answer} → Handed room l₀ m l → Rising m cuts e → e ≤ n → BatchesBy ρ room m l cuts c l' r
+      → ArrivingBy ρ given m (load (lower (inRoom m room)) l) cuts c (load (lower (inRoom c room)) l') r × Handed room l₀ c l'
   batches-arriving h rising upto none = (arriving.none, h)
   batches-arriving {e = e} h rising upto (refused {c = c} {cuts = cuts} call failed) =
       let within : c ≤ e = rising-upto c cuts e (rising .1) in

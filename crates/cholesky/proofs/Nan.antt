@@ -32,7 +32,7 @@ use Rattle.cholesky.proofs.Diagonal.{answer-is}
 use Rattle.cholesky.proofs.Onward.{refusal-answers, judges}
 use Rattle.cholesky.proofs.Rows.{updates-in, below-in, worked-off, judged-answer}
 use Rattle.cholesky.proofs.Promises.{extended-answer}
-use Rattle.cholesky.proofs.Refusals.{columns-answered, refused-in}
+use Rattle.cholesky.proofs.Refusals.{columns-answered, crate-names, refused-in}
 
 -- ---- NaN in sums
 
@@ -142,6 +142,6 @@ module _ {y : Layout} {m : ℕ} {l l' : List Float} {r : Answer} (fits : Fits y 
       earlier : isDone (before .answer) ≡ false → NanTold m i r
       earlier failed =
           let answer : r ≡ before .answer = refused-first i (omega arith) failed in
-          let in-rows = refused-in (columns-answered crateRule m 0 i m (λ j low from. from) (started A) refl) failed in
+          let in-rows = refused-in crate-names (columns-answered crateRule m 0 i m (λ j low from. from) (started A) refl) failed in
           let place : placeOf r ≡ placeOf (before .answer) = ap placeOf answer in
           record { refused = ap isDone answer ∙ failed; from = omega arith; upto = omega arith; here = λ h. absurd (omega arith) }

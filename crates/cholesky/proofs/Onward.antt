@@ -4,7 +4,7 @@
 --     column-stays, refusal-stays  nothing is done after a refusal
 --     refusal-answers  a refusal in the first c columns is what all n give
 --     accepted-before  the columns before accepted ones are accepted
---     judges           column j from m on is judged, if all before it passed
+--     column-judged, judges  column j from m on is judged, if all before it passed
 use mathlib.Core.Path.{_≡_, refl, sym, _∙_, ap}
 use mathlib.Core.Bool.{true, false, cond}
 use Prim.Native.Nat.{ℕ, _+_, _≤_}
@@ -21,6 +21,10 @@ module _ (ρ : Rule) (m : ℕ) where
   pub column-later : (j : ℕ) (o : Outcome) → m ≤ j → factorColumn ρ m j o ≡ factorColumn ρ 0 j o
   unfolding factorColumn worked
   column-later j o from = rw (le-ltb j m from, le-ltb j 0 (omega arith))
+
+  pub column-judged : (j : ℕ) (o : Outcome) → m ≤ j → isDone (o .answer) ≡ true → factorColumn ρ m j o ≡ judgedColumn ρ j (updates j j (o .cells))
+  unfolding factorColumn worked
+  column-judged j o late passed = rw (passed, le-ltb j m late)
 
   pub column-stays : (j : ℕ) (o : Outcome) → isDone (o .answer) ≡ false → factorColumn ρ m j o ≡ o
   unfolding factorColumn
@@ -42,5 +46,5 @@ module _ (ρ : Rule) (m : ℕ) where
     accepted-before c n upto passed = done-or-refused (factorColumns ρ m c A .answer) (λ e. e) (λ refused. ap (λ (o : Outcome). isDone (o .answer)) (refusal-answers c n upto refused) ∙ passed)
 
     pub judges : (j : ℕ) → m ≤ j → isDone (factorColumns ρ m j A .answer) ≡ true → factorColumns ρ m (j + 1) A ≡ judgedColumn ρ j (updates j j (factorColumns ρ m j A .cells))
-    unfolding factorColumns factorColumn worked
-    judges j late passed = for-more 0 j (factorColumn ρ m) (started A) (omega arith) ∙ simp (passed, le-ltb j m late)
+    unfolding factorColumns
+    judges j late passed = for-more 0 j (factorColumn ρ m) (started A) (omega arith) ∙ column-judged j (factorColumns ρ m j A) late passed

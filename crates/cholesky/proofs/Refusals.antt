@@ -21,9 +21,11 @@ use Rattle.answer.proofs.Tests.{either}
 use Rattle.matrix.proofs.Loops.{for-keeps}
 use Rattle.cholesky.specs.Run.{Rule, Outcome, updates, continued, judgedColumn, worked, factorColumn, started, factorColumns}
 use Rattle.cholesky.specs.Crate.{crateRule}
-use Rattle.cholesky.specs.Promise.{Extended}
+use Rattle.cholesky.specs.Floor.{floorRule}
+use Rattle.cholesky.specs.Promise.{ExtendedBy}
 use Rattle.cholesky.specs.Batches.{RefusedIn}
 use Rattle.cholesky.proofs.Diagonal.{answer-place}
+use Rattle.cholesky.proofs.Floor.{floor-place}
 use Rattle.cholesky.proofs.Promises.{extended-answer}
 
 -- done, or the rule's refusal of some number on the diagonal of one of the columns lo to hi
@@ -50,19 +52,28 @@ module _ (ρ : Rule) (m lo hi first : ℕ) (bound : (j : ℕ) → lo ≤ j → m
       for-keeps Answering lo hi (factorColumn ρ m) o (done start)
       (λ j p from upto so. either Answering (isDone (p .answer)) (λ e. worked-answered j (p .cells) from upto) (λ e. so))
 
--- ---- the crate's rule
+-- ---- where a refusal names its column
 
-pub refused-in : {lo hi : ℕ} {r : Answer} → Answered crateRule lo hi r → RefusedIn lo hi r
-refused-in (done is) failed = absurd (subst T (sym (ap isDone is) ∙ failed) tt)
-refused-in {lo} {hi} {r} (refused d j from upto turned is) failed =
-    let place : placeOf r ≡ j = ap placeOf is ∙ answer-place d j turned in
+pub record NamesColumn (ρ : Rule) : Type 0 where
+  pub place : (d : Float) (j : ℕ) → isDone (ρ .verdict d j) ≡ false → placeOf (ρ .verdict d j) ≡ j
+
+pub crate-names : NamesColumn crateRule
+crate-names = record { place = answer-place }
+
+pub floor-names : (s : Float) → NamesColumn (floorRule s)
+floor-names s = record { place = floor-place s }
+
+pub refused-in : {ρ : Rule} {lo hi : ℕ} {r : Answer} → NamesColumn ρ → Answered ρ lo hi r → RefusedIn lo hi r
+refused-in names (done is) failed = absurd (subst T (sym (ap isDone is) ∙ failed) tt)
+refused-in {lo = lo} {hi = hi} {r = r} names (refused d j from upto turned is) failed =
+    let place : placeOf r ≡ j = ap placeOf is ∙ names .place d j turned in
     (omega arith, omega arith)
 
 -- ---- the call
 
 -- a batch from row m on is refused, if at all, at one of its own rows
-pub extended-refused : {y : Layout} {m : ℕ} {l l' : List Float} {r : Answer} → Fits y m (length l) → Extended y m l l' r → RefusedIn m (y .order) r
+pub extended-refused : {ρ : Rule} {y : Layout} {m : ℕ} {l l' : List Float} {r : Answer} → NamesColumn ρ → Fits y m (length l) → ExtendedBy ρ y m l l' r → RefusedIn m (y .order) r
 unfolding factorColumns
-extended-refused {y} {m} {l} fits call =
+extended-refused {ρ} {y} {m} {l} names fits call =
     subst (RefusedIn m (y .order)) (sym (extended-answer call fits))
-    (refused-in (columns-answered crateRule m 0 (y .order) m (λ j low from. from) (started (load (lower y) l)) refl))
+    (refused-in names (columns-answered ρ m 0 (y .order) m (λ j low from. from) (started (load (lower y) l)) refl))

@@ -11,12 +11,10 @@ use Rattle.cholesky.specs.Floor.{passes}
 
 -- whether column j is one of them, o being what the columns before it came to
 unfoldable pub usedAt : Rule → ℕ → ℕ → Outcome → Bool
-unfolding factorColumn updated
 usedAt ρ m j o = leb m j && (isDone (factorColumn ρ m j o .answer) && not (passes (updated (o .cells) j j j)))
 
 -- how many of the columns lo to hi are, o being what the columns before lo came to
 unfoldable pub usedFrom : Rule → ℕ → ℕ → ℕ → Outcome → ℕ
-unfolding usedAt
 usedFrom ρ m lo hi o = for lo hi (λ j count. cond (usedAt ρ m j (for lo j (factorColumn ρ m) o)) (count + 1) count) 0
 
 -- of all n columns
