@@ -28,7 +28,11 @@ use Rattle.substitution_one.specs.Steps.{lessOne, lessTwo, eliminateOne, elimin
 use Rattle.lblt_solve_one.specs.Column.{swapRows, forwardBlock, blockDeterminant, divideTwo, divideBlock, backwardBlock, solveColumn}
 use Rattle.lblt_read.specs.Diagonal.{timesBlock, determinantOf}
 use Rattle.cholesky.specs.Crate.{answerTo}
-use Rattle.cholesky.specs.Run.{factorColumns}
+use Rattle.cholesky.specs.Column.{updated}
+use Rattle.cholesky.specs.Run.{factorColumn, factorColumns}
+use Rattle.cholesky.specs.Floor.{standing}
+use Rattle.cholesky.specs.Used.{usedAt, usedFrom}
+use Rattle.cholesky.specs.Floored.{usedOn}
 use Rattle.cholesky.specs.Solve.{solveSides}
 use Rattle.cholesky_solve_one.specs.Triangles.{solveTriangles}
 use Rattle.udu.specs.Columns.{uduDiagonal, uduEntry, withDiagonal, withColumn, nothing}
@@ -50,7 +54,7 @@ hold [] e = none
 hold (c ∷ cs) e = more c cs (subst (Gives (c .call)) (ap (λ (l : List (List (List ℕ))). getD l 0 []) e) (gives (c .call))) (hold cs (ap (drop 1) e))
 
 computed : map foundIn (table ++ twinTable) ≡ map numbersIn (table ++ twinTable)
-unfolding tested sizeOf ofBits toBits le sub mul div isNan absOf maximumOf rootOf exchange for falling load mask lower upper square paired marked stamped blockOf faultFrom checked choose choiceBy contest rowMax alongRow downColumn columnMax greater firstState finalState recorded interchange brought1 brought2 stepped step take pivot1 pivot2 firstMark rank1At rank1 scaleAt eliminate1 update1 blockBy blockAt multiplier work1 work2 rank2At rank2By rank2 update2 bySize rowsOf blocksFrom forwards blocksTo backwards swapRows lessOne lessTwo eliminateOne eliminateTwo forwardBlock divideOne blockDeterminant divideTwo divideBlock lessProduct gatherRow backwardBlock solveColumn eachColumn eachChosen atChosen atColumn column timesBlock determinantOf answerTo factorColumns solveSides solveTriangles uduDiagonal uduEntry withDiagonal withColumn nothing uduOf floats bitsOf listed overlayAt overlay overlaid entriesOf rowStart newRow joined grownNumbers lbltWords lbltSlice determinantNumbers solveNumbers benchNumbers recordOf listOf readNumbers writtenNumbers choleskyAnswer choleskySlice choleskySolveNumbers uduNumbers
+unfolding tested sizeOf ofBits toBits le sub mul div isNan absOf maximumOf rootOf exchange for falling load mask lower upper square paired marked stamped blockOf faultFrom checked choose choiceBy contest rowMax alongRow downColumn columnMax greater firstState finalState recorded interchange brought1 brought2 stepped step take pivot1 pivot2 firstMark rank1At rank1 scaleAt eliminate1 update1 blockBy blockAt multiplier work1 work2 rank2At rank2By rank2 update2 bySize rowsOf blocksFrom forwards blocksTo backwards swapRows lessOne lessTwo eliminateOne eliminateTwo forwardBlock divideOne blockDeterminant divideTwo divideBlock lessProduct gatherRow backwardBlock solveColumn eachColumn eachChosen atChosen atColumn column timesBlock determinantOf answerTo standing factorColumn factorColumns updated usedAt usedFrom usedOn solveSides solveTriangles uduDiagonal uduEntry withDiagonal withColumn nothing uduOf floats bitsOf listed overlayAt overlay overlaid entriesOf rowStart newRow joined grownNumbers lbltWords lbltSlice determinantNumbers solveNumbers benchNumbers recordOf listOf readNumbers writtenNumbers choleskyAnswer choleskySlice choleskySolveNumbers uduNumbers
 computed = refl
 
 -- document 01's starred cases and those beside them, and twin rows

@@ -20,7 +20,7 @@ use Rattle.leaf.specs.Root.{rootOf}
 use Rattle.matrix.specs.Grid.{load, mask}
 use Rattle.matrix.specs.declared.Layout.{Layout}
 use Rattle.matrix.specs.Layouts.{full, inRoom, packed, entriesOf, lower, square}
-use Rattle.matrix.specs.Sizes.{sizeTests, Fits}
+use Rattle.matrix.specs.Sizes.{sizeTests, sizesOf, Fits}
 use Rattle.matrix.proofs.Sizes.{done-fits, laid-fits}
 use Rattle.packed.specs.Growing.{growTests, grown, Grown}
 use Rattle.packed.proofs.Growing.{grown-fits}
@@ -37,10 +37,14 @@ use Rattle.lblt_read.specs.Diagonal.{determinantOf}
 use Rattle.lblt_read.specs.Calls.{readerTests, columnTests, LbltDetermined}
 use Rattle.lblt_solve.specs.Solve.{solveTests, LbltSolved}
 use Rattle.lblt_bench.specs.Bench.{owns, benchTests, BenchSolved}
-use Rattle.cholesky.specs.Promise.{batch, Extended}
+use Rattle.cholesky.specs.Run.{Rule}
+use Rattle.cholesky.specs.Crate.{crateRule}
+use Rattle.cholesky.specs.Floor.{floorRule}
+use Rattle.cholesky.specs.Promise.{batchBy, ExtendedBy}
+use Rattle.cholesky.specs.Floored.{usedOn}
 use Rattle.cholesky.specs.Solve.{sidesTests, solveSides, CholeskySolved}
 use Rattle.udu.specs.Promise.{uduTests, uduOf, uduAnswer, factorsOf, UduFactored}
-use Rattle.cases.specs.Calls.{stray, floats, bitsOf, signedBits, answered, lentWords, lentList, lentFloats, Call, lbltFactor, lbltDeterminant, lbltSolve, lbltSolveBench, lbltReaders, lbltLargest, pivotsFromLapack, pivotsToLapack, choleskyFactor, choleskySolve, choleskySolveSizes, packedLbltFactor, packedLbltDeterminant, packedLbltSolve, packedCholeskyFactor, packedCholeskyExtend, packedCholeskySolve, packedExtendSizes, uduFactor, root, Gives}
+use Rattle.cases.specs.Calls.{stray, floats, bitsOf, signedBits, answered, lentWords, lentList, lentFloats, Call, lbltFactor, lbltDeterminant, lbltSolve, lbltSolveBench, lbltReaders, lbltLargest, pivotsFromLapack, pivotsToLapack, choleskyFactor, choleskyExtendFloored, choleskySolve, choleskySolveSizes, packedLbltFactor, packedLbltDeterminant, packedLbltSolve, packedCholeskyFactor, packedCholeskyExtend, packedCholeskySolve, packedExtendSizes, uduFactor, root, Gives}
 use Rattle.matrix.proofs.Slices.{listed, is-listed, overlaid, lower-overlaid, fills-listed}
 use Rattle.matrix.specs.Rounded.{plusZero}
 
@@ -127,24 +131,25 @@ module _ (n : ℕ) (words : List ℕ) (list : List ℤ) where
   unfolding writtenNumbers
   writes d = rw (d .numbers, d .info, d .run, d .answer)
 
--- ---- Cholesky's factor, and its solve
+-- ---- Cholesky's factor and further batch, by any rule, and its solve
 
-module _ (y : Layout) (a : List Float) where
+module _ (ρ : Rule) (y : Layout) (m : ℕ) (a : List Float) where
   unfoldable pub choleskyAnswer : Answer
-  choleskyAnswer = tested (sizeTests y 0 (length a)) (batch y 0 a .answer)
+  choleskyAnswer = tested (sizeTests y m (length a)) (batchBy ρ y m a .answer)
 
   unfoldable pub choleskySlice : List Float
-  choleskySlice = cond (isDone (tested (sizeTests y 0 (length a)) Done)) (overlaid (lower y) (y .order) a (mask (lower y) (batch y 0 a .cells))) a
+  choleskySlice = cond (isDone (sizesOf y m a)) (overlaid (lower y) (y .order) a (mask (lower y) (batchBy ρ y m a .cells))) a
 
-  pub extends : {l : List Float} {r : Answer} → Extended y 0 a l r → (r ≡ choleskyAnswer) × (l ≡ choleskySlice)
+  pub extends : {l : List Float} {r : Answer} → ExtendedBy ρ y m a l r → (r ≡ choleskyAnswer) × (l ≡ choleskySlice)
   unfolding choleskyAnswer choleskySlice
   extends f = (
     f .answer,
-    done-or-refused (tested (sizeTests y 0 (length a)) Done)
-        (λ done. rw done (lower-overlaid (laid-fits {l = a} (done-fits y 0 (length a) Done done)) (f .left .done done .holds)))
+    done-or-refused (sizesOf y m a)
+        (λ done. rw done (lower-overlaid (laid-fits {l = a} (done-fits y m (length a) Done done)) (f .left .done done .holds)))
         (λ failed. rw failed (f .left .refused failed)),
   )
 
+module _ (y : Layout) (a : List Float) where
   unfoldable pub choleskySolveNumbers : List Float → List (List ℕ)
   choleskySolveNumbers b =
       let r = tested (sidesTests y 1 (length a) (length b)) Done in
@@ -219,15 +224,18 @@ found (lbltReaders n expected words) =
 found (lbltLargest n a k) = (columnMax n (load (lower (full n)) (floats a)) k .imax ∷ []) ∷ []
 found (pivotsFromLapack n run list info) = readNumbers n (lentWords n) list run info
 found (pivotsToLapack n words) = writtenNumbers n words (lentList n)
-found (choleskyFactor room n a) = answered (choleskyAnswer (inRoom n room) (floats a)) ∷ bitsOf (choleskySlice (inRoom n room) (floats a)) ∷ []
-found (choleskySolve room n a b) = choleskySolveNumbers (inRoom n room) (choleskySlice (inRoom n room) (floats a)) (floats b)
+found (choleskyFactor room n a) = answered (choleskyAnswer crateRule (inRoom n room) 0 (floats a)) ∷ bitsOf (choleskySlice crateRule (inRoom n room) 0 (floats a)) ∷ []
+found (choleskyExtendFloored room m n floor a) =
+    let s = ofBits binary64 floor in
+    answered (choleskyAnswer (floorRule s) (inRoom n room) m (floats a)) ∷ (usedOn s (inRoom n room) m (floats a) ∷ []) ∷ bitsOf (choleskySlice (floorRule s) (inRoom n room) m (floats a)) ∷ []
+found (choleskySolve room n a b) = choleskySolveNumbers (inRoom n room) (choleskySlice crateRule (inRoom n room) 0 (floats a)) (floats b)
 found (choleskySolveSizes room n columns factor sides) = answered (tested (sidesTests (inRoom n room) columns factor sides) Done) ∷ []
 found (packedLbltFactor n run a) = answered (lbltAnswer (packed n) run (floats a) (lentWords n)) ∷ leftWords (packed n) run a ∷ bitsOf (leftSlice (packed n) run a) ∷ []
 found (packedLbltDeterminant n run expected a) = determinantNumbers (packed n) expected (leftSlice (packed n) run a) (leftWords (packed n) run a)
 found (packedLbltSolve n run expected a b) = solveNumbers (packed n) expected (leftSlice (packed n) run a) (leftWords (packed n) run a) (floats b)
-found (packedCholeskyFactor n a) = answered (choleskyAnswer (packed n) (floats a)) ∷ bitsOf (choleskySlice (packed n) (floats a)) ∷ []
+found (packedCholeskyFactor n a) = answered (choleskyAnswer crateRule (packed n) 0 (floats a)) ∷ bitsOf (choleskySlice crateRule (packed n) 0 (floats a)) ∷ []
 found (packedCholeskyExtend m n old rows) = grownNumbers m n (floats old) (floats rows) (lentFloats (entriesOf n))
-found (packedCholeskySolve n a b) = choleskySolveNumbers (packed n) (choleskySlice (packed n) (floats a)) (floats b)
+found (packedCholeskySolve n a b) = choleskySolveNumbers (packed n) (choleskySlice crateRule (packed n) 0 (floats a)) (floats b)
 found (packedExtendSizes m n old rows fresh) = answered (tested (growTests m n old rows fresh) Done) ∷ []
 found (uduFactor n p) = uduNumbers n (floats p) (lentFloats (n * n)) (lentFloats n)
 found (root x) = (toBits binary64 (rootOf (ofBits binary64 x)) ∷ []) ∷ []
@@ -251,10 +259,11 @@ gives (lbltReaders n expected words) = λ r s t v a b b' d d' l l' long-a long-b
 gives (lbltLargest n a k) = λ r e. rw e
 gives (pivotsFromLapack n run list info) = λ r words d. reads n (lentWords n) list d
 gives (pivotsToLapack n words) = λ r list d. writes n words (lentList n) d
-gives (choleskyFactor room n a) = λ r l f. let g = extends (inRoom n room) (floats a) f in rw (g .0, g .1)
+gives (choleskyFactor room n a) = λ r l f. let g = extends crateRule (inRoom n room) 0 (floats a) f in rw (g .0, g .1)
+gives (choleskyExtendFloored room m n floor a) = λ r l f. let g = extends (floorRule (ofBits binary64 floor)) (inRoom n room) m (floats a) (f .extended) in rw (g .0, g .1, f .used)
 gives (choleskySolve room n a b) = λ r s l c f d.
-    let by : CholeskySolved (inRoom n room) 1 (choleskySlice (inRoom n room) (floats a)) (floats b) c s = rw (extends (inRoom n room) (floats a) f .1) at d in
-    solves-triangles (inRoom n room) (choleskySlice (inRoom n room) (floats a)) by
+    let by : CholeskySolved (inRoom n room) 1 (choleskySlice crateRule (inRoom n room) 0 (floats a)) (floats b) c s = rw (extends crateRule (inRoom n room) 0 (floats a) f .1) at d in
+    solves-triangles (inRoom n room) (choleskySlice crateRule (inRoom n room) 0 (floats a)) by
 gives (choleskySolveSizes room n columns factor sides) = λ r a b c long wide d. rw (d .answer, long, wide)
 gives (packedLbltFactor n run a) = λ r a' words f. let g = factors (packed n) run (floats a) (lentWords n) f in rw (g .answer, g .pivots, g .matrix)
 gives (packedLbltDeterminant n run expected a) = λ r a' words v f d.
@@ -265,11 +274,11 @@ gives (packedLbltSolve n run expected a b) = λ r s a' b' words f d.
     let g = factors (packed n) run (floats a) (lentWords n) f in
     let by : LbltSolved (packed n) 1 expected (leftSlice (packed n) run a) (leftWords (packed n) run a) (floats b) s b' = rw (g .matrix, g .pivots) at d in
     solves (packed n) expected (leftSlice (packed n) run a) (leftWords (packed n) run a) by
-gives (packedCholeskyFactor n a) = λ r l f. let g = extends (packed n) (floats a) f in rw (g .0, g .1)
+gives (packedCholeskyFactor n a) = λ r l f. let g = extends crateRule (packed n) 0 (floats a) f in rw (g .0, g .1)
 gives (packedCholeskyExtend m n old rows) = λ r fresh f. grows m n (floats old) (floats rows) (lentFloats (entriesOf n)) f
 gives (packedCholeskySolve n a b) = λ r s l c f d.
-    let by : CholeskySolved (packed n) 1 (choleskySlice (packed n) (floats a)) (floats b) c s = rw (extends (packed n) (floats a) f .1) at d in
-    solves-triangles (packed n) (choleskySlice (packed n) (floats a)) by
+    let by : CholeskySolved (packed n) 1 (choleskySlice crateRule (packed n) 0 (floats a)) (floats b) c s = rw (extends crateRule (packed n) 0 (floats a) f .1) at d in
+    solves-triangles (packed n) (choleskySlice crateRule (packed n) 0 (floats a)) by
 gives (packedExtendSizes m n old rows fresh) = λ r a b c c' long wide tall refused d.
     let by : r ≡ tested (growTests m n old rows fresh) (grown m n a b .answer) = rw (long, wide, tall) at (d .answer) in
     ap (λ (x : Answer). answered x ∷ []) (by ∙ tested-fixed (growTests m n old rows fresh) (grown m n a b .answer) refused)

@@ -1,9 +1,9 @@
--- Document 01's starred cases, those of Cholesky's solve, of the codes of a diagonal, of the row that a mark names, of the run number, of LAPACK pivot lists, of packed triangles and of UDU's tail, and one of a mark after an interchange.
+-- Document 01's starred cases, those of Cholesky's solve, of the codes of a diagonal, of a floor for it, of the row that a mark names, of the run number, of LAPACK pivot lists, of packed triangles and of UDU's tail, and one of a mark after an interchange.
 use mathlib.Core.List.{List, [], _∷_}
 use Prim.Native.Nat.{ℕ, _-_}
 use lib.IntN.{ℤ, pos, negℤ}
 use Rattle.cases.specs.Bits as bits
-use Rattle.cases.specs.Calls.{stray, lbltFactor, lbltDeterminant, lbltSolve, lbltSolveBench, lbltReaders, lbltLargest, pivotsFromLapack, pivotsToLapack, choleskyFactor, choleskySolve, choleskySolveSizes, packedLbltFactor, packedLbltDeterminant, packedLbltSolve, packedCholeskyFactor, packedCholeskyExtend, packedCholeskySolve, packedExtendSizes, uduFactor, root, Case, _⇒_}
+use Rattle.cases.specs.Calls.{stray, lbltFactor, lbltDeterminant, lbltSolve, lbltSolveBench, lbltReaders, lbltLargest, pivotsFromLapack, pivotsToLapack, choleskyFactor, choleskyExtendFloored, choleskySolve, choleskySolveSizes, packedLbltFactor, packedLbltDeterminant, packedLbltSolve, packedCholeskyFactor, packedCholeskyExtend, packedCholeskySolve, packedExtendSizes, uduFactor, root, Case, _⇒_}
 
 -- ---- answers: a code and its place
 
@@ -117,6 +117,23 @@ table =
     -- no NaN was handed in: Cholesky [1 / ∞ ∞], code 11 at 1; [1 / ∞ 1], code 10 at 1
     ∷ (choleskyFactor 2 2 (bits.one ∷ bits.infinity ∷ stray ∷ bits.infinity ∷ []) ⇒ refused 11 1 ∷ (bits.one ∷ bits.infinity ∷ stray ∷ bits.nan ∷ []) ∷ [])
     ∷ (choleskyFactor 2 2 (bits.one ∷ bits.infinity ∷ stray ∷ bits.one ∷ []) ⇒ refused 10 1 ∷ (bits.one ∷ bits.infinity ∷ stray ∷ bits.minusInfinity ∷ []) ∷ [])
+    -- [1 / 1 1] with floor 4: [1 / 1 2], one column used it; with floor −0, which fails: code 7 at 1, as without a floor. [−1] with floor −1: code 10 at 0
+    ∷ (choleskyExtendFloored 2 0 2 bits.four (bits.one ∷ bits.one ∷ stray ∷ bits.one ∷ []) ⇒ done ∷ (1 ∷ []) ∷ (bits.one ∷ bits.one ∷ stray ∷ bits.two ∷ []) ∷ [])
+    ∷ (choleskyExtendFloored 2 0 2 bits.minusZero (bits.one ∷ bits.one ∷ stray ∷ bits.one ∷ []) ⇒ refused 7 1 ∷ (0 ∷ []) ∷ (bits.one ∷ bits.one ∷ stray ∷ bits.zero ∷ []) ∷ [])
+    ∷ (choleskyExtendFloored 1 0 1 bits.minusOne (bits.minusOne ∷ []) ⇒ refused 10 0 ∷ (0 ∷ []) ∷ (bits.minusOne ∷ []) ∷ [])
+    -- [4 / 2 5] with floor NaN, which no diagonal needs: [2 / 1 2], none used it. [NaN] with floor 4: [2]. [−0] with floor 2^−1074: its root
+    ∷ (choleskyExtendFloored 2 0 2 bits.nan (bits.four ∷ bits.two ∷ stray ∷ bits.five ∷ []) ⇒ done ∷ (0 ∷ []) ∷ (bits.two ∷ bits.one ∷ stray ∷ bits.two ∷ []) ∷ [])
+    ∷ (choleskyExtendFloored 1 0 1 bits.four (bits.nan ∷ []) ⇒ done ∷ (1 ∷ []) ∷ (bits.two ∷ []) ∷ [])
+    ∷ (choleskyExtendFloored 1 0 1 bits.smallest (bits.minusZero ∷ []) ⇒ done ∷ (1 ∷ []) ∷ (0x1e60_0000_0000_0000 ∷ []) ∷ [])
+    -- [−1 / 2 4] with floor +infinity: the row below is divided by it, [+infinity / 0 2]
+    ∷ (choleskyExtendFloored 2 0 2 bits.infinity (bits.minusOne ∷ bits.two ∷ stray ∷ bits.four ∷ []) ⇒ done ∷ (1 ∷ []) ∷ (bits.infinity ∷ bits.zero ∷ stray ∷ bits.two ∷ []) ∷ [])
+    -- [0 / 0 0] with floor 4: two columns used it; of its batches each one
+    ∷ (choleskyExtendFloored 2 0 2 bits.four (bits.zero ∷ bits.zero ∷ stray ∷ bits.zero ∷ []) ⇒ done ∷ (2 ∷ []) ∷ (bits.two ∷ bits.zero ∷ stray ∷ bits.two ∷ []) ∷ [])
+    ∷ (choleskyExtendFloored 2 0 1 bits.four (bits.zero ∷ bits.zero ∷ stray ∷ bits.zero ∷ []) ⇒ done ∷ (1 ∷ []) ∷ (bits.two ∷ bits.zero ∷ stray ∷ bits.zero ∷ []) ∷ [])
+    ∷ (choleskyExtendFloored 2 1 2 bits.four (bits.two ∷ bits.zero ∷ stray ∷ bits.zero ∷ []) ⇒ done ∷ (1 ∷ []) ∷ (bits.two ∷ bits.zero ∷ stray ∷ bits.two ∷ []) ∷ [])
+    -- the row −1 is taken as factored, and not counted: [−1 / −1 2]. An order above the room: code 2, none used it
+    ∷ (choleskyExtendFloored 2 1 2 bits.four (bits.minusOne ∷ bits.one ∷ stray ∷ bits.one ∷ []) ⇒ done ∷ (1 ∷ []) ∷ (bits.minusOne ∷ bits.minusOne ∷ stray ∷ bits.two ∷ []) ∷ [])
+    ∷ (choleskyExtendFloored 1 0 2 bits.four (bits.zero ∷ []) ⇒ refused 2 0 ∷ (0 ∷ []) ∷ (bits.zero ∷ []) ∷ [])
     -- the refusals of Cholesky's solve in their order, each call with the later faults too; order 0 and no columns are done
     ∷ (choleskySolveSizes 2 3 1025 5 7 ⇒ refused 1 0 ∷ [])
     ∷ (choleskySolveSizes 2 3 2 5 7 ⇒ refused 2 0 ∷ [])

@@ -1,6 +1,7 @@
 // The calls, each on slices for order 1, and for up to 1,024 columns.
 use answer::Answer;
 use answer::Valued;
+use cholesky::Floored;
 use pivots_lapack::Listed;
 use twins::Twin;
 
@@ -15,6 +16,8 @@ pub enum Call {
     PivotsToLapack,
     CholeskyFactor,
     CholeskyExtend,
+    CholeskyFactorFloored,
+    CholeskyExtendFloored,
     CholeskySolve,
     CholeskyL,
     CholeskyUnpack,
@@ -45,6 +48,8 @@ impl Call {
             Call::PivotsToLapack => io::write_all(1, b"pivots_to_lapack"),
             Call::CholeskyFactor => io::write_all(1, b"cholesky_factor"),
             Call::CholeskyExtend => io::write_all(1, b"cholesky_extend"),
+            Call::CholeskyFactorFloored => io::write_all(1, b"cholesky_factor_floored"),
+            Call::CholeskyExtendFloored => io::write_all(1, b"cholesky_extend_floored"),
             Call::CholeskySolve => io::write_all(1, b"cholesky_solve"),
             Call::CholeskyL => io::write_all(1, b"cholesky_l"),
             Call::CholeskyUnpack => io::write_all(1, b"cholesky_unpack"),
@@ -98,6 +103,10 @@ impl Call {
             Call::PivotsToLapack => listed(pivots_lapack::to_lapack(&record, &mut list, n)),
             Call::CholeskyFactor => plain(cholesky::factor(&mut a, room, n)),
             Call::CholeskyExtend => plain(cholesky::extend(&mut a, room, earlier, n)),
+            Call::CholeskyFactorFloored => floored(cholesky::factor_floored(&mut a, room, n, 1.0)),
+            Call::CholeskyExtendFloored => {
+                floored(cholesky::extend_floored(&mut a, room, earlier, n, 1.0))
+            }
             Call::CholeskySolve => plain(cholesky::solve_mut(&a, &mut b, room, n, columns)),
             Call::CholeskyL => plain(cholesky::l(&a, &mut u, room, n)),
             Call::CholeskyUnpack => plain(cholesky::unpack(&mut a, room, n)),
@@ -131,6 +140,11 @@ fn valued(v: Valued) -> u64 {
 
 fn listed(l: Listed) -> u64 {
     let answer = l.answer;
+    plain(answer)
+}
+
+fn floored(f: Floored) -> u64 {
+    let answer = f.answer;
     plain(answer)
 }
 

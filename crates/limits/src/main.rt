@@ -35,6 +35,11 @@ fn cholesky() {
     room(Call::CholeskyExtend);
     order(Call::CholeskyExtend);
     earlier_order(Call::CholeskyExtend);
+    room(Call::CholeskyFactorFloored);
+    order(Call::CholeskyFactorFloored);
+    room(Call::CholeskyExtendFloored);
+    order(Call::CholeskyExtendFloored);
+    earlier_order(Call::CholeskyExtendFloored);
     room(Call::CholeskySolve);
     order(Call::CholeskySolve);
     columns(Call::CholeskySolve);

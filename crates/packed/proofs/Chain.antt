@@ -23,6 +23,7 @@ use Rattle.cholesky.specs.Promise.{Extended}
 use Rattle.cholesky.specs.Batches.{Rising, RefusedIn}
 use Rattle.cholesky.specs.Arriving.{Arrived, Arriving, ArrivedAsOne}
 use Rattle.cholesky.specs.Arriving as arriving
+use Rattle.cholesky.proofs.Refusals.{crate-names}
 use Rattle.cholesky.proofs.Arriving.{arriving, arriving-all, like-one, like-one-within, rising-upto}
 use Rattle.cholesky.proofs.Exists.{extended-some}
 use Rattle.packed.specs.Growing.{handedIn, Grown}
@@ -129,7 +130,7 @@ module _ (n : ℕ) (whole : List Float) (small : n ≤ 1024) (packs : length who
   packed-demand3 {e} {c} {cuts} {last} {one} {r} {w} rising upto chain call = record {
     ended = λ all. as-one .ended all ∙ sym (same .0);
     refused = λ failed. as-one .refused failed ∙ sym (same .0);
-    within = like-one-within (given n whole) (like-one (given n whole) e rising batches);
+    within = like-one-within (given n whole) crate-names (like-one (given n whole) e rising batches);
     handed = arriving-all rising batches;
     later = λ passed. subst (RefusedIn e n) (sym (same .0)) (as-one .later passed);
     long = through .1;

@@ -8,6 +8,7 @@ use crate::registers::part_words;
 use crate::state::State;
 use answer::Answer;
 use answer::Valued;
+use cholesky::Floored;
 use twins::Twin;
 
 // The answer, and the word of the value or 0.
@@ -28,6 +29,14 @@ pub fn valued(v: Valued) -> Outcome {
     Outcome {
         answer: answer.number(),
         value: leaf::to_bits(v.value),
+    }
+}
+
+fn counted(f: Floored) -> Outcome {
+    let answer = f.answer;
+    Outcome {
+        answer: answer.number(),
+        value: f.used as u64,
     }
 }
 
@@ -91,6 +100,7 @@ pub fn call(
             part_words(r, s.r),
         ),
         21..=24 => packed_calls::others(which, n, x, part(a, s.a), part(b, s.b), part(c, s.c)),
+        25..=26 => of_floored(which, n, x, y, part(a, s.a), part(c, s.c)),
         _ => no_call(),
     }
 }
@@ -159,6 +169,28 @@ fn of_cholesky(
         10 => valued(cholesky::determinant(a, room, n)),
         _ => plain(cholesky::solve_mut(a, b, room, n, y)),
     }
+}
+
+// C holds the floor; y is the earlier order. The value is how many columns used it.
+fn of_floored(
+    which: u64,
+    n: usize,
+    room: usize,
+    y: usize,
+    a: &mut [f64],
+    c: &mut [f64],
+) -> Outcome {
+    match which {
+        25 => counted(cholesky::factor_floored(a, room, n, first(c))),
+        _ => counted(cholesky::extend_floored(a, room, y, n, first(c))),
+    }
+}
+
+fn first(c: &[f64]) -> f64 {
+    if c.len() == 0 {
+        return 0.0;
+    }
+    c[0]
 }
 
 fn of_udu(n: usize, a: &mut [f64], b: &mut [f64], c: &mut [f64]) -> Outcome {

@@ -92,10 +92,10 @@ module _ (room m n p q : ℕ) (cuts : List ℕ) (l₀ l l' : List Float) (r : An
   stop : Arriving A 0 (load (lower (inRoom 0 room)) l₀) cuts m (load (lower (inRoom m room)) l) Done × Handed room l₀ m l
   stop = batches-arriving room n l₀ fits handed-none rising (omega arith) before
 
-  ends-before : LikeOne A m (load (lower (inRoom m room)) l) Done
+  ends-before : LikeOne crateRule A m (load (lower (inRoom m room)) l) Done
   ends-before = like-one A m rising (stop .0)
 
-  ends : LikeOne A n L r
+  ends : LikeOne crateRule A n L r
   ends = like-one-more A ends-before (omega arith) (handed-arrived room n l₀ fits (stop .1) (omega arith) (omega arith)) call
 
   before-done : factorColumns crateRule 0 m A .answer ≡ Done

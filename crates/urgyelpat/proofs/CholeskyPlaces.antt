@@ -16,26 +16,34 @@ use Rattle.matrix.specs.Matrix.{Matrix}
 use Rattle.matrix.specs.Grid.{load}
 use Rattle.matrix.specs.Layouts.{lower}
 use Rattle.matrix.proofs.Sizes.{sizes-within}
-use Rattle.cholesky.specs.Run.{started, factorColumns}
-use Rattle.cholesky.specs.Crate.{crateRule}
-use Rattle.cholesky.specs.Promise.{Extended}
+use Rattle.cholesky.specs.declared.Floored.{Floored}
+use Rattle.cholesky.specs.Run.{Rule, started, factorColumns}
+use Rattle.cholesky.specs.Promise.{ExtendedBy, Extended}
+use Rattle.cholesky.specs.Floored.{ExtendedFloored}
 use Rattle.cholesky.specs.Solve.{sidesTests, CholeskySolved}
 use Rattle.cholesky.specs.Readers.{copyTests, Copied, Unpacked, CholeskyDetermined}
-use Rattle.cholesky.proofs.Refusals.{columns-answered, refused-in}
+use Rattle.cholesky.proofs.Refusals.{columns-answered, NamesColumn, crate-names, floor-names, refused-in}
 use Rattle.packed.specs.Growing.{growTests, handedIn, Grown}
 
 -- n columns are refused, if at all, at one of them
-columns-within : (m n : ℕ) (A : Matrix) → Within n (factorColumns crateRule m n A .answer)
+columns-within : {ρ : Rule} → NamesColumn ρ → (m n : ℕ) (A : Matrix) → Within n (factorColumns ρ m n A .answer)
 unfolding factorColumns
-columns-within m n A =
+columns-within {ρ} names m n A =
     done-or-refused r (λ e. subst (Within n) (sym (done-is r e)) (within-none n))
-    (λ e. let at = refused-in (columns-answered crateRule m 0 n 0 (λ j low from. low) (started A) refl) e in omega arith)
+    (λ e. let at = refused-in names (columns-answered ρ m 0 n 0 (λ j low from. low) (started A) refl) e in omega arith)
   where
     r : Answer
-    r = factorColumns crateRule m n A .answer
+    r = factorColumns ρ m n A .answer
+
+-- by any rule whose refusals name their column, and so by the crate's own and with a floor
+within-by : {ρ : Rule} {y : Layout} {m : ℕ} {l₀ l : List Float} {r : Answer} → NamesColumn ρ → ExtendedBy ρ y m l₀ l r → Within 1024 r
+within-by {y = y} {m = m} {l₀ = l₀} names x = subst (Within 1024) (sym (x .answer)) (sizes-within y m (length l₀) _ (columns-within names m (y .order) (load (lower y) l₀)))
 
 pub extended-within : {y : Layout} {m : ℕ} {l₀ l : List Float} {r : Answer} → Extended y m l₀ l r → Within 1024 r
-extended-within {y} {m} {l₀} x = subst (Within 1024) (sym (x .answer)) (sizes-within y m (length l₀) _ (columns-within m (y .order) (load (lower y) l₀)))
+extended-within = within-by crate-names
+
+pub floored-within : {s : Float} {y : Layout} {m : ℕ} {l₀ l : List Float} {r : Floored} → ExtendedFloored s y m l₀ l r → Within 1024 (r .answer)
+floored-within {s} x = within-by (floor-names s) (x .extended)
 
 pub solved-within : {y : Layout} {columns : ℕ} {a b b' : List Float} {r : Answer} → CholeskySolved y columns a b b' r → Within 1024 r
 solved-within {y} {columns} {a} {b} x =
@@ -57,4 +65,4 @@ pub grown-within : {m n : ℕ} {old rows fresh fresh' : List Float} {r : Answer}
 grown-within {m} {n} {old} {rows} {fresh} x =
     subst (Within 1024) (sym (x .answer))
     (within-tested 1024 (growTests m n (length old) (length rows) (length fresh)) _ (omega arith, (omega arith, (omega arith, (omega arith, (omega arith, (omega arith, tt))))))
-    (λ h. let small : n ≤ 1024 = leb-true n 1024 (h .0) in let last = columns-within m n (handedIn m n old rows) in omega (arith, last, small)))
+    (λ h. let small : n ≤ 1024 = leb-true n 1024 (h .0) in let last = columns-within crate-names m n (handedIn m n old rows) in omega (arith, last, small)))

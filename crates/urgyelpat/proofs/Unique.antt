@@ -15,6 +15,7 @@ use Rattle.lblt_read.proofs.Once.{determined-once, filled-once}
 use Rattle.lblt_solve.proofs.Once.{solved-once}
 use Rattle.lblt_bench.proofs.Once.{bench-once}
 use Rattle.cholesky.proofs.Promises.{extended-unique}
+use Rattle.cholesky.proofs.FlooredPromises.{floored-unique}
 use Rattle.cholesky.proofs.SolvePromises.{solved-unique}
 use Rattle.cholesky.proofs.ReaderPromises.{determined-unique, copied-unique, unpacked-unique}
 use Rattle.udu.proofs.Unique as udu
@@ -22,11 +23,12 @@ use Rattle.twins.proofs.Unique.{first-twin-on-unique}
 use Rattle.packed.proofs.Growing.{grown-unique}
 use Rattle.urgyelpat.specs.declared.Determined.{Determined}
 use Rattle.urgyelpat.specs.declared.Listed.{Listed}
+use Rattle.urgyelpat.specs.declared.Floored.{Floored}
 use Rattle.urgyelpat.specs.Passed.{Passed}
 use Rattle.urgyelpat.specs.Calls.{FactorOn, SolveOn, DeterminantOn, ExtendOn, SolveTrianglesOn, FirstTwinPairOn}
 use Rattle.urgyelpat.specs.Calls.{LbltSolveBench, LbltD, LbltLPermuted}
 use Rattle.urgyelpat.specs.Calls.{PivotsFromLapack, PivotsToLapack}
-use Rattle.urgyelpat.specs.Calls.{CholeskyL, CholeskyUnpack, CholeskyDeterminant}
+use Rattle.urgyelpat.specs.Calls.{CholeskyExtendFloored, CholeskyL, CholeskyUnpack, CholeskyDeterminant}
 use Rattle.urgyelpat.specs.Calls.{UduFactor, PackedCholeskyExtend}
 
 -- what is given below is one, so its numbers are
@@ -113,6 +115,13 @@ module _ {y : Layout} {a : List Float} where
       (passed-same p q (same .0), same .1)
 
 module _ {room n : ℕ} {a : List Float} where
+  pub cholesky-extend-floored-unique
+      : {m : ℕ} {floor : Float} {r s : Floored} {a₁ a₂ : List Float} → CholeskyExtendFloored room m n floor a r a₁ → CholeskyExtendFloored room m n floor a s a₂
+      → (r ≡ s) × (a₁ ≡ a₂)
+  cholesky-extend-floored-unique p q =
+      let same = floored-unique (p .given) (q .given) in
+      (passed-same p q (same .0), same .1)
+
   pub cholesky-l-unique : {l l₁ l₂ : List Float} {r s : ℕ} → CholeskyL room n a l r l₁ → CholeskyL room n a l s l₂ → (r ≡ s) × (l₁ ≡ l₂)
   cholesky-l-unique p q =
       let same = copied-unique (p .given) (q .given) in

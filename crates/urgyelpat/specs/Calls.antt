@@ -16,15 +16,17 @@ use Rattle.lblt_read.specs.Permuted.{lPermutedOf}
 use Rattle.lblt_solve.specs.Solve.{LbltSolved}
 use Rattle.lblt_bench.specs.Bench.{BenchSolved}
 use Rattle.cholesky.specs.Promise.{Extended}
+use Rattle.cholesky.specs.Floored.{ExtendedFloored}
 use Rattle.cholesky.specs.Readers.{Copied, Unpacked, CholeskyDetermined}
 use Rattle.cholesky.specs.Solve.{CholeskySolved}
 use Rattle.udu.specs.Promise as udu
 use Rattle.twins.specs.First.{FirstTwinOn}
 use Rattle.twins.specs.Number.{twinNumber}
 use Rattle.packed.specs.Growing.{Grown}
-use Rattle.urgyelpat.specs.Passed.{Passed, determinedOf, listedOf}
+use Rattle.urgyelpat.specs.Passed.{Passed, determinedOf, listedOf, flooredOf}
 use Rattle.urgyelpat.specs.declared.Determined.{Determined}
 use Rattle.urgyelpat.specs.declared.Listed.{Listed}
+use Rattle.urgyelpat.specs.declared.Floored.{Floored}
 
 -- ---- over a layout
 
@@ -78,6 +80,9 @@ PivotsToLapack n words list r list' = Passed listedOf (λ listed. ListWritten n 
 
 abbrev pub CholeskyExtend : ℕ → ℕ → ℕ → List Float → ℕ → List Float → Type 0
 CholeskyExtend room earlier n = ExtendOn (inRoom n room) earlier
+
+abbrev pub CholeskyExtendFloored : ℕ → ℕ → ℕ → Float → List Float → Floored → List Float → Type 0
+CholeskyExtendFloored room earlier n floor a r a' = Passed flooredOf (ExtendedFloored floor (inRoom n room) earlier a a') r
 
 abbrev pub CholeskySolve : ℕ → ℕ → ℕ → List Float → List Float → ℕ → List Float → Type 0
 CholeskySolve room n = SolveTrianglesOn (inRoom n room)

@@ -1,9 +1,9 @@
 // The calls through the C convention: a slice is a pointer and then a length, an answer is one number, code·4,096 + place.
 ghost use mathlib.Core.Path.{_≡_};
-ghost use Rattle.urgyelpat.specs.Passed.{determinedOf, listedOf};
+ghost use Rattle.urgyelpat.specs.Passed.{determinedOf, listedOf, flooredOf};
 ghost use Rattle.urgyelpat.specs.Calls.{LbltFactor, LbltSolve, LbltSolveBench, LbltDeterminant, LbltD, LbltLPermuted};
 ghost use Rattle.urgyelpat.specs.Calls.{PivotsFromLapack, PivotsToLapack};
-ghost use Rattle.urgyelpat.specs.Calls.{CholeskyExtend, CholeskySolve, CholeskyL, CholeskyUnpack, CholeskyDeterminant};
+ghost use Rattle.urgyelpat.specs.Calls.{CholeskyExtend, CholeskyExtendFloored, CholeskySolve, CholeskyL, CholeskyUnpack, CholeskyDeterminant};
 ghost use Rattle.urgyelpat.specs.Calls.{UduFactor, FirstTwinPair};
 ghost use Rattle.urgyelpat.specs.Calls.{PackedLbltFactor, PackedLbltSolve, PackedLbltDeterminant, PackedCholeskyFactor, PackedCholeskyExtend, PackedCholeskySolve, PackedFirstTwin};
 use answer::Valued;
@@ -41,6 +41,23 @@ fn list_numbered(list: pivots_lapack::Listed) -> Listed
         answer: answer.number(),
         info: list.info,
         run: list.run,
+    }
+}
+
+// How many columns used a floor, and the number of the call's answer.
+#[repr(C)]
+pub struct Floored {
+    pub answer: u64,
+    pub used: u64,
+}
+
+fn floored_numbered(floored: cholesky::Floored) -> Floored
+    ensures { λ r. ⌜ r ≡ flooredOf floored ⌝ }
+{
+    let answer = floored.answer;
+    Floored {
+        answer: answer.number(),
+        used: floored.used as u64,
     }
 }
 
@@ -165,6 +182,32 @@ pub extern "C" fn urgyelpat_cholesky_extend(
     ensures { λ r. ⌜ CholeskyExtend room earlier n (now (a .entry)) r (now (a .exit)) ⌝ }
 {
     cholesky::extend(a, room, earlier, n).number()
+}
+
+// With a floor for the diagonal: its root stands where a diagonal fails its test and the floor does not.
+#[no_mangle]
+pub extern "C" fn urgyelpat_cholesky_factor_floored(
+    a: &mut [f64],
+    room: usize,
+    n: usize,
+    floor: f64,
+) -> Floored
+    ensures { λ r. ⌜ CholeskyExtendFloored room 0 n floor (now (a .entry)) r (now (a .exit)) ⌝ }
+{
+    floored_numbered(cholesky::factor_floored(a, room, n, floor))
+}
+
+#[no_mangle]
+pub extern "C" fn urgyelpat_cholesky_extend_floored(
+    a: &mut [f64],
+    room: usize,
+    earlier: usize,
+    n: usize,
+    floor: f64,
+) -> Floored
+    ensures { λ r. ⌜ CholeskyExtendFloored room earlier n floor (now (a .entry)) r (now (a .exit)) ⌝ }
+{
+    floored_numbered(cholesky::extend_floored(a, room, earlier, n, floor))
 }
 
 // n numbers of b a column.
