@@ -1,13 +1,13 @@
 // The columns of a batch, one after the other.
-ghost use mathlib.Core.Bool.{cond};
 ghost use mathlib.Core.Path.{_≡_};
 ghost use Prim.Native.Nat.{_+_, _≤_, _<_};
+ghost use Rattle.leaf.specs.Root.{rootOf};
 ghost use Rattle.matrix.specs.Grid.{load};
 ghost use Rattle.matrix.specs.Layouts.{lower, Laid};
 ghost use Rattle.cholesky.specs.Column.{part};
 ghost use Rattle.cholesky.specs.Run.{updates, below};
 ghost use Rattle.cholesky.specs.Crate.{answerTo};
-ghost use Rattle.cholesky.specs.Floor.{passes, standing, floorRule};
+ghost use Rattle.cholesky.specs.Floor.{floorRule};
 ghost use Rattle.cholesky.specs.Leaves.{Leaves};
 ghost use Rattle.cholesky.specs.inner.Engine.{Reach, Sourced, lessColumns, TakenOff, Judgement, Finished, Advanced, RanThrough};
 use crate::Floored;
@@ -47,45 +47,28 @@ fn answer_to(d: f64, j: usize) -> Answer
     Answer::CholeskyNan(column)
 }
 
-// The diagonal d, or the floor where d fails its test and the floor does not.
-fn standing_in(d: f64, floor: f64) -> f64
-    ensures { λ r. ⌜ r ≡ standing floor d ⌝ }
-{
-    if 0.0 < d {
-        return d;
-    }
-    if 0.0 < floor {
-        return floor;
-    }
-    d
-}
-
-// 1 for a diagonal that fails its test.
-fn failing(d: f64) -> usize
-    ensures { λ r. ⌜ r ≡ cond (passes d) 0 1 ⌝ }
-{
-    if 0.0 < d {
-        return 0;
-    }
-    1
-}
-
-// The diagonal d of column j is judged.
-fn judge(d: f64, j: usize, floor: f64) -> Verdict
+// The diagonal d of column j is judged: where it fails its test and the floor does not, the floor stands in for it, whose root is `spare`.
+fn judge(d: f64, j: usize, floor: f64, spare: f64) -> Verdict
     requires { ⌜ j ≤ 1024 ⌝ }
+    requires { ⌜ spare ≡ rootOf floor ⌝ }
     ensures { λ r. ⌜ Judgement (floorRule floor) d j r ⌝ }
 {
-    let judged = standing_in(d, floor);
-    let answer = answer_to(judged, j);
-    if answer.code() == 0 {
+    if 0.0 < d {
         return Verdict {
-            answer: answer,
-            root: leaf::root(judged),
-            used: failing(d),
+            answer: Answer::Done,
+            root: leaf::root(d),
+            used: 0,
+        };
+    }
+    if 0.0 < floor {
+        return Verdict {
+            answer: Answer::Done,
+            root: spare,
+            used: 1,
         };
     }
     Verdict {
-        answer: answer,
+        answer: answer_to(d, j),
         root: d,
         used: 0,
     }
@@ -169,12 +152,13 @@ fn divide(y: Layout, a: &mut [f64], r: usize, j: usize)
 }
 
 // The updated column j gets its root, and the rows below are divided by it.
-fn finish(y: Layout, a: &mut [f64], j: usize, floor: f64) -> Step
+fn finish(y: Layout, a: &mut [f64], j: usize, floor: f64, spare: f64) -> Step
     requires { ⌜ Laid y (now a) ⌝ }
     requires { ⌜ j < y .order ⌝ }
+    requires { ⌜ spare ≡ rootOf floor ⌝ }
     ensures { λ s. ⌜ Finished (floorRule floor) y j (now (a .entry)) (now (a .exit)) s ⌝ }
 {
-    let verdict = judge(matrix::get(y, a, j, j), j, floor);
+    let verdict = judge(matrix::get(y, a, j, j), j, floor, spare);
     let answer = verdict.answer;
     if answer.code() == 0 {
         matrix::put(y, a, j, j, verdict.root);
@@ -193,10 +177,11 @@ fn finish(y: Layout, a: &mut [f64], j: usize, floor: f64) -> Step
 }
 
 // Column j of a batch whose rows start at m, and the next column.
-fn advance(y: Layout, a: &mut [f64], m: usize, j: usize, floor: f64) -> Step
+fn advance(y: Layout, a: &mut [f64], m: usize, j: usize, floor: f64, spare: f64) -> Step
     requires { ⌜ Laid y (now a) ⌝ }
     requires { ⌜ m ≤ y .order ⌝ }
     requires { ⌜ j < y .order ⌝ }
+    requires { ⌜ spare ≡ rootOf floor ⌝ }
     ensures { λ s. ⌜ Advanced (floorRule floor) y m j (now (a .entry)) (now (a .exit)) s ⌝ }
 {
     if j < m {
@@ -209,7 +194,7 @@ fn advance(y: Layout, a: &mut [f64], m: usize, j: usize, floor: f64) -> Step
         };
     }
     update(y, a, j, j);
-    finish(y, a, j, floor)
+    finish(y, a, j, floor, spare)
 }
 
 // The rows from m on, in all columns.
@@ -219,10 +204,11 @@ pub fn run(y: Layout, a: &mut [f64], m: usize, floor: f64) -> Floored
     ensures { λ r. ⌜ RanThrough (floorRule floor) y m (now (a .entry)) (now (a .exit)) r ⌝ }
 {
     let n = y.order;
+    let spare = leaf::root(floor);
     let mut used: usize = 0;
     let mut j: usize = 0;
     while j < n {
-        let step = advance(y, a, m, j, floor);
+        let step = advance(y, a, m, j, floor, spare);
         let answer = step.answer;
         used = used + step.used;
         if answer.code() != 0 {

@@ -169,6 +169,7 @@ module _ (s : Float) (m : ℕ) where
         by so =
             let done : isDone (floored j .answer) ≡ true = ap (λ (o : Outcome). isDone (o .answer)) (so .0) ∙ before in
             let column : isDone (factorColumn crateRule m j (floored j) .answer) ≡ true =
-            ap (λ (o : Outcome). isDone (o .answer)) (ap (factorColumn crateRule m j) (so .0) ∙ sym (for-more 0 j (factorColumn crateRule m) (started A) (omega arith))) ∙ accepted in
-            (more j (so .0) (column-same j (floored j) (λ late passed. standing-own s (diagonal j (floored j)) (accepted-passes j (floored j) late passed column))),
-            counted j ∙ ap₂ (λ (u : ℕ) (b : Bool). u + cond b 1 0) (so .1) (accepted-unused j (floored j) done column))
+            ap (λ (o : Outcome). isDone (o .answer)) (ap (factorColumn crateRule m j) (so .0) ∙ sym (for-more 0 j (factorColumn crateRule m) (started A) (omega arith))) ∙ accepted in (
+              more j (so .0) (column-same j (floored j) (λ late passed. standing-own s (diagonal j (floored j)) (accepted-passes j (floored j) late passed column))),
+              counted j ∙ ap₂ (λ (u : ℕ) (b : Bool). u + cond b 1 0) (so .1) (accepted-unused j (floored j) done column),
+            )

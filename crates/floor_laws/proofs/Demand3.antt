@@ -27,10 +27,11 @@ module _ (s : Float) (room n : ℕ) (l₀ : List Float) (fits : Fits (inRoom n r
   pub floored-demand3 : {e c : ℕ} {cuts : List ℕ} {l : List Float} {r : Answer} {whole : List Float} {f : Floored} → Rising 0 cuts e → e ≤ n
       → (batches : BatchesBy (floorRule s) room 0 l₀ cuts c l r) → ExtendedFloored s (inRoom n room) 0 l₀ whole f
       → SameAsOne room n l₀ e c l r whole (f .answer) × CountsAdd n e r (usedHanded s batches) (f .used)
-  floored-demand3 {e} {r = r} {f = f} rising upto batches call =
-      (demand3-by (floor-names s) room n l₀ fits rising upto batches (call .extended),
-      subst (λ (total : ℕ). CountsAdd n e r total (f .used)) (sym (handed-arriving s room n l₀ fits handed-none rising upto batches))
-      (arriving-counts s room n l₀ fits rising upto (batches-arriving room n l₀ fits handed-none rising upto batches .0) call))
+  floored-demand3 {e} {r = r} {f = f} rising upto batches call = (
+    demand3-by (floor-names s) room n l₀ fits rising upto batches (call .extended),
+    subst (λ (total : ℕ). CountsAdd n e r total (f .used)) (sym (handed-arriving s room n l₀ fits handed-none rising upto batches))
+        (arriving-counts s room n l₀ fits rising upto (batches-arriving room n l₀ fits handed-none rising upto batches .0) call),
+  )
 
   -- on rows that arrive
   pub floored-arriving : {e c : ℕ} {cuts : List ℕ} {M N : Matrix} {r : Answer} {whole : List Float} {f : Floored} → Rising 0 cuts e → e ≤ n

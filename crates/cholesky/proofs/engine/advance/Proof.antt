@@ -13,8 +13,8 @@ update-requires c κs = (c .before .before .before .pre .0, record { from = omeg
 divide-requires : tie.Need-divide-requires
 divide-requires c κs = (leaves-laid (c .before .before .before .before .before .before .before .pre .0) (c .before .before .before .update .ensures), (omega arith, omega arith))
 
-add-t13 : tie.Need-add-t13
-add-t13 c = search needs
+add-t14 : tie.Need-add-t14
+add-t14 c = search needs
 
 same-length : tie.Need-same-length
 same-length c = search needs
@@ -26,7 +26,7 @@ update-requires-2 : tie.Need-update-requires-2
 update-requires-2 c κs = (c .before .before .before .pre .0, record { from = omega arith; upto = omega arith; column = omega arith })
 
 finish-requires : tie.Need-finish-requires
-finish-requires c κs = (leaves-laid (c .before .before .before .before .before .before .before .pre .0) (c .before .before .before .update2 .ensures), omega arith)
+finish-requires c κs = (leaves-laid (c .before .before .before .before .before .before .before .pre .0) (c .before .before .before .update2 .ensures), (omega arith, c .before .before .before .before .before .before .before .pre .1 .1 .1))
 
 same-length-2 : tie.Need-same-length-2
 same-length-2 c = search needs
@@ -40,7 +40,7 @@ advance-spec =
     (tie.spec
     update-requires
     divide-requires
-    add-t13
+    add-t14
     same-length
     returns
     update-requires-2

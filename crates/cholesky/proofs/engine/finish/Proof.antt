@@ -27,8 +27,8 @@ add-divide c = search needs
 divide-requires : tie.Need-divide-requires
 divide-requires c κs = (laid-after (c .before .before .before .before .before .before .before .before .before .before .before .pre .0) (c .before .before .before .put .ensures), (omega arith, omega arith))
 
-add-t17 : tie.Need-add-t17
-add-t17 c = search needs
+add-t18 : tie.Need-add-t18
+add-t18 c = search needs
 
 same-length : tie.Need-same-length
 same-length c = search needs
@@ -38,8 +38,8 @@ returns c =
     finish-done (floorRule (c .before .before .before .before .before .before .before .before .before .before .before .before .before .before .args .floor)) (c .before .before .before .before .before .before .before .before .before .before .before .before .before .before .args .y) (now (c .before .before .before .before .before .before .before .before .before .before .before .before .before .before .args .a)) (c .before .before .before .before .before .before .before .before .before .before .before .before .before .before .args .j) (c .before .before .before .before .before .before .before .before .before .before .before .get .result) (c .before .before .before .before .before .before .before .before .before .before .judge .result) (c .before .before .before .before .before .before .before .before .before .before .before .get .ensures) (c .before .before .before .before .before .before .before .before .before .before .judge .ensures)
     (code-done (c .before .before .before .before .before .before .before .before .before .before .judge .result .answer) (c .before .before .before .before .before .before .before .before .before .code .ensures) (c .before .before .before .before .before .before .before .before .if1 .taken)) (c .before .before .before .before .before .before .put .ensures) (c .before .before .divide .ensures)
 
-add-t19 : tie.Need-add-t19
-add-t19 c = search needs
+add-t20 : tie.Need-add-t20
+add-t20 c = search needs
 
 same-length-2 : tie.Need-same-length-2
 same-length-2 c = search needs
@@ -59,9 +59,9 @@ finish-spec =
     put-requires
     add-divide
     divide-requires
-    add-t17
+    add-t18
     same-length
     returns
-    add-t19
+    add-t20
     same-length-2
     returns-2)

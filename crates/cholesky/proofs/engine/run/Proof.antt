@@ -10,19 +10,22 @@ use Rattle.cholesky.proofs.engine.run.Statement.{statement}
 use Rattle.cholesky.proofs.engine.run.Tie as tie
 
 abbrev Inv-loop : tie.InvT-loop
-Inv-loop y a₀ m floor n used₀ j₀ a used j = Running (floorRule floor) y m a₀ j a used
+Inv-loop y a₀ m floor n spare used₀ j₀ a used j = Running (floorRule floor) y m a₀ j a used
 
 abbrev μ-loop : tie.MeasureT-loop
-μ-loop y a₀ m floor n used₀ j₀ a used j = y .order - j
+μ-loop y a₀ m floor n spare used₀ j₀ a used j = y .order - j
+
+root-requires : tie.Need-root-requires Inv-loop μ-loop
+root-requires c κs = search needs
 
 loop-holds : tie.Need-loop-holds Inv-loop μ-loop
-loop-holds c = running-none (c .before .pre .0 .sound)
+loop-holds c = running-none (c .before .before .pre .0 .sound)
 
 advance-requires : tie.Need-advance-requires Inv-loop μ-loop
-advance-requires c κs = (leaves-laid (c .before .before .before .before .pre .0) (c .before .before .loop .inv .ends .leaves), (omega arith, omega arith))
+advance-requires c κs = (leaves-laid (c .before .before .before .before .before .pre .0) (c .before .before .loop .inv .ends .leaves), (omega arith, (omega arith, c .before .before .before .root .ensures)))
 
 add-used : tie.Need-add-used Inv-loop μ-loop
-add-used c = let small = running-small (c .before .before .before .before .before .before .loop .inv) (c .before .before .before .advance .ensures) in omega (arith, c .before .before .before .before .before .before .before .before .pre .0 .roomy .ordered, c .before .before .before .before .before .before .before .before .pre .0 .roomy .small)
+add-used c = let small = running-small (c .before .before .before .before .before .before .loop .inv) (c .before .before .before .advance .ensures) in omega (arith, c .before .before .before .before .before .before .before .before .before .pre .0 .roomy .ordered, c .before .before .before .before .before .before .before .before .before .pre .0 .roomy .small)
 
 code-requires : tie.Need-code-requires Inv-loop μ-loop
 code-requires c κs = search needs
@@ -51,6 +54,7 @@ run-spec =
     (tie.spec
     Inv-loop
     μ-loop
+    root-requires
     loop-holds
     advance-requires
     add-used
