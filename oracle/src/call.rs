@@ -22,6 +22,9 @@ pub trait Calls {
     fn lblt_l_permuted(&self, a: &[f64], record: &[u32], l: &mut [f64], n: usize, run: u32) -> u64;
     fn cholesky_factor(&self, a: &mut [f64], room: usize, n: usize) -> u64;
     fn cholesky_extend(&self, a: &mut [f64], room: usize, earlier: usize, n: usize) -> u64;
+    /// The answer, and how many columns used the floor.
+    fn cholesky_factor_floored(&self, a: &mut [f64], room: usize, n: usize, floor: f64) -> (u64, u64);
+    fn cholesky_extend_floored(&self, a: &mut [f64], room: usize, earlier: usize, n: usize, floor: f64) -> (u64, u64);
     fn cholesky_solve(&self, a: &[f64], b: &mut [f64], room: usize, n: usize, columns: usize) -> u64;
     fn cholesky_l(&self, a: &[f64], l: &mut [f64], room: usize, n: usize) -> u64;
     fn cholesky_unpack(&self, a: &mut [f64], room: usize, n: usize) -> u64;
@@ -52,6 +55,8 @@ pub enum Call {
     LbltLPermuted,
     CholeskyFactor,
     CholeskyExtend,
+    CholeskyFactorFloored,
+    CholeskyExtendFloored,
     CholeskySolve,
     CholeskyL,
     CholeskyUnpack,
@@ -97,6 +102,8 @@ pub enum Number {
     Run,
     /// INFO beside a list that is read.
     Info,
+    /// What stands in for a diagonal that fails, an f64.
+    Floor,
 }
 
 #[derive(Clone, Copy, Debug, PartialEq, Eq)]
@@ -109,11 +116,11 @@ pub enum Slice {
     List,
 }
 
-use Number::{Bench, Info, N, Run, X, Y};
+use Number::{Bench, Floor, Info, N, Run, X, Y};
 use Slice::{A, B, Benches, C, List, Record};
 
 #[rustfmt::skip]
-pub const FORMS: [Form; 24] = [
+pub const FORMS: [Form; 26] = [
     Form { call: LbltFactor, name: "lblt_factor", number: 1, numbers: &[N, Run], slices: &[A, Record], valued: false },
     Form { call: LbltSolve, name: "lblt_solve", number: 2, numbers: &[N, X, Run], slices: &[A, Record, B], valued: false },
     Form { call: LbltDeterminant, name: "lblt_determinant", number: 3, numbers: &[N, Run], slices: &[A, Record], valued: true },
@@ -138,6 +145,8 @@ pub const FORMS: [Form; 24] = [
     Form { call: PackedCholeskyExtend, name: "packed_cholesky_extend", number: 22, numbers: &[X, N], slices: &[A, B, C], valued: false },
     Form { call: PackedCholeskySolve, name: "packed_cholesky_solve", number: 23, numbers: &[N, X], slices: &[A, B], valued: false },
     Form { call: PackedFirstTwin, name: "packed_first_twin", number: 24, numbers: &[N], slices: &[A], valued: false },
+    Form { call: CholeskyFactorFloored, name: "cholesky_factor_floored", number: 25, numbers: &[X, N, Floor], slices: &[A], valued: true },
+    Form { call: CholeskyExtendFloored, name: "cholesky_extend_floored", number: 26, numbers: &[X, Y, N, Floor], slices: &[A], valued: true },
 ];
 
 impl Call {
@@ -148,6 +157,15 @@ impl Call {
     /// The text does not have it, or not what it rests on: the steps stand in for the text.
     pub fn by_steps_alone(self) -> bool {
         matches!(self, CholeskySolve | FirstTwinSince | FirstTwin)
+    }
+
+    /// The call with a floor for the diagonals that fail.
+    pub fn floored(self) -> Option<Call> {
+        match self {
+            CholeskyFactor => Some(CholeskyFactorFloored),
+            CholeskyExtend => Some(CholeskyExtendFloored),
+            _ => None,
+        }
     }
 
     /// The call that takes the packed lower triangle where this one takes the whole matrix.
@@ -173,7 +191,7 @@ pub struct Case {
     pub n: usize,
     /// `lblt_solve`, `lblt_solve_bench`, the packed solves: columns; `packed_cholesky_extend`: earlier order; Cholesky and twin rows: room.
     pub x: usize,
-    /// `cholesky_extend`, `first_twin_since`: earlier order; `cholesky_solve`: columns.
+    /// `cholesky_extend`, `cholesky_extend_floored`, `first_twin_since`: earlier order; `cholesky_solve`: columns.
     pub y: usize,
     /// `lblt_solve_bench`: the bench whose columns are solved.
     pub bench: u32,
@@ -181,6 +199,8 @@ pub struct Case {
     pub run: u32,
     /// `pivots_from_lapack`: what stands beside the list.
     pub info: i32,
+    /// The floored calls: what stands in for a diagonal that fails.
+    pub floor: f64,
     /// The first matrix.
     pub a: Vec<f64>,
     /// Right-hand sides, `d`, `l`, `u`, or the rows of the packed further batch.
@@ -240,13 +260,13 @@ pub fn words(s: &[f64]) -> Vec<u64> {
 impl Case {
     pub fn new(call: Call, n: usize, a: Vec<f64>) -> Case {
         let (b, c, record, benches, list) = (vec![], vec![], vec![], vec![], vec![]);
-        Case { call, n, x: 0, y: 0, bench: 0, run: 0, info: 0, a, b, c, record, benches, list }
+        Case { call, n, x: 0, y: 0, bench: 0, run: 0, info: 0, floor: 0.0, a, b, c, record, benches, list }
     }
 
     /// Runs the call on what is lent, in place.
     pub fn run_in_place(&mut self, calls: &dyn Calls) -> (u64, Option<u64>) {
-        let Case { call, n, x, y, bench, run, info, a, b, c, record, benches, list } = self;
-        let (n, x, y, bench, run, info) = (*n, *x, *y, *bench, *run, *info);
+        let Case { call, n, x, y, bench, run, info, floor, a, b, c, record, benches, list } = self;
+        let (n, x, y, bench, run, info, floor) = (*n, *x, *y, *bench, *run, *info, *floor);
         match call {
             LbltFactor => (calls.lblt_factor(a, record, n, run), None),
             LbltSolve => (calls.lblt_solve(a, record, b, n, x, run), None),
@@ -256,6 +276,8 @@ impl Case {
             LbltLPermuted => (calls.lblt_l_permuted(a, record, b, n, run), None),
             CholeskyFactor => (calls.cholesky_factor(a, x, n), None),
             CholeskyExtend => (calls.cholesky_extend(a, x, y, n), None),
+            CholeskyFactorFloored => with_count(calls.cholesky_factor_floored(a, x, n, floor)),
+            CholeskyExtendFloored => with_count(calls.cholesky_extend_floored(a, x, y, n, floor)),
             CholeskySolve => (calls.cholesky_solve(a, b, x, n, y), None),
             CholeskyL => (calls.cholesky_l(a, b, x, n), None),
             CholeskyUnpack => (calls.cholesky_unpack(a, x, n), None),
@@ -285,17 +307,6 @@ impl Case {
         Outcome { answer, value, a, b, c, record: after.record, benches: after.benches, list: after.list }
     }
 
-    pub fn number(&self, which: Number) -> i128 {
-        match which {
-            N => self.n as i128,
-            X => self.x as i128,
-            Y => self.y as i128,
-            Bench => self.bench.into(),
-            Run => self.run.into(),
-            Info => self.info.into(),
-        }
-    }
-
     /// The second number of its call in a stored list: of a list's reader INFO's 32 bits.
     pub fn second(&self) -> usize {
         if self.call.form().numbers.contains(&Info) { self.info as u32 as usize } else { self.x }
@@ -314,4 +325,8 @@ impl Case {
 
 fn with_value((answer, value): (u64, f64)) -> (u64, Option<u64>) {
     (answer, Some(word(value)))
+}
+
+fn with_count((answer, count): (u64, u64)) -> (u64, Option<u64>) {
+    (answer, Some(count))
 }

@@ -10,7 +10,7 @@ extern crate self as simba;
 mod standin;
 
 pub use standin::dimension::{Dim, Dyn, U1};
-pub use standin::field::{ComplexField, One, RealField, Zero, convert, one, zero};
+pub use standin::field::{Arithmetic, ComplexField, One, RealField, Zero, convert, one, zero};
 pub use standin::matrix::{DefaultAllocator, Matrix, OMatrix, OVector};
 pub use standin::storage::Storage;
 
@@ -46,6 +46,7 @@ pub mod simd {
 pub mod back;
 pub mod call;
 pub mod cases;
+pub mod floored;
 pub mod line;
 pub mod list;
 pub mod packed;

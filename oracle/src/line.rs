@@ -1,8 +1,8 @@
 //! A case and an outcome as one line of text.
 //!
-//! A case: the call's name and its numbers in decimal, then for each slice `;` and its words in hex. An outcome: the answer in decimal,
-//! the value in hex if there is one (of `pivots_to_lapack` INFO and the run number in decimal), then every slice of the call as it is left, likewise.
-//! Fields are parted by blanks. A number of a list is the word of its 32 bits.
+//! A case: the call's name and its numbers in decimal, a floor in hex, then for each slice `;` and its words in hex. An outcome: the answer in decimal,
+//! the value in hex if there is one (of `pivots_to_lapack` INFO and the run number in decimal, of the floored calls the count in decimal), then every
+//! slice of the call as it is left, likewise. Fields are parted by blanks. A number of a list is the word of its 32 bits.
 
 use std::str::FromStr;
 
@@ -12,7 +12,15 @@ pub fn case_line(case: &Case) -> String {
     let form = case.call.form();
     let mut out = form.name.to_string();
     for &number in form.numbers {
-        out += &format!(" {}", case.number(number));
+        out += &match number {
+            Number::N => format!(" {}", case.n),
+            Number::X => format!(" {}", case.x),
+            Number::Y => format!(" {}", case.y),
+            Number::Bench => format!(" {}", case.bench),
+            Number::Run => format!(" {}", case.run),
+            Number::Info => format!(" {}", case.info),
+            Number::Floor => format!(" {:016x}", case.floor.to_bits()),
+        };
     }
     for &slice in form.slices {
         out += " ;";
@@ -32,6 +40,7 @@ pub fn outcome_line(case: &Case, outcome: &Outcome) -> String {
     let mut out = outcome.answer.to_string();
     match outcome.value {
         Some(value) if case.call == Call::PivotsToLapack => out += &format!(" {} {}", value as i32, value >> 32),
+        Some(used) if case.call.form().numbers.contains(&Number::Floor) => out += &format!(" {used}"),
         Some(value) => out += &format!(" {value:016x}"),
         None => {}
     }
@@ -84,6 +93,7 @@ pub fn parse_case(line: &str) -> Result<Case, String> {
             Number::Bench => case.bench = number(field)?,
             Number::Run => case.run = number(field)?,
             Number::Info => case.info = number(field)?,
+            Number::Floor => case.floor = f64::from_bits(word(field)?),
         }
     }
     if head.next().is_some() {
@@ -113,5 +123,9 @@ fn number<T: FromStr>(field: &str) -> Result<T, String> {
 }
 
 fn hex_words(fields: &str) -> Result<Vec<u64>, String> {
-    fields.split_whitespace().map(|w| u64::from_str_radix(w, 16).map_err(|_| format!("{w} is no word"))).collect()
+    fields.split_whitespace().map(word).collect()
+}
+
+fn word(field: &str) -> Result<u64, String> {
+    u64::from_str_radix(field, 16).map_err(|_| format!("{field} is no word"))
 }

@@ -30,7 +30,7 @@ pub fn step(mut x: u64) -> u64 {
 
 pub const DIGEST_START: u64 = 0x9e37_79b9_7f4a_7c15;
 
-fn digest_of(start: u64, words: &[u64]) -> u64 {
+pub(crate) fn digest_of(start: u64, words: &[u64]) -> u64 {
     words.iter().fold(step(start ^ words.len() as u64), |h, &w| step(h ^ w))
 }
 
@@ -254,7 +254,8 @@ impl<'a> Machine<'a> {
         let benches: Vec<u32> = self.words(Slice::C).iter().map(|&w| w as u32).collect();
         let list = benches.iter().map(|&w| w as i32).collect();
         let held = std::mem::replace(&mut self.held, Case::new(form.call, 0, vec![]));
-        self.held = Case { call: form.call, n, x, y, bench, run, info: x as i32, benches, list, ..held };
+        let floor = if form.numbers.contains(&Number::Floor) { the_one(&held.c) } else { 0.0 };
+        self.held = Case { call: form.call, n, x, y, bench, run, info: x as i32, floor, benches, list, ..held };
         let (answer, value) = self.held.run_in_place(self.calls);
         if form.slices.contains(&Slice::List) && written(form.call, Slice::List) {
             self.held.c = self.held.list.iter().map(|&number| f64::from_bits(number as u32 as u64)).collect();
@@ -335,6 +336,14 @@ impl<'a> Machine<'a> {
         let (answer, value) = self.call(call, 2, x, y);
         let h = step(step(h ^ answer) ^ value);
         left.iter().fold(h, |h, &s| digest_of(h, &self.words(s)))
+    }
+}
+
+/// The floor, which stands alone in its register.
+fn the_one(register: &[f64]) -> f64 {
+    match register {
+        &[floor] => floor,
+        _ => panic!("{} numbers where the floor stands", register.len()),
     }
 }
 
@@ -452,6 +461,7 @@ fn written(call: Call, slice: Slice) -> bool {
     match call {
         Call::LbltFactor | Call::PackedLbltFactor => true,
         Call::CholeskyFactor | Call::CholeskyExtend | Call::CholeskyUnpack | Call::PackedCholeskyFactor => true,
+        Call::CholeskyFactorFloored | Call::CholeskyExtendFloored => true,
         Call::PivotsFromLapack => slice == Slice::Record,
         Call::PackedCholeskyExtend => slice == Slice::C,
         _ => matches!(slice, Slice::B | Slice::C | Slice::List),

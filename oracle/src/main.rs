@@ -6,7 +6,7 @@ use std::process::ExitCode;
 
 use oracle::call::Calls;
 use oracle::line::{case_line, outcome_line, parse_case};
-use oracle::{cases, packed, paper::Paper, text::Text};
+use oracle::{cases, floored, packed, paper::Paper, text::Text};
 
 fn main() -> ExitCode {
     let words: Vec<String> = std::env::args().skip(1).collect();
@@ -40,13 +40,17 @@ fn print_family(seed: &str) -> Result<(), Box<dyn std::error::Error>> {
     let seed = seed.parse()?;
     let parts = [cases::family(seed).cases, cases::solves(seed), cases::twins(seed), cases::benches(seed), cases::lists(seed)];
     for case in parts.iter().flatten() {
-        writeln!(out, "{}", case_line(case))?;
-        if let Some(packed) = packed::beside(case) {
-            writeln!(out, "{}", case_line(&packed))?;
+        for case in [case.clone()].into_iter().chain(packed::beside(case)).chain(floored::beside(case)) {
+            writeln!(out, "{}", case_line(&case))?;
         }
     }
-    for (batch, _) in packed::packed_batches(&Text, &cases::packed_chain(seed)) {
-        writeln!(out, "{}", case_line(&batch))?;
+    for case in cases::floored(seed) {
+        writeln!(out, "{}", case_line(&case))?;
+    }
+    let (chain, floor) = cases::floored_chain(seed);
+    let floored_batches = floored::floored_batches(&Text, &chain, floor);
+    for (batch, _) in packed::packed_batches(&Text, &cases::packed_chain(seed)).iter().chain(&floored_batches) {
+        writeln!(out, "{}", case_line(batch))?;
     }
     Ok(out.flush()?)
 }

@@ -126,7 +126,7 @@ pub fn full_batches(calls: &dyn Calls, chain: &Chain) -> Vec<Batch> {
     })
 }
 
-fn batches(calls: &dyn Calls, cuts: &[usize], batch: impl Fn(usize, usize, Option<&Outcome>) -> Case) -> Vec<Batch> {
+pub(crate) fn batches(calls: &dyn Calls, cuts: &[usize], batch: impl Fn(usize, usize, Option<&Outcome>) -> Case) -> Vec<Batch> {
     let mut out: Vec<Batch> = vec![];
     for &cut in cuts {
         let earlier = out.last().map_or(0, |(last, _)| last.n);

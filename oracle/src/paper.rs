@@ -1,6 +1,7 @@
 //! The calls, written from document 01's steps and without the text: a matrix is read and written by `a[(i, j)]`, the loops run entry by entry.
-//! Cholesky's solve, the codes of a diagonal that is turned down, the row that a mark may name, the run number, the bench's solve, LAPACK's lists and
-//! packed triangles are written from document 02. The packed calls take the same steps on the packed places; nothing is unpacked.
+//! Cholesky's solve, the codes of a diagonal that is turned down, the floor and how many columns used it, the row that a mark may name, the run number,
+//! the bench's solve, LAPACK's lists and packed triangles are written from document 02. The packed calls take the same steps on the packed places;
+//! nothing is unpacked.
 //! The calls for rows that came twice are written from what twin rows are: all pairs are compared, one after the other.
 
 // sums and quotients stand as the documents write them
@@ -187,24 +188,38 @@ impl Lent<&mut [f64]> {
         x
     }
 
-    /// Column j for the rows from `from` on, and its answer.
-    fn cholesky_column(&mut self, n: usize, from: usize, j: usize) -> u64 {
+    /// Column j for the rows from `from` on: whether its diagonal failed and the floor stands in for it, or its refusal.
+    fn cholesky_column(&mut self, n: usize, from: usize, j: usize, floor: Option<f64>) -> Result<bool, u64> {
         for i in from.max(j)..n {
             self[(i, j)] = self.updated(i, j);
         }
+        let mut floored = false;
         if from <= j {
-            let x = self[(j, j)];
-            match x.partial_cmp(&0.0) {
-                Some(Ordering::Greater) => self[(j, j)] = x.sqrt(),
-                Some(Ordering::Equal) => return code(7, j),
-                Some(Ordering::Less) => return code(10, j),
-                None => return code(11, j),
+            let mut x = self[(j, j)];
+            if let Some(why) = failing(x) {
+                // document 02: the floor if it passes itself, otherwise the refusal is the diagonal's own
+                match floor {
+                    Some(floor) if failing(floor).is_none() => x = floor,
+                    _ => return Err(code(why, j)),
+                }
+                floored = true;
             }
+            self[(j, j)] = x.sqrt();
         }
         for i in from.max(j + 1)..n {
             self[(i, j)] = self[(i, j)] / self[(j, j)];
         }
-        0
+        Ok(floored)
+    }
+}
+
+/// Document 02: the code of a number that fails a diagonal's test.
+fn failing(x: f64) -> Option<u64> {
+    match x.partial_cmp(&0.0) {
+        Some(Ordering::Greater) => None,
+        Some(Ordering::Equal) => Some(7),
+        Some(Ordering::Less) => Some(10),
+        None => Some(11),
     }
 }
 
@@ -405,9 +420,23 @@ fn lblt_determinant(a: &Lent<&[f64]>, record: &[u32], n: usize, run: u32) -> (u6
     (0, product)
 }
 
-/// The rows from `earlier` on, and the answer.
-fn cholesky_rows(mut a: Lent<&mut [f64]>, earlier: usize, n: usize) -> u64 {
-    (0..n).map(|j| a.cholesky_column(n, earlier, j)).find(|&answer| answer != 0).unwrap_or(0)
+/// The rows from `earlier` on: the answer, and how many of the finished columns used the floor.
+fn cholesky_rows(mut a: Lent<&mut [f64]>, earlier: usize, n: usize, floor: Option<f64>) -> (u64, u64) {
+    let mut used = 0;
+    for j in 0..n {
+        match a.cholesky_column(n, earlier, j, floor) {
+            Ok(floored) => used += u64::from(floored),
+            Err(refused) => return (refused, used),
+        }
+    }
+    (0, used)
+}
+
+fn cholesky_in_room(a: &mut [f64], room: usize, earlier: usize, n: usize, floor: Option<f64>) -> (u64, u64) {
+    match in_room(a, room, earlier, n) {
+        0 => cholesky_rows(full(a, room), earlier, n, floor),
+        refused => (refused, 0),
+    }
 }
 
 /// Rows p < q are twins if entry (q, k) of the symmetric matrix is entry (p, k) for every k: the same bits, or both NaN.
@@ -574,11 +603,15 @@ impl Calls for Paper {
     }
 
     fn cholesky_extend(&self, a: &mut [f64], room: usize, earlier: usize, n: usize) -> u64 {
-        let refused = in_room(a, room, earlier, n);
-        if refused != 0 {
-            return refused;
-        }
-        cholesky_rows(full(a, room), earlier, n)
+        cholesky_in_room(a, room, earlier, n, None).0
+    }
+
+    fn cholesky_factor_floored(&self, a: &mut [f64], room: usize, n: usize, floor: f64) -> (u64, u64) {
+        self.cholesky_extend_floored(a, room, 0, n, floor)
+    }
+
+    fn cholesky_extend_floored(&self, a: &mut [f64], room: usize, earlier: usize, n: usize, floor: f64) -> (u64, u64) {
+        cholesky_in_room(a, room, earlier, n, Some(floor))
     }
 
     fn cholesky_solve(&self, a: &[f64], b: &mut [f64], room: usize, n: usize, columns: usize) -> u64 {
@@ -751,7 +784,7 @@ impl Calls for Paper {
         if !a.has_its_length() {
             return code(3, 0);
         }
-        cholesky_rows(a, 0, n)
+        cholesky_rows(a, 0, n, None).0
     }
 
     fn packed_cholesky_extend(&self, old: &[f64], rows: &[f64], fresh: &mut [f64], earlier: usize, n: usize) -> u64 {
@@ -774,7 +807,7 @@ impl Calls for Paper {
                 new[(i, j)] = if i < earlier { old[(i, j)] } else { rows[i * (i + 1) / 2 - old.layout.length() + j] };
             }
         }
-        cholesky_rows(new, earlier, n)
+        cholesky_rows(new, earlier, n, None).0
     }
 
     fn packed_cholesky_solve(&self, a: &[f64], b: &mut [f64], n: usize, columns: usize) -> u64 {

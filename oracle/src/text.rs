@@ -1,11 +1,12 @@
 //! The calls, answered by the text.
 //!
-//! The text itself answers `LBLT::new`, `solve_mut`, `determinant`, `d`, `l_permuted`, `Cholesky::new`, `l`, `unpack`, `determinant` and
-//! `UDU::new`. What follows document 01 because the text says nothing of it is marked "document 01": the checks before a call, the room, the
-//! further batch, and what stays in the buffers after a refusal. Marked "document 02" are the codes of a diagonal that is turned down, the row that a
-//! mark may name, the run number, which columns are a bench's, LAPACK's lists: each number of a list is a pair of a record, and the record's rule
-//! is the list's; and packed triangles: they are unpacked, answered in the full layout and packed again. The text has no call for rows that came twice,
-//! and its Cholesky solve rests on triangular solves that it does not contain: the steps answer these calls here too, in the full layout.
+//! The text itself answers `LBLT::new`, `solve_mut`, `determinant`, `d`, `l_permuted`, `Cholesky::new`, `new_with_substitute`, `l`, `unpack`,
+//! `determinant` and `UDU::new`. What follows document 01 because the text says nothing of it is marked "document 01": the checks before a call, the
+//! room, the further batch, and what stays in the buffers after a refusal. Marked "document 02" are the codes of a diagonal that is turned down, the
+//! floor of a further batch and how many columns used it, the row that a mark may name, the run number, which columns are a bench's, LAPACK's lists:
+//! each number of a list is a pair of a record, and the record's rule is the list's; and packed triangles: they are unpacked, answered in the full
+//! layout and packed again. The text has no call for rows that came twice, and its Cholesky solve rests on triangular solves that it does not contain:
+//! the steps answer these calls here too, in the full layout.
 
 use crate::call::{Calls, mark, pairs, record_length};
 use crate::linalg::cholesky::Cholesky;
@@ -149,16 +150,37 @@ fn turned_down(diagonal: f64) -> Option<u64> {
     }
 }
 
+/// The text's factor, with a floor by its substitute.
+fn cholesky_by_text(matrix: Square, floor: Option<f64>) -> Option<Cholesky<f64, Dyn>> {
+    match floor {
+        None => Cholesky::new(matrix),
+        Some(floor) => Cholesky::new_with_substitute(matrix, floor),
+    }
+}
+
+fn cholesky_factor(a: &mut [f64], room: usize, n: usize, floor: Option<f64>) -> u64 {
+    if let Some(refused) = checks::in_room(a, room, 0, n) {
+        return refused;
+    }
+    match cholesky_by_text(leading(a, room, n), floor) {
+        Some(factor) => {
+            put_leading(a, room, n, factor.l_dirty().as_slice());
+            DONE
+        }
+        None => refused_cholesky(a, room, n, floor),
+    }
+}
+
 /// What the text leaves behind when it answers `None`: the columns before the refused one are those of `new_unchecked`, which refuses nothing.
 /// Document 01: the refused column is updated and undivided, later ones untouched.
-fn refused_cholesky(a: &mut [f64], room: usize, n: usize) -> u64 {
+fn refused_cholesky(a: &mut [f64], room: usize, n: usize, floor: Option<f64>) -> u64 {
     let given = leading(a, room, n);
     let finished = Cholesky::new_unchecked(given.clone()).unpack_dirty();
     for j in 0..n {
         let diagonal = updated(a, room, j, j);
         if let Some(code) = turned_down(diagonal) {
-            assert!(Cholesky::new(leading_of(&given, n, j)).is_some(), "the text refuses before {j}");
-            assert!(Cholesky::new(leading_of(&given, n, j + 1)).is_none(), "the text goes beyond {j}");
+            assert!(cholesky_by_text(leading_of(&given, n, j), floor).is_some(), "the text refuses before {j}");
+            assert!(cholesky_by_text(leading_of(&given, n, j + 1), floor).is_none(), "the text goes beyond {j}");
             for i in j..n {
                 a[i + j * room] = updated(a, room, i, j);
             }
@@ -169,6 +191,49 @@ fn refused_cholesky(a: &mut [f64], room: usize, n: usize) -> u64 {
         }
     }
     panic!("the text refuses a matrix that document 01 accepts")
+}
+
+/// Document 01: the first `earlier` rows are taken as factored, the work is on the rows from there on, in the text's order for each entry.
+/// Document 02: the floor as in the text.
+fn cholesky_extend(a: &mut [f64], room: usize, earlier: usize, n: usize, floor: Option<f64>) -> u64 {
+    if let Some(refused) = checks::in_room(a, room, earlier, n) {
+        return refused;
+    }
+    let root = |x: f64| turned_down(x).is_none().then(|| x.sqrt());
+    for j in 0..n {
+        for i in j.max(earlier)..n {
+            a[i + j * room] = updated(a, room, i, j);
+        }
+        if j >= earlier {
+            let diagonal = a[j + j * room];
+            match root(diagonal).or_else(|| floor.and_then(root)) {
+                Some(denom) => a[j + j * room] = denom,
+                None => return refusal(turned_down(diagonal).expect("a diagonal without a root"), j),
+            }
+        }
+        for i in earlier.max(j + 1)..n {
+            a[i + j * room] /= a[j + j * room];
+        }
+    }
+    DONE
+}
+
+/// Document 02: the answer and, of the columns from `earlier` on that the call finished, the number of those whose updated diagonal fails. It is worked
+/// out after the call, from the diagonals as they were given and the finished rows.
+fn with_count(a: &mut [f64], room: usize, earlier: usize, n: usize, call: impl FnOnce(&mut [f64]) -> u64) -> (u64, u64) {
+    let given = a.to_vec();
+    let answer = call(a);
+    let finished = match answer / 4096 {
+        0 => earlier..n,
+        7 | 10 | 11 => earlier..(answer % 4096) as usize,
+        _ => 0..0,
+    };
+    let mut open = a.to_vec();
+    let fails = |j: usize| {
+        open[j + j * room] = given[j + j * room];
+        turned_down(updated(&open, room, j, j)).is_some()
+    };
+    (answer, finished.map(fails).filter(|&fails| fails).count() as u64)
 }
 
 fn leading_of(whole: &Square, n: usize, m: usize) -> Square {
@@ -259,39 +324,19 @@ impl Calls for Text {
     }
 
     fn cholesky_factor(&self, a: &mut [f64], room: usize, n: usize) -> u64 {
-        if let Some(refused) = checks::in_room(a, room, 0, n) {
-            return refused;
-        }
-        match Cholesky::new(leading(a, room, n)) {
-            Some(factor) => {
-                put_leading(a, room, n, factor.l_dirty().as_slice());
-                DONE
-            }
-            None => refused_cholesky(a, room, n),
-        }
+        cholesky_factor(a, room, n, None)
     }
 
-    /// Document 01: the first `earlier` rows are taken as factored, the work is on the rows from there on, in the text's order for each entry.
     fn cholesky_extend(&self, a: &mut [f64], room: usize, earlier: usize, n: usize) -> u64 {
-        if let Some(refused) = checks::in_room(a, room, earlier, n) {
-            return refused;
-        }
-        for j in 0..n {
-            for i in j.max(earlier)..n {
-                a[i + j * room] = updated(a, room, i, j);
-            }
-            if j >= earlier {
-                let diagonal = a[j + j * room];
-                if let Some(code) = turned_down(diagonal) {
-                    return refusal(code, j);
-                }
-                a[j + j * room] = diagonal.sqrt();
-            }
-            for i in earlier.max(j + 1)..n {
-                a[i + j * room] /= a[j + j * room];
-            }
-        }
-        DONE
+        cholesky_extend(a, room, earlier, n, None)
+    }
+
+    fn cholesky_factor_floored(&self, a: &mut [f64], room: usize, n: usize, floor: f64) -> (u64, u64) {
+        with_count(a, room, 0, n, |a| cholesky_factor(a, room, n, Some(floor)))
+    }
+
+    fn cholesky_extend_floored(&self, a: &mut [f64], room: usize, earlier: usize, n: usize, floor: f64) -> (u64, u64) {
+        with_count(a, room, earlier, n, |a| cholesky_extend(a, room, earlier, n, Some(floor)))
     }
 
     fn cholesky_solve(&self, a: &[f64], b: &mut [f64], room: usize, n: usize, columns: usize) -> u64 {

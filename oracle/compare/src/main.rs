@@ -3,7 +3,10 @@
 //! compared, all NaNs being one. The calls that the steps alone answer are compared with the port. UDU of every block of rows and columns m to n − 1 is
 //! held against those rows and columns of UDU of the whole, a bench's solve against one that differs only in the columns of the other benches, and a list
 //! or a record against what comes back of it. Beside every full call that has one its packed call is made and held against it, and packed batches are held
-//! against one packed call on the whole and against the batches of the full layout. What is packed is counted by itself.
+//! against one packed call on the whole and against the batches of the full layout. Beside every plain factor and further batch of Cholesky floored calls
+//! are made and held against it, and floored batches against one floored call. What is packed or floored is counted by itself.
+
+mod floored;
 
 use std::collections::BTreeMap;
 use std::process::ExitCode;
@@ -14,6 +17,8 @@ use oracle::line::{case_line, outcome_line};
 use oracle::paper::Paper;
 use oracle::text::Text;
 use oracle::{back, packed, pair, tail};
+
+use floored::Floored;
 
 fn main() -> ExitCode {
     let words: Vec<String> = std::env::args().skip(1).collect();
@@ -59,23 +64,39 @@ fn main() -> ExitCode {
     println!("LAPACK's lists of orders up to 5: {} calls", tally.calls() - before);
     cases::packed_refusals().iter().chain(&cases::largest_packed()).for_each(|case| _ = tally.hold_packed(case));
     cases::full_calls_on_triangles().iter().for_each(|case| tally.hold_unfit(case));
-    cases::largest_chains().iter().chain(&cases::chains_of_all_cuts()).for_each(|chain| tally.hold_packed_chain(chain));
+    let chains = cases::chains_of_all_cuts();
+    cases::largest_chains().iter().chain(&chains).for_each(|chain| tally.hold_packed_chain(chain));
     println!("packed beside these, and of their own: {} calls, {} chains", tally.packed.calls(), tally.packed.chains());
+    let floored = [cases::floored_sweep(), cases::floored_refusals(), cases::largest_floored()];
+    floored.iter().flatten().for_each(|case| tally.hold_floored(case));
+    chains.iter().for_each(|chain| tally.hold_floored_chains(chain));
+    let (chain, floor) = cases::largest_floored_chain();
+    tally.hold_floored_chain(&chain, floor);
+    println!("floored beside these, and of their own: {} calls, {} chains", tally.floored.calls(), tally.floored.chains());
     let before = tally.calls();
     let (packed_calls, packed_chains) = (tally.packed.calls(), tally.packed.chains());
+    let (floored_calls, floored_chains) = (tally.floored.calls(), tally.floored.chains());
     for seed in first..first + seeds {
         let family = cases::family(seed);
         family.cases.iter().for_each(|case| tally.hold(case));
         family.chains.iter().for_each(|chain| tally.hold_chain(chain));
-        family.chains.iter().chain([&cases::packed_chain(seed)]).for_each(|chain| tally.hold_packed_chain(chain));
+        for chain in family.chains.iter().chain([&cases::packed_chain(seed)]) {
+            tally.hold_packed_chain(chain);
+            tally.hold_floored_chains(chain);
+        }
         cases::solves(seed).iter().for_each(|case| tally.hold(case));
         cases::twins(seed).iter().for_each(|case| tally.hold(case));
         cases::benches(seed).iter().for_each(|case| tally.hold(case));
         cases::lists(seed).iter().for_each(|case| tally.hold(case));
+        cases::floored(seed).iter().for_each(|case| tally.hold_floored(case));
+        let (chain, floor) = cases::floored_chain(seed);
+        tally.hold_floored_chain(&chain, floor);
     }
     println!("seeds {first} to {}: {} calls", (first + seeds).saturating_sub(1), tally.calls() - before);
     let (calls, chains) = (tally.packed.calls() - packed_calls, tally.packed.chains() - packed_chains);
     println!("packed beside these, and of their own: {calls} calls, {chains} chains");
+    let (calls, chains) = (tally.floored.calls() - floored_calls, tally.floored.chains() - floored_chains);
+    println!("floored beside these, and of their own: {calls} calls, {chains} chains");
     tally.print(against);
     if tally.differences == 0 { ExitCode::SUCCESS } else { ExitCode::FAILURE }
 }
@@ -94,6 +115,7 @@ struct Tally<'a> {
     pairs: Pairs,
     backs: Backs,
     packed: Packed,
+    floored: Floored,
     differences: u64,
     smallest: Option<(usize, String)>,
 }
@@ -162,6 +184,7 @@ impl<'a> Tally<'a> {
             pairs: Pairs::default(),
             backs: Backs::default(),
             packed: Packed::default(),
+            floored: Floored::default(),
             differences: 0,
             smallest: None,
         }
@@ -208,6 +231,7 @@ impl<'a> Tally<'a> {
         if text.answer == 0 && matches!(case.call, Call::PivotsFromLapack | Call::PivotsToLapack) {
             self.hold_back(case, text, other);
         }
+        self.hold_floors(case, text, other);
     }
 
     fn hold_alike(&mut self, case: &Case, text: &Outcome, other: &Outcome) {
@@ -405,8 +429,10 @@ impl<'a> Tally<'a> {
             "  chains of packed batches: {} accepted, {} refused, with {} batches",
             self.packed.accepted, self.packed.refused, self.packed.batches
         );
+        self.floored.print();
         println!(
-            "text against {against}: {} calls, {} chains, {} blocks, {} pairs, {} there and back, {} packed calls, {} packed chains, {} differ",
+            "text against {against}: {} calls, {} chains, {} blocks, {} pairs, {} there and back, {} packed calls, {} packed chains, \
+             {} floored calls, {} floored chains, {} differ",
             self.calls(),
             self.chains,
             self.tails.accepted + self.tails.before + self.tails.within,
@@ -414,6 +440,8 @@ impl<'a> Tally<'a> {
             self.backs.lists + self.backs.records,
             self.packed.calls(),
             self.packed.chains(),
+            self.floored.calls(),
+            self.floored.chains(),
             self.differences
         );
         if let Some((_, said)) = &self.smallest {

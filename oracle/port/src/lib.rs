@@ -15,6 +15,12 @@ struct Listed {
     run: u32,
 }
 
+#[repr(C)]
+struct Floored {
+    answer: u64,
+    used: u64,
+}
+
 unsafe extern "C" {
     fn urgyelpat_lblt_factor(a: *mut f64, a_len: usize, record: *mut u32, record_len: usize, n: usize, run: u32) -> u64;
     fn urgyelpat_lblt_solve(
@@ -65,6 +71,8 @@ unsafe extern "C" {
     ) -> u64;
     fn urgyelpat_cholesky_factor(a: *mut f64, a_len: usize, room: usize, n: usize) -> u64;
     fn urgyelpat_cholesky_extend(a: *mut f64, a_len: usize, room: usize, earlier: usize, n: usize) -> u64;
+    fn urgyelpat_cholesky_factor_floored(a: *mut f64, a_len: usize, room: usize, n: usize, floor: f64) -> Floored;
+    fn urgyelpat_cholesky_extend_floored(a: *mut f64, a_len: usize, room: usize, earlier: usize, n: usize, floor: f64) -> Floored;
     fn urgyelpat_cholesky_solve(a: *const f64, a_len: usize, b: *mut f64, b_len: usize, room: usize, n: usize, columns: usize) -> u64;
     fn urgyelpat_cholesky_l(a: *const f64, a_len: usize, l: *mut f64, l_len: usize, room: usize, n: usize) -> u64;
     fn urgyelpat_cholesky_unpack(a: *mut f64, a_len: usize, room: usize, n: usize) -> u64;
@@ -185,6 +193,18 @@ impl Calls for Port {
     #[inline]
     fn cholesky_extend(&self, a: &mut [f64], room: usize, earlier: usize, n: usize) -> u64 {
         unsafe { urgyelpat_cholesky_extend(a.as_mut_ptr(), a.len(), room, earlier, n) }
+    }
+
+    #[inline]
+    fn cholesky_factor_floored(&self, a: &mut [f64], room: usize, n: usize, floor: f64) -> (u64, u64) {
+        let r = unsafe { urgyelpat_cholesky_factor_floored(a.as_mut_ptr(), a.len(), room, n, floor) };
+        (r.answer, r.used)
+    }
+
+    #[inline]
+    fn cholesky_extend_floored(&self, a: &mut [f64], room: usize, earlier: usize, n: usize, floor: f64) -> (u64, u64) {
+        let r = unsafe { urgyelpat_cholesky_extend_floored(a.as_mut_ptr(), a.len(), room, earlier, n, floor) };
+        (r.answer, r.used)
     }
 
     #[inline]

@@ -313,6 +313,9 @@ fn taken(mut case: Case) -> Case {
     if !form.numbers.contains(&Number::Run) {
         case.run = 0;
     }
+    if !form.numbers.contains(&Number::Floor) {
+        case.floor = 0.0;
+    }
     if !form.slices.contains(&Slice::B) {
         case.b.clear();
     }

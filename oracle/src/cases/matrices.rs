@@ -38,7 +38,7 @@ impl Symmetric {
         self.cells[i + j * self.n]
     }
 
-    fn put(&mut self, i: usize, j: usize, x: f64) {
+    pub(super) fn put(&mut self, i: usize, j: usize, x: f64) {
         self.cells[i + j * self.n] = x;
         self.cells[j + i * self.n] = x;
     }
@@ -395,6 +395,10 @@ pub const FOR_SOLVE: [Maker; 10] =
 
 /// To be solved by as they are, their lower part a factor of nothing.
 pub const FOR_FACTOR: [Maker; 6] = [plain, plain, plain, whole_triangle, whole_triangle, graded_rows];
+
+/// To be factored with a floor.
+pub const FOR_FLOOR: [Maker; 11] =
+    [plain, well_scaled, twin_rows, indefinite, block_diagonal, heavy_diagonal, low_rank, definite, definite_exact, hilbert, graded];
 
 pub fn symmetric(r: &mut Rng, makers: &[Maker], n: usize) -> Symmetric {
     let make = r.pick(makers);

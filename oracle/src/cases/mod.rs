@@ -3,6 +3,7 @@
 mod benches;
 mod families;
 mod fixed;
+mod floored;
 mod lists;
 mod matrices;
 mod packed;
@@ -13,6 +14,10 @@ mod twins;
 pub use benches::{bench_lists, benches, benches_of_all_orders, largest_benches};
 pub use families::{Chain, Family, alpha_case, family, largest, many_columns};
 pub use fixed::{SPECIAL, marks, refusals, runs, sweep};
+pub use floored::{
+    FAILING, PASSING, floored, floored_chain, floored_refusals, floored_sweep, floors_beside, floors_for, largest_floored,
+    largest_floored_chain,
+};
 pub use lists::{largest_lists, lists, lists_but_one_bit, lists_over, short_lists, short_records, sound_lists};
 pub use matrices::{fill, filled};
 pub use packed::{chains_of_all_cuts, full_calls_on_triangles, largest_chains, largest_packed, packed_chain, packed_refusals};

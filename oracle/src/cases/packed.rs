@@ -151,7 +151,7 @@ fn small_matrices(r: &mut Rng, n: usize) -> Vec<Symmetric> {
 }
 
 /// Row and column q are those of p.
-fn again(m: &Symmetric, p: usize, q: usize) -> Symmetric {
+pub(super) fn again(m: &Symmetric, p: usize, q: usize) -> Symmetric {
     let source = |row: usize| if row == q { p } else { row };
     Symmetric::of(m.n, |i, j| m.get(source(i).max(source(j)), source(i).min(source(j))))
 }

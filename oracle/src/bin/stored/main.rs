@@ -1,12 +1,14 @@
 //! stored FOLDER: writes the stored lists, each as FOLDER/NAME/stdin.
 //! stored --replay FOLDER: replays them on the text and on the steps and says what differs.
 
+mod floored;
+
 use std::path::Path;
 use std::process::ExitCode;
 use std::{env, fs, io};
 
 use oracle::back::reader;
-use oracle::call::{Call, Calls, Case, Slice, record_length};
+use oracle::call::{Call, Calls, Case, Number, Slice, record_length};
 use oracle::cases::{self, Rng, SPECIAL, fill, filled};
 use oracle::list::{MOST, Machine, Pattern, Spot, Writer};
 use oracle::packed::{beside, pack, packed_length};
@@ -75,6 +77,9 @@ fn emit(w: &mut Writer, case: &Case) -> u64 {
             Slice::List => signed(&case.list),
         };
         set_unless_there(w, slice, &words);
+    }
+    if case.call.form().numbers.contains(&Number::Floor) {
+        floored::set_floor(w, case.floor);
     }
     w.call(case.call, case.n, case.second(), case.third())
 }
@@ -555,6 +560,7 @@ fn cholesky(w: &mut Writer) {
     w.sweep(2, &SPECIAL);
     cholesky_solves(w);
     packed_cholesky(w);
+    floored::cholesky(w);
 }
 
 /// Solves of the seeds from `seed` on with orders from `orders`, the shorter ones, until `words` more have been written.
