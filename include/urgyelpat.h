@@ -24,7 +24,8 @@
  *
  * ANSWERS. An answer is code * 4096 + place; 0 is done. The checks 1 to 5, then 13, then 6 run in that order, and the first
  * that fails is the answer; every buffer is then as it was. For a LAPACK list, 12 stands where 5 does for a record. Cholesky
- * and UDU go on from there column by column, UDU from the last one back, and the first diagonal that fails gives its code.
+ * and UDU go on from there column by column, UDU from the last one back, and the first diagonal that fails gives its code,
+ * unless a floor stands in for it (two Cholesky calls take one).
  *
  *   code                             given exactly if                                          place
  *   0  URGYELPAT_DONE                the result stands in the buffers                          0
@@ -47,9 +48,10 @@
  *                                                                                              n for INFO
  *   13 URGYELPAT_OTHER_RUN           the pivot record has another run number than expected     0
  *
- * Cholesky judges a diagonal once it is updated by the columns before it; exactly one of "passes", 7, 10 and 11 fits it. A NaN
- * on the diagonal of a row that is handed in, or left of it, is never accepted: where the sizes fit, that row is refused by 11,
- * if none before it is.
+ * Cholesky judges a diagonal once it is updated by the columns before it; exactly one of "passes" (above zero, +infinity too),
+ * 7, 10 and 11 fits it. By the calls without a floor a NaN on the diagonal of a row that is handed in, or left of it, is never
+ * accepted: where the sizes fit, that row is refused by 11, if none before it is. With a floor that passes it is accepted, and
+ * the call says by a count that the floor was used.
  * What stands in the buffers after 7, 8, 10 and 11 is said at the functions that give them. Everything is promised to the bit
  * but a NaN's sign and payload: a NaN is a NaN, in results and in what is kept. (That a kept NaN keeps its bits is tested.)
  */
@@ -106,6 +108,13 @@ typedef struct urgyelpat_listed {
     int32_t info;
     uint32_t run;
 } urgyelpat_listed;
+
+/* The answer of a Cholesky call with a floor, and how many columns used the floor: of those from the earlier order on (from 0 on
+ * in the factor call), the ones whose diagonal failed once it was updated. used is 0 where the call is refused. */
+typedef struct urgyelpat_floored {
+    uint64_t answer;
+    uint64_t used;
+} urgyelpat_floored;
 
 /* ---- LBLT: P A P^T = L D L^T on paper, by Bunch and Kaufman's pivoting ----
  *
@@ -237,6 +246,36 @@ URGYELPAT_MUST_USE uint64_t urgyelpat_cholesky_factor(double *a, size_t a_length
  * Answers 0, 1, 2, 3 (a), 7, 10, 11. */
 URGYELPAT_MUST_USE uint64_t urgyelpat_cholesky_extend(double *a, size_t a_length, size_t room, size_t earlier, size_t n);
 
+/* urgyelpat_cholesky_factor with a floor for the diagonal. Where the diagonal of a column fails once it is updated and the floor
+ * passes (above zero, +infinity too), the floor stands in for it: the root of the floor is stored there, the rows below are
+ * divided by that root, and the column is counted in `used`. Where the floor fails too (zero, below zero, NaN), the refusal is
+ * the diagonal's own, 7, 10 or 11 at that column; while no diagonal needs it, such a floor does no harm.
+ * Proved of this call and the next, beside the call without a floor on the same numbers:
+ *   - Where that call is done, this one gives the same answer and buffer, whatever the floor, and used is 0.
+ *   - Where used is 0, answer and buffer are that call's. So what that call refuses is refused here too, or counted.
+ *   - A floor that fails: answer and buffer are that call's, and used is 0. One that passes: no diagonal is refused, and only
+ *     1, 2 and 3 are left.
+ *   - A call that is refused, by whichever code, has used none, and leaves the buffer as that call leaves it.
+ * A FLOOR HIDES what the call without one shows. A row that came twice, a broken probe's NaN and a matrix that is not positive
+ * definite are accepted, and `used` is the only sign. ([NaN] with floor 4 gives [2]; a NaN left of the diagonal stays in the
+ * factor.) A row that came twice may also leave a crumb above zero, which is neither refused nor counted. So ask
+ * urgyelpat_first_twin before, of a batch urgyelpat_first_twin_since, and look at `used` after each call. Where it is not 0,
+ * the factor is not that of A: on paper it is that of A with each counted diagonal raised, by the floor less what was left
+ * there, and a solution or a determinant by it is that matrix's.
+ * Answers 0, 1, 2, 3 (a), 7, 10, 11. */
+URGYELPAT_MUST_USE urgyelpat_floored urgyelpat_cholesky_factor_floored(double *a, size_t a_length, size_t room, size_t n,
+                                                                       double floor);
+
+/* urgyelpat_cholesky_extend with a floor: the same for the rows earlier to n - 1. The diagonals of the first `earlier` rows are
+ * neither tested nor counted. With one floor for all of them, the batches of a matrix give what one call of
+ * urgyelpat_cholesky_factor_floored on the whole gives, to the bit, and are refused by the same code at the same row, and their
+ * counts add up to the count of that call.
+ * After 7, 10 or 11 at column j (earlier <= j): as after urgyelpat_cholesky_extend, and used is 0.
+ * Ask urgyelpat_first_twin_since first, and look at `used` after each batch.
+ * Answers 0, 1, 2, 3 (a), 7, 10, 11. */
+URGYELPAT_MUST_USE urgyelpat_floored urgyelpat_cholesky_extend_floored(double *a, size_t a_length, size_t room, size_t earlier,
+                                                                       size_t n, double floor);
+
 /* Solves A X = B in b (n*columns numbers, n for each column, whatever the room) by the factor that stands in a. The solution
  * of a column depends on the factor and that column alone. No number of the factor is refused: a zero on its diagonal gives
  * infinities or NaN, and what a refused factor left is read as it stands.
@@ -298,7 +337,7 @@ static inline uint32_t urgyelpat_twin_q(uint64_t answer) { return urgyelpat_code
  * `packed_` on the same lower part with the order for its room, code and place included, and so are the record, the solution
  * and the value; what stands packed after the call is what then stands in the lower part there. Codes, records, marks, run
  * numbers, urgyelpat_callers_row and the pairs of twins mean the same, and a record does not say in which layout its factor
- * stands. */
+ * stands. There are no packed calls with a floor. */
 
 /* How many numbers a packed matrix of order n has, and where its entry (i, j), j <= i < n, stands; for orders up to 1024. The
  * first is also where row n begins if lower rows stand end to end, i + 1 numbers for row i. */

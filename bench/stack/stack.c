@@ -18,6 +18,8 @@
 #define MANY ((size_t)67)
 /* the run number of every record */
 #define RUN ((uint32_t)7)
+/* the floor of every call that takes one */
+#define FLOOR 4.0
 
 typedef enum {
     EMPTY,
@@ -32,6 +34,8 @@ typedef enum {
     PIVOTS_TO_LAPACK,
     CHOLESKY_FACTOR,
     CHOLESKY_EXTEND,
+    CHOLESKY_FACTOR_FLOORED,
+    CHOLESKY_EXTEND_FLOORED,
     CHOLESKY_SOLVE_ONE,
     CHOLESKY_SOLVE_MANY,
     CHOLESKY_L,
@@ -67,6 +71,8 @@ static const char *const names[CALLS] = {
     "pivots_to_lapack",
     "cholesky_factor",
     "cholesky_extend, the second half",
+    "cholesky_factor_floored",
+    "cholesky_extend_floored, the second half",
     "cholesky_solve, 1 column",
     "cholesky_solve, 67 columns",
     "cholesky_l",
@@ -186,6 +192,13 @@ static void prepare(which call, size_t n)
         fill_random(n, (double)n);
         answer = urgyelpat_cholesky_factor(a, n * n, n, n / 2);
         break;
+    case CHOLESKY_FACTOR_FLOORED: /* which uses the floor */
+        fill_random(n, 0.0);
+        break;
+    case CHOLESKY_EXTEND_FLOORED:
+        fill_random(n, 0.0);
+        answer = urgyelpat_cholesky_factor_floored(a, n * n, n, n / 2, FLOOR).answer;
+        break;
     case CHOLESKY_SOLVE_ONE:
     case CHOLESKY_SOLVE_MANY:
     case CHOLESKY_L:
@@ -294,6 +307,12 @@ __attribute__((noinline)) static uint64_t called(which call, size_t n)
         break;
     case CHOLESKY_EXTEND:
         answer = urgyelpat_cholesky_extend(a, n * n, n, n / 2, n);
+        break;
+    case CHOLESKY_FACTOR_FLOORED:
+        answer = urgyelpat_cholesky_factor_floored(a, n * n, n, n, FLOOR).answer;
+        break;
+    case CHOLESKY_EXTEND_FLOORED:
+        answer = urgyelpat_cholesky_extend_floored(a, n * n, n, n / 2, n, FLOOR).answer;
         break;
     case CHOLESKY_SOLVE_ONE:
         answer = urgyelpat_cholesky_solve(a, n * n, b, n, n, n, 1);

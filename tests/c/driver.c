@@ -28,6 +28,7 @@ int main(void)
     lblt_cases();
     list_cases();
     cholesky_cases();
+    floored_cases();
     udu_cases();
     twin_cases();
     packed_cases();

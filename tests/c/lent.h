@@ -2,7 +2,8 @@
  *
  * Every call that is tested on slices is made three times, its slices placed three ways: between canaries, at the end of the
  * memory (the page behind the slice cannot be touched), and at its start (the page before cannot). What lies around a slice is
- * compared too. A call that only prepares a case or takes an answer apart is made once. */
+ * compared too. Where very many matrices are tried (floored.c), a call is made once, between canaries. A call that only prepares
+ * a case or takes an answer apart is made once. */
 #ifndef LENT_H
 #define LENT_H
 

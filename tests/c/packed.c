@@ -1,5 +1,6 @@
 #include "cases.h"
 #include "lent.h"
+#include "matrices.h"
 #include "urgyelpat.h"
 #include <stdio.h>
 
@@ -113,11 +114,6 @@ static size_t length_of(size_t n)
     return n * (n + 1) / 2;
 }
 
-static numbers some(const double *at, size_t length)
-{
-    return (numbers){length == 0 ? NULL : at, length};
-}
-
 /* The first n columns of a lower part in a room, each from its diagonal down to row n - 1, one after the other. */
 static numbers pack(size_t room, size_t n, const double *full, double *packed)
 {
@@ -138,19 +134,6 @@ static numbers lay_end_to_end(size_t room, size_t earlier, size_t n, const doubl
     return some(rows, at);
 }
 
-static void copy(double *to, const double *from, size_t length)
-{
-    for (size_t i = 0; i < length; i++)
-        to[i] = from[i];
-}
-
-static const char *at_order(const char *about, size_t n)
-{
-    static char text[100];
-    snprintf(text, sizeof text, "%s, order %lu", about, (unsigned long)n);
-    return text;
-}
-
 /* The header's two functions against counting. */
 static void places(void)
 {
@@ -166,69 +149,6 @@ static void places(void)
         called("packed_length", at_order("all places", n), BETWEEN_CANARIES);
         gave("length", (long)urgyelpat_packed_length(n), (long)at);
     }
-}
-
-/* ---- matrices */
-
-typedef enum {
-    RANDOM,
-    ZERO_DIAGONAL, /* with pivots of two rows */
-    HEAVY_DIAGONAL,
-    SMALL_WHOLES, /* with equal maxima */
-    ROW_OF_ZEROS, /* which is marked */
-    LIKE_ROWS,    /* the first and the last */
-    NANS_AND_INFINITIES,
-    ZEROS,
-    KINDS
-} kind;
-
-static const char *const kinds[KINDS] = {"random",         "zero diagonal", "heavy diagonal",      "small whole numbers",
-                                         "a row of zeros", "like rows",     "NaNs and infinities", "zeros"};
-
-/* The place of (i, j) or (j, i) in the lower part. */
-static size_t lower(size_t n, size_t i, size_t j)
-{
-    return i >= j ? i + j * n : j + i * n;
-}
-
-/* Row q, with its column, becomes row p. */
-static void repeat_row(size_t n, size_t p, size_t q, double *full)
-{
-    for (size_t k = 0; k < n; k++)
-        if (k != p && k != q)
-            full[lower(n, q, k)] = full[lower(n, p, k)];
-    full[lower(n, q, p)] = full[lower(n, q, q)] = full[lower(n, p, p)];
-}
-
-static double entry(kind of, size_t n, size_t i, size_t j, double number)
-{
-    if (i < j)
-        return KEPT;
-    switch (of) {
-    case ZERO_DIAGONAL:
-        return i == j ? 0 : number;
-    case HEAVY_DIAGONAL:
-        return i == j ? number + (double)n : number;
-    case SMALL_WHOLES:
-        return (double)(int)(4 * number);
-    case ROW_OF_ZEROS:
-        return i == n / 2 || j == n / 2 ? 0 : number;
-    case NANS_AND_INFINITIES:
-        return number > 0.45 ? NAN : number < -0.45 ? -INF : number;
-    case ZEROS:
-        return 0;
-    default:
-        return number;
-    }
-}
-
-static void fill(kind of, size_t n, uint32_t *chance, double *full)
-{
-    for (size_t j = 0; j < n; j++)
-        for (size_t i = 0; i < n; i++)
-            full[i + j * n] = entry(of, n, i, j, by_chance(chance));
-    if (of == LIKE_ROWS && n > 1)
-        repeat_row(n, 0, n - 1, full);
 }
 
 static void fill_sides(size_t length, uint32_t *chance, double *sides)
@@ -386,17 +306,11 @@ static void chain(const char *about, size_t n, const double *full, const size_t 
     answered(answer, one_answer);
 }
 
-/* Every list of cuts that ends at n; of every second one each batch is followed by one of no rows. */
 static void every_chain(const char *about, size_t n, const double *full, uint64_t one_answer, const double *one)
 {
-    for (unsigned chosen = 0; chosen < 1u << (n == 0 ? 0 : n - 1); chosen++) {
-        size_t cuts[10] = {0}, batches = 0;
-        for (size_t cut = 1; cut <= n; cut++)
-            if (cut == n || chosen >> (cut - 1) & 1u) {
-                cuts[batches++] = cut;
-                if (__builtin_parity(chosen))
-                    cuts[batches++] = cut;
-            }
+    for (unsigned list = 0; list < lists_of_cuts(n); list++) {
+        size_t cuts[MOST_CUTS] = {0};
+        const size_t batches = cuts_of(list, n, cuts);
         chain(about, n, full, cuts, batches, one_answer, one);
     }
 }
