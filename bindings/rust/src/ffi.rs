@@ -7,6 +7,12 @@ pub struct Determined {
 }
 
 #[repr(C)]
+pub struct Floored {
+    pub answer: u64,
+    pub used: u64,
+}
+
+#[repr(C)]
 pub struct Listed {
     pub answer: u64,
     pub info: i32,
@@ -93,6 +99,21 @@ extern "C" {
     ) -> Listed;
     pub fn urgyelpat_cholesky_factor(a: *mut f64, a_length: usize, room: usize, n: usize) -> u64;
     pub fn urgyelpat_cholesky_extend(a: *mut f64, a_length: usize, room: usize, earlier: usize, n: usize) -> u64;
+    pub fn urgyelpat_cholesky_factor_floored(
+        a: *mut f64,
+        a_length: usize,
+        room: usize,
+        n: usize,
+        floor: f64,
+    ) -> Floored;
+    pub fn urgyelpat_cholesky_extend_floored(
+        a: *mut f64,
+        a_length: usize,
+        room: usize,
+        earlier: usize,
+        n: usize,
+        floor: f64,
+    ) -> Floored;
     pub fn urgyelpat_cholesky_solve(
         a: *const f64,
         a_length: usize,

@@ -38,7 +38,7 @@
 //! as the full layout (proved of the library's calls). Take them where memory counts, or where the numbers come packed;
 //! [`packed::pack`] and [`packed::unpack`] lead from one layout to the other. They have no room for rows to come, so that each
 //! batch of a Cholesky makes new buffers, and no `solve_bench`, `d`, `l_permuted` nor, for Cholesky, `determinant`: for these
-//! unpack the factor. UDU is in the full layout alone.
+//! unpack the factor. UDU and a Cholesky with a [substitute](Cholesky#substitutes) are in the full layout alone.
 //!
 //! # Where it runs
 //!

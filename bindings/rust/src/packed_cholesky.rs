@@ -29,6 +29,8 @@ use crate::whole_columns;
 /// A packed matrix has no room beyond its order, so there is no room to ask for, and each batch makes new buffers and copies what
 /// stands: for many small batches [`Cholesky`](crate::Cholesky) is quicker. During a batch the memory of both orders is held.
 ///
+/// There are no [substitutes](crate::Cholesky#substitutes): a diagonal that fails is always refused.
+///
 /// There is no `determinant`, for which the library has no packed call. That of the full layout takes [`l`](PackedCholesky::l):
 ///
 /// ```

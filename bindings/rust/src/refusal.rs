@@ -1,13 +1,14 @@
 use std::error::Error;
 use std::fmt;
 
-use crate::ffi::Determined;
+use crate::ffi::{Determined, Floored};
 
 /// Why a call was refused, and where.
 ///
 /// The checks 1 to 5, then 13, then 6 run in that order, and the first that fails is the answer; every slice is then as it
 /// was. For a LAPACK pivot list, 12 stands where 5 does for a record. Cholesky and UDU go on from there column by column, UDU
-/// from the last one back, and the first diagonal that fails gives its code: for Cholesky just one of 7, 10 and 11 fits it.
+/// from the last one back, and the first diagonal that fails gives its code: for Cholesky just one of 7, 10 and 11 fits it. A
+/// [floor](crate::cholesky#a-floor-for-the-diagonal) above zero stands in for such a diagonal, and none of the three is given.
 /// What 7, 8, 10 and 11 leave is said at the calls that give them.
 #[derive(Clone, Copy, Debug, PartialEq, Eq, Hash)]
 #[non_exhaustive]
@@ -47,7 +48,8 @@ pub enum Refusal {
         column: usize,
     },
     /// Code 11: a diagonal of Cholesky is NaN. A NaN on the diagonal of a row that is factored, or left of it, is never
-    /// accepted: where the sizes fit, the row ends so, if none before it is refused.
+    /// accepted without a floor: where the sizes fit, the row ends so, if none before it is refused. With a floor above zero it
+    /// is accepted and counted.
     CholeskyNan {
         /// Its row and column.
         column: usize,
@@ -180,4 +182,9 @@ pub(crate) fn done(answer: u64) -> Result<(), Refusal> {
 /// The value of a determinant call, or its refusal.
 pub(crate) fn value(determined: Determined) -> Result<f64, Refusal> {
     done(determined.answer).map(|()| determined.value)
+}
+
+/// How many columns used the floor of a call, or its refusal.
+pub(crate) fn count(floored: Floored) -> Result<usize, Refusal> {
+    done(floored.answer).map(|()| floored.used as usize)
 }

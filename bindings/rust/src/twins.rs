@@ -17,8 +17,8 @@ const PAIRS: u64 = 4096 * 4096;
 ///
 /// Looks at the first n rows of the lower part of `a` (room·room numbers, entry (i, j) at `i + j * room`). Twins have the same
 /// numbers bit for bit, NaN equal to NaN. The pair with the least q is found, and then the least p. The factors are no
-/// detector of twins: they let many through. Ask before a matrix is factored, of the rows as they came; see
-/// [`first_twin_since`] for batches.
+/// detector of twins: they let many through, and a Cholesky with a [floor](crate::cholesky#a-floor-for-the-diagonal) above zero
+/// all of them. Ask before a matrix is factored, of the rows as they came; see [`first_twin_since`] for batches.
 ///
 /// Refused by [`OutOfRange`](Refusal::OutOfRange), [`OrderAboveRoom`](Refusal::OrderAboveRoom),
 /// [`MatrixLength`](Refusal::MatrixLength).

@@ -3,6 +3,7 @@
 mod batches;
 mod benches;
 mod cholesky;
+mod floored;
 mod lblt;
 mod lists;
 mod numbers;
@@ -12,5 +13,6 @@ mod packed_cholesky;
 mod packed_lblt;
 mod refusals;
 mod runs;
+mod substitutes;
 mod twins;
 mod udu;

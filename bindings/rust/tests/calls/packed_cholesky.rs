@@ -86,7 +86,7 @@ fn chain(a: &[f64], n: usize, ends: &[usize]) -> Result<(), Refusal> {
 }
 
 /// All ways to hand in n rows by batches of at least one row.
-fn cuts(n: usize) -> Vec<Vec<usize>> {
+pub fn cuts(n: usize) -> Vec<Vec<usize>> {
     if n == 0 {
         return vec![vec![]];
     }
