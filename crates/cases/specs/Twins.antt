@@ -1,7 +1,7 @@
 -- Twin rows, worked: [x / x x] for x = 1, 2, 3, 7, 49, by each factor; infinity and a first batch by Cholesky; two more by UDU.
 use mathlib.Core.List.{List, [], _∷_}
 use Prim.Native.Nat.{ℕ}
-use Rattle.cases.specs.Calls.{stray, lbltFactor, choleskyFactor, uduFactor, Case, _⇒_}
+use Rattle.cases.specs.Calls.{stray, lbltFactor, choleskyFactor, choleskyExtendFloored, uduFactor, Case, _⇒_}
 use Rattle.cases.specs.Bits as bits
 use Rattle.cases.specs.Table.{done, refused}
 
@@ -54,6 +54,10 @@ twinTable =
     ∷ (uduFactor 2 (twinsAbove bits.fortyNine) ⇒ done ∷ (bits.one ∷ bits.zero ∷ bits.belowOne ∷ bits.belowOne ∷ []) ∷ (0x3d10_0000_0000_0000 ∷ bits.fortyNine ∷ []) ∷ [])
     -- x = ∞, by Cholesky
     ∷ (choleskyFactor 2 2 (twins bits.infinity) ⇒ refused 11 1 ∷ (bits.infinity ∷ bits.nan ∷ stray ∷ bits.nan ∷ []) ∷ [])
+    -- with floor 4: of 3 and of infinity the second row is accepted and counted; of 2, which leaves a crumb above zero, accepted and not counted
+    ∷ (choleskyExtendFloored 2 0 2 bits.four (twins bits.three) ⇒ done ∷ (1 ∷ []) ∷ (0x3ffb_b67a_e858_4caa ∷ 0x3ffb_b67a_e858_4cab ∷ stray ∷ bits.two ∷ []) ∷ [])
+    ∷ (choleskyExtendFloored 2 0 2 bits.four (twins bits.infinity) ⇒ done ∷ (1 ∷ []) ∷ (bits.infinity ∷ bits.nan ∷ stray ∷ bits.two ∷ []) ∷ [])
+    ∷ (choleskyExtendFloored 2 0 2 bits.four (twins bits.two) ⇒ done ∷ (0 ∷ []) ∷ (0x3ff6_a09e_667f_3bcd ∷ 0x3ff6_a09e_667f_3bcc ∷ stray ∷ 0x3e56_a09e_667f_3bcd ∷ []) ∷ [])
     -- x = 0006200000000000, below the normal numbers: (1/x)·x, which is u(0,1), is not 1, and what is left is zero all the same
     ∷ (uduFactor 2 (twinsAbove 0x0006_2000_0000_0000) ⇒ refused 8 0 ∷ (bits.zero ∷ bits.zero ∷ bits.belowOne ∷ bits.belowOne ∷ []) ∷ (bits.zero ∷ 0x0006_2000_0000_0000 ∷ []) ∷ [])
     -- row 0 factored, of 2 and of 4, with row 1 beside it as it came

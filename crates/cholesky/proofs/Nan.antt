@@ -1,4 +1,4 @@
--- A NaN in a row of a batch, on its diagonal or left of it, is never accepted: it is refused by 11, if no earlier row of the batch is refused. Assumes nothing.
+-- A NaN in a row of a batch, on its diagonal or left of it, is never accepted by the crate's own rule: it is refused by 11, if no earlier row of the batch is refused. Assumes nothing.
 use mathlib.Core.Path.{_≡_, refl, sym, _∙_, ap, subst}
 use mathlib.Core.Bool.{true, false}
 use mathlib.Core.List.{List}
