@@ -17,7 +17,6 @@ use lib.Ieee.{Float}
 use borrow.Author.Tests.{le-leb, lt-leb, le-ltb}
 use Rattle.answer.specs.declared.Answer.{Answer}
 use Rattle.answer.specs.Number.{isDone}
-use Rattle.answer.proofs.Tests.{either}
 use Rattle.matrix.specs.Matrix.{Matrix}
 use Rattle.matrix.specs.Loop.{for}
 use Rattle.matrix.proofs.Loops.{for-none, for-one, for-join, for-keeps, for-same, for-past}

@@ -4,14 +4,13 @@
 --     floor-passes                  a floor that passes: every diagonal does
 --     floor-place                   a refusal names its column
 use mathlib.Core.Path.{_≡_, refl, ap, ap₂, fun-ext, _∙_}
-use mathlib.Core.Bool.{Bool, true, false, cond}
+use mathlib.Core.Bool.{true, false}
 use Prim.Native.Nat.{ℕ}
 use lib.Ieee.{Float}
 use Rattle.answer.specs.declared.Answer.{Answer}
 use Rattle.answer.specs.Number.{placeOf, isDone}
 use Rattle.answer.proofs.Tests.{either}
 use Rattle.leaf.specs.Root.{rootOf}
-use Rattle.cholesky.specs.Run.{Rule}
 use Rattle.cholesky.specs.Crate.{answerTo, crateRule}
 use Rattle.cholesky.specs.Floor.{passes, standing, floorRule}
 use Rattle.cholesky.proofs.Diagonal.{answer-passes, answer-place}

@@ -6,7 +6,7 @@
 --     accepted-before  the columns before accepted ones are accepted
 --     column-judged, judges  column j from m on is judged, if all before it passed
 use mathlib.Core.Path.{_≡_, refl, sym, _∙_, ap}
-use mathlib.Core.Bool.{true, false, cond}
+use mathlib.Core.Bool.{true, false}
 use Prim.Native.Nat.{ℕ, _+_, _≤_}
 use native.Mathlib.Omega.{arith}
 use borrow.Author.Tests.{le-ltb}

@@ -16,7 +16,6 @@ use Rattle.matrix.specs.Loop.{for}
 use Rattle.matrix.specs.Grid.{Sound, Holds, load, mask}
 use Rattle.matrix.specs.Layouts.{lower}
 use Rattle.matrix.proofs.Loops.{for-none, for-one, for-join}
-use Rattle.cholesky.specs.declared.Floored.{Floored}
 use Rattle.cholesky.specs.declared.engine.Verdict.{Verdict}
 use Rattle.cholesky.specs.declared.engine.Step.{Step}
 use Rattle.cholesky.specs.Run.{Rule, Outcome, updates, below, continued, judgedColumn, worked, factorColumn, started, factorColumns}

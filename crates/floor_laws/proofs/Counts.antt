@@ -1,5 +1,5 @@
 -- The counts of batches with one floor add up to the count of the one call. Assumes nothing.
-use mathlib.Core.Path.{_≡_, refl, sym, _∙_, ap, ap₂, subst}
+use mathlib.Core.Path.{_≡_, refl, sym, _∙_, ap, subst}
 use mathlib.Core.Bool.{false}
 use mathlib.Core.List.{List}
 use Prim.Native.Nat.{ℕ, _+_, _≤_}
@@ -17,7 +17,7 @@ use Rattle.matrix.specs.Sizes.{Fits}
 use Rattle.cholesky.specs.declared.Floored.{Floored}
 use Rattle.cholesky.specs.Run.{started, factorColumns}
 use Rattle.cholesky.specs.Floor.{floorRule}
-use Rattle.cholesky.specs.Used.{usedFrom, usedBy}
+use Rattle.cholesky.specs.Used.{usedBy}
 use Rattle.cholesky.specs.Floored.{usedOn, ExtendedFloored}
 use Rattle.cholesky.specs.Batches.{Rising, BatchesBy}
 use Rattle.cholesky.specs.Batches as handed

@@ -1,5 +1,5 @@
 -- Demand 3 with one floor for all batches: they give what the one call gives, refused with the same code and row, and their counts add up to its count. Assumes nothing.
-use mathlib.Core.Path.{_≡_, subst, sym}
+use mathlib.Core.Path.{subst, sym}
 use mathlib.Core.List.{List}
 use Prim.Native.Nat.{ℕ, _≤_}
 use lib.ListN.{length}
