@@ -76,7 +76,7 @@ module _ (room n : ℕ) (l₀ : List Float) (fits : Fits (inRoom n room) 0 (leng
         record { long = left .holds .sound .long ∙ sym (fits .long); kept = λ p free. left .holds .kept p free ∙ h .kept p (free-before room m k p rising free) }
 
   -- from m rows on
-  unfoldable pub batches-arriving : {ρ : Rule} {m e c : ℕ} {cuts : List ℕ} {l l' : List Float} {r : Answer} → Handed room l₀ m l → Rising m cuts e → e ≤ n → BatchesBy ρ room m l cuts c l' r
+  pub batches-arriving : {ρ : Rule} {m e c : ℕ} {cuts : List ℕ} {l l' : List Float} {r : Answer} → Handed room l₀ m l → Rising m cuts e → e ≤ n → BatchesBy ρ room m l cuts c l' r
       → ArrivingBy ρ given m (load (lower (inRoom m room)) l) cuts c (load (lower (inRoom c room)) l') r × Handed room l₀ c l'
   batches-arriving h rising upto none = (arriving.none, h)
   batches-arriving {e = e} h rising upto (refused {c = c} {cuts = cuts} call failed) =

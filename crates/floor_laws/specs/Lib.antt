@@ -1,2 +1,4 @@
 pub mod Plain
+pub mod Batches
+pub mod Arriving
 pub mod Counts
