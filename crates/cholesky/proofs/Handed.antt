@@ -10,7 +10,7 @@ use Rattle.matrix.specs.Matrix.{Matrix}
 use Rattle.matrix.specs.Grid.{load, Free, Kept}
 use Rattle.matrix.specs.Layouts.{inRoom, startOf, placeIn, sizeOf, lower}
 use Rattle.matrix.specs.Sizes.{Fits}
-use Rattle.matrix.proofs.Places.{digits-row, in-lower, lower-low, lower-under, lower-at, lower-across}
+use Rattle.matrix.proofs.Places.{in-lower, lower-low, lower-under, lower-at, lower-across, free-at}
 use Rattle.cholesky.specs.Run.{Rule}
 use Rattle.cholesky.specs.Promise.{ExtendedBy}
 use Rattle.cholesky.specs.Batches.{Rising, BatchesBy, none, refused, more}
@@ -26,14 +26,6 @@ unfolding startOf placeIn lower
 free-before room m n p le free i j t e =
     let row : i < m = lower-low (inRoom m room) i j t in
     free i j (in-lower (inRoom n room) i j (lower-under (inRoom m room) i j t) (omega arith)) e
-
--- a row from m on is no entry of the first m rows
-free-after : (room m i j : ℕ) → m ≤ room → i < room → m ≤ i → Free (lower (inRoom m room)) (i + j * room)
-unfolding startOf placeIn lower
-free-after room m i j small under from r c t e =
-    let row : r < m = lower-low (inRoom m room) r c t in
-    let same : i ≡ r = digits-row room i j r c under (omega arith) e in
-    omega arith
 
 -- ---- m rows are handed in, all else is as given
 
@@ -64,7 +56,7 @@ module _ (room n : ℕ) (l₀ : List Float) (fits : Fits (inRoom n room) 0 (leng
       come = λ i c le from lt.
           let under = inside in
           lower-at (inRoom k room) l i c le lt
-          ∙ h .kept (i + startOf (inRoom k room) c) (unfold startOf in free-after room m i c (omega arith) (omega arith) from)
+          ∙ h .kept (i + startOf (inRoom k room) c) (unfold startOf in free-at room m i c (omega arith) (omega arith) (λ low early. omega arith))
           ∙ sym (lower-at (inRoom k room) l₀ i c le lt)
           ∙ lower-across room k n l₀ i c le lt (omega arith);
     }

@@ -8,6 +8,7 @@ pub mod Columns
 pub mod Counting
 pub mod Running
 pub mod Rows
+pub mod Entries
 pub mod Promises
 pub mod FlooredPromises
 pub mod Batch

@@ -30,7 +30,7 @@ pub struct Step {
 }
 
 // What is answered to the diagonal d of column j.
-fn answer_to(d: f64, j: usize) -> Answer
+pub fn answer_to(d: f64, j: usize) -> Answer
     requires { ⌜ j ≤ 1024 ⌝ }
     ensures { λ r. ⌜ r ≡ answerTo d j ⌝ }
 {

@@ -10,6 +10,7 @@ mod readers;
 
 use answer::Answer;
 use answer::Valued;
+pub use engine::answer_to;
 use matrix::Layout;
 
 // What came of a call with a floor, and how many columns used it.

@@ -2,6 +2,7 @@
 --   holds-none  holds-put  holds-then    nothing done; one entry stored; one step after another
 --   turned-none -more -two -all          a loop that writes: `Turned g lo hi f l₀ i l` is its invariant
 --   holds-unique                         two slices that hold one matrix over one slice are equal
+--   holds-part                           a part of the grid, where the other entries are as they were
 --   load-in     same-cells               an entry of `load`; two matrices that agree on the grid
 -- Assumes nothing.
 use mathlib.Core.Path.{_≡_, refl, sym, _∙_, ap, subst, fun-ext}
@@ -185,3 +186,28 @@ holds-unique {g} {l₀} {l} {l'} h h' = ext-getD nan l l' (h .sound .long ∙ sy
         (λ found. subst (λ (k : ℕ). getD l k nan ≡ getD l' k nan) (sym (found .1 .1 .1)) (cell (found .0) (found .1 .0) (found .1 .1 .0)))
         (λ free. h .kept p free ∙ sym (h' .kept p free))
         (entry? g (h .sound .fair) p)
+
+-- ---- a part of a grid
+
+-- each entry of z is one of g, at the same place
+pub record PartOf (z g : Grid) : Type 0 where
+  pub fair : Fair z
+  pub size : z .size ≡ g .size
+  pub inside : (i j : ℕ) → T (z .inside i j) → T (g .inside i j)
+  pub place : (i j : ℕ) → T (z .inside i j) → z .place i j ≡ g .place i j
+
+-- where the other entries of g are as they were, the part alone was written
+pub holds-part : {z g : Grid} {l₀ l : List Float} {M : Matrix} → PartOf z g → Holds g l₀ l M
+    → ((i j : ℕ) → T (g .inside i j) → (T (z .inside i j) → ⊥) → M i j ≡ load g l₀ i j) → Holds z l₀ l (mask z M)
+holds-part {z} {g} {l₀} {l} {M} part h others = record {
+  sound = record { fair = part .fair; long = h .sound .long ∙ sym (part .size) };
+  cells = load-is z l M (λ i j t. ap (λ (p : ℕ). getD l p nan) (part .place i j t) ∙ stands i j (part .inside i j t));
+  kept = λ p free. ⊎-elim (λ found. kept p free (found .0) (found .1 .0) (found .1 .1 .0) (found .1 .1 .1) (z .inside (found .0) (found .1 .0)) refl) (h .kept p) (entry? g (h .sound .fair) p);
+}
+  where
+    stands : (i j : ℕ) → T (g .inside i j) → getD l (g .place i j) nan ≡ M i j
+    stands i j t = sym (load-in g l i j t) ∙ ap (λ (N : Matrix). N i j) (h .cells)
+
+    kept : (p : ℕ) → Free z p → (i j : ℕ) → T (g .inside i j) → p ≡ g .place i j → (b : Bool) → z .inside i j ≡ b → getD l p nan ≡ getD l₀ p nan
+    kept p free i j t at true e = let t' : T (z .inside i j) = subst T (sym e) tt in absurd (free i j t' (at ∙ sym (part .place i j t')))
+    kept p free i j t at false e = ap (λ (q : ℕ). getD l q nan) at ∙ stands i j t ∙ others i j t (λ t'. subst T e t') ∙ load-in g l₀ i j t ∙ ap (λ (q : ℕ). getD l₀ q nan) (sym at)

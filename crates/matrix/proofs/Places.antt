@@ -12,9 +12,9 @@ use lib.ListN.{length, getD}
 use lib.Ieee.{Float, nan}
 use lib.Ieee.Fits.{and-l, and-r, and-i}
 use Rattle.matrix.specs.declared.Layout.{Layout}
-use Rattle.matrix.specs.Grid.{Grid, Fair, load}
+use Rattle.matrix.specs.Grid.{Grid, Fair, load, Free}
 use Rattle.matrix.specs.Layouts.{inRoom, Roomy, entriesOf, startOf, sizeOf, inLower, placeIn, lower, inStrict, strict, inUpper, inSquare, placeSquare, upper, square, Laid}
-use Rattle.matrix.proofs.Grids.{load-in}
+use Rattle.matrix.proofs.Grids.{load-in, PartOf}
 use Rattle.matrix.proofs.Triangles.{one-more, entries-square, columns-apart, column-within-size}
 
 -- ---- i + j·n with i below n
@@ -145,6 +145,26 @@ pub lower-across : (room c d : ℕ) (l : List Float) (i j : ℕ) → j ≤ i →
     → load (lower (inRoom c room)) l i j ≡ load (lower (inRoom d room)) l i j
 unfolding startOf
 lower-across room c d l i j le here there = lower-at (inRoom c room) l i j le here ∙ sym (lower-at (inRoom d room) l i j le there)
+
+-- what is no entry of the first m rows of a room
+pub free-at : (room m i j : ℕ) → m ≤ room → i < room → (j ≤ i → i < m → ⊥) → Free (lower (inRoom m room)) (i + j * room)
+unfolding startOf placeIn lower
+free-at room m i j small under off r c t e =
+    let low : r < m = lower-low (inRoom m room) r c t in
+    let left : c ≤ r = lower-under (inRoom m room) r c t in
+    let row : i ≡ r = digits-row room i j r c under (omega arith) e in
+    let column : j ≡ c = digits-column room i j r c under (omega arith) e in
+    off (omega arith) (omega arith)
+
+-- the first c rows of a room are a part of its first n
+pub rows-part : (room c n : ℕ) → c ≤ n → Roomy (inRoom n room) → PartOf (lower (inRoom c room)) (lower (inRoom n room))
+unfolding startOf placeIn sizeOf lower
+rows-part room c n le roomy = record {
+  fair = let ordered = roomy .ordered in lower-fair (inRoom c room) (record { ordered = omega arith; small = roomy .small });
+  size = refl;
+  inside = λ i j t. let low = lower-low (inRoom c room) i j t in in-lower (inRoom n room) i j (lower-under (inRoom c room) i j t) (omega arith);
+  place = λ i j t. refl;
+}
 
 pub upper-at : (n : ℕ) (l : List Float) (i j : ℕ) → i ≤ j → j < n → load (upper n) l i j ≡ getD l (i + j * n) nan
 unfolding upper placeSquare

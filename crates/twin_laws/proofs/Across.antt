@@ -30,7 +30,8 @@ use Rattle.cholesky.proofs.Arriving.{LikeOne, like-one, like-one-more}
 use Rattle.cholesky.proofs.Handed.{Handed, handed-none, handed-arrived, batches-arriving}
 use Rattle.twins.specs.Twins.{Twins}
 use Rattle.twins.proofs.Clauses.{Lower, lower-of-twins}
-use Rattle.twin_laws.proofs.Cholesky.{reduced, reduced-same, remainder, After, Accepted, Updated, stands, right-of, diagonal-of, refused-diagonal, twin-left, twin-diagonal, twin-beside, twin-rest, twin-next, twin-refused, twin-between}
+use Rattle.cholesky.proofs.Entries.{After, Accepted, Updated, diagonal-of, refused-diagonal, stands, right-of}
+use Rattle.twin_laws.proofs.Cholesky.{reduced, reduced-same, remainder, twin-left, twin-diagonal, twin-beside, twin-rest, twin-next, twin-refused, twin-between}
 
 -- ---- what is said of the call
 

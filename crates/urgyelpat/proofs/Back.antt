@@ -20,7 +20,7 @@ use Rattle.urgyelpat.specs.declared.Floored.{Floored}
 use Rattle.urgyelpat.specs.Calls.{FactorOn, SolveOn, DeterminantOn, ExtendOn, SolveTrianglesOn, FirstTwinPairOn}
 use Rattle.urgyelpat.specs.Calls.{LbltSolveBench, LbltD, LbltLPermuted}
 use Rattle.urgyelpat.specs.Calls.{PivotsFromLapack, PivotsToLapack}
-use Rattle.urgyelpat.specs.Calls.{CholeskyExtendFloored, CholeskyL, CholeskyUnpack, CholeskyDeterminant}
+use Rattle.urgyelpat.specs.Calls.{CholeskyExtendFloored, CholeskyTeaching, CholeskyL, CholeskyUnpack, CholeskyDeterminant}
 use Rattle.urgyelpat.specs.Calls.{UduFactor, PackedCholeskyExtend}
 use Rattle.urgyelpat.proofs.FactorPlaces as lblt
 use Rattle.urgyelpat.proofs.ReaderPlaces as readers
@@ -81,6 +81,9 @@ module _ {y : Layout} {a : List Float} where
 module _ {room n : ℕ} {a : List Float} where
   pub cholesky-extend-floored-back : {m : ℕ} {floor : Float} {r : Floored} {a' : List Float} (c : CholeskyExtendFloored room m n floor a r a') → Back (c .below .answer) (r .answer)
   cholesky-extend-floored-back c = number-back (ap (λ (f : Floored). f .answer) (c .result)) (cholesky.floored-within (c .given))
+
+  pub cholesky-teaching-back : {r : ℕ} {a' : List Float} (c : CholeskyTeaching room n a r a') → Back (c .below) r
+  cholesky-teaching-back c = number-back (c .result) (cholesky.taught-within (c .given))
 
   pub cholesky-l-back : {l l' : List Float} {r : ℕ} (c : CholeskyL room n a l r l') → Back (c .below) r
   cholesky-l-back c = number-back (c .result) (cholesky.copied-within (c .given))

@@ -3,26 +3,30 @@ use mathlib.Core.List.{List}
 use mathlib.Core.Path.{refl, sym, subst}
 use Prim.Native.Nat.{ℕ, _≤_}
 use native.Mathlib.Omega.{arith}
+use lib.Dec.{leb}
 use lib.ListN.{length}
 use lib.Ieee.{Float}
 use borrow.Author.Tests.{leb-true}
 use Rattle.answer.specs.declared.Answer.{Answer}
-use Rattle.answer.specs.declared.Answer.the-variants.{Done}
+use Rattle.answer.specs.declared.Answer.the-variants.{Done, OutOfRange}
 use Rattle.answer.specs.declared.Valued.{Valued}
+use Rattle.answer.specs.Refusals.{tested}
 use Rattle.answer.proofs.Done.{done-is, done-or-refused}
-use Rattle.answer.proofs.Within.{Within, within-none, within-tested}
+use Rattle.answer.proofs.Within.{Within, within-none, within-test, within-tested}
 use Rattle.matrix.specs.declared.Layout.{Layout}
 use Rattle.matrix.specs.Matrix.{Matrix}
 use Rattle.matrix.specs.Grid.{load}
-use Rattle.matrix.specs.Layouts.{lower}
+use Rattle.matrix.specs.Layouts.{inRoom, lower}
+use Rattle.matrix.specs.Sizes.{sizeTests}
 use Rattle.matrix.proofs.Sizes.{sizes-within}
 use Rattle.cholesky.specs.declared.Floored.{Floored}
 use Rattle.cholesky.specs.Run.{Rule, started, factorColumns}
-use Rattle.cholesky.specs.Promise.{ExtendedBy, Extended}
+use Rattle.cholesky.specs.Promise.{batch, ExtendedBy, Extended}
 use Rattle.cholesky.specs.Floored.{ExtendedFloored}
 use Rattle.cholesky.specs.Solve.{sidesTests, CholeskySolved}
 use Rattle.cholesky.specs.Readers.{copyTests, Copied, Unpacked, CholeskyDetermined}
 use Rattle.cholesky.proofs.Refusals.{columns-answered, NamesColumn, crate-names, floor-names, refused-in}
+use Rattle.teaching.specs.Promise.{Taught}
 use Rattle.packed.specs.Growing.{growTests, handedIn, Grown}
 
 -- n columns are refused, if at all, at one of them
@@ -44,6 +48,14 @@ extended-within = within-by crate-names
 
 pub floored-within : {s : Float} {y : Layout} {m : ℕ} {l₀ l : List Float} {r : Floored} → ExtendedFloored s y m l₀ l r → Within 1024 (r .answer)
 floored-within {s} x = within-by (floor-names s) (x .extended)
+
+pub taught-within : {room n : ℕ} {l₀ l : List Float} {r : Answer} → Taught room n l₀ l r → Within 1024 r
+unfolding tested
+taught-within {room} {n} {l₀} x =
+    subst (Within 1024) (sym (x .answer))
+    (within-test 1024 (leb n 64) (tested (sizeTests (inRoom n room) 0 (length l₀)) (batch (inRoom n room) 0 l₀ .answer)) OutOfRange
+    (λ small. sizes-within (inRoom n room) 0 (length l₀) _ (columns-within crate-names 0 n (load (lower (inRoom n room)) l₀)))
+    (λ large. omega arith))
 
 pub solved-within : {y : Layout} {columns : ℕ} {a b b' : List Float} {r : Answer} → CholeskySolved y columns a b b' r → Within 1024 r
 solved-within {y} {columns} {a} {b} x =

@@ -18,6 +18,7 @@ use Rattle.cholesky.proofs.Promises.{extended-unique}
 use Rattle.cholesky.proofs.FlooredPromises.{floored-unique}
 use Rattle.cholesky.proofs.SolvePromises.{solved-unique}
 use Rattle.cholesky.proofs.ReaderPromises.{determined-unique, copied-unique, unpacked-unique}
+use Rattle.teaching.proofs.Promises.{taught-unique}
 use Rattle.udu.proofs.Unique as udu
 use Rattle.twins.proofs.Unique.{first-twin-on-unique}
 use Rattle.packed.proofs.Growing.{grown-unique}
@@ -28,7 +29,7 @@ use Rattle.urgyelpat.specs.Passed.{Passed}
 use Rattle.urgyelpat.specs.Calls.{FactorOn, SolveOn, DeterminantOn, ExtendOn, SolveTrianglesOn, FirstTwinPairOn}
 use Rattle.urgyelpat.specs.Calls.{LbltSolveBench, LbltD, LbltLPermuted}
 use Rattle.urgyelpat.specs.Calls.{PivotsFromLapack, PivotsToLapack}
-use Rattle.urgyelpat.specs.Calls.{CholeskyExtendFloored, CholeskyL, CholeskyUnpack, CholeskyDeterminant}
+use Rattle.urgyelpat.specs.Calls.{CholeskyExtendFloored, CholeskyTeaching, CholeskyL, CholeskyUnpack, CholeskyDeterminant}
 use Rattle.urgyelpat.specs.Calls.{UduFactor, PackedCholeskyExtend}
 
 -- what is given below is one, so its numbers are
@@ -120,6 +121,11 @@ module _ {room n : ℕ} {a : List Float} where
       → (r ≡ s) × (a₁ ≡ a₂)
   cholesky-extend-floored-unique p q =
       let same = floored-unique (p .given) (q .given) in
+      (passed-same p q (same .0), same .1)
+
+  pub cholesky-teaching-unique : {r s : ℕ} {a₁ a₂ : List Float} → CholeskyTeaching room n a r a₁ → CholeskyTeaching room n a s a₂ → (r ≡ s) × (a₁ ≡ a₂)
+  cholesky-teaching-unique p q =
+      let same = taught-unique room n (p .given) (q .given) in
       (passed-same p q (same .0), same .1)
 
   pub cholesky-l-unique : {l l₁ l₂ : List Float} {r s : ℕ} → CholeskyL room n a l r l₁ → CholeskyL room n a l s l₂ → (r ≡ s) × (l₁ ≡ l₂)

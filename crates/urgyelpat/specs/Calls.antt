@@ -19,6 +19,7 @@ use Rattle.cholesky.specs.Promise.{Extended}
 use Rattle.cholesky.specs.Floored.{ExtendedFloored}
 use Rattle.cholesky.specs.Readers.{Copied, Unpacked, CholeskyDetermined}
 use Rattle.cholesky.specs.Solve.{CholeskySolved}
+use Rattle.teaching.specs.Promise.{Taught}
 use Rattle.udu.specs.Promise as udu
 use Rattle.twins.specs.First.{FirstTwinOn}
 use Rattle.twins.specs.Number.{twinNumber}
@@ -83,6 +84,9 @@ CholeskyExtend room earlier n = ExtendOn (inRoom n room) earlier
 
 abbrev pub CholeskyExtendFloored : ℕ → ℕ → ℕ → Float → List Float → Floored → List Float → Type 0
 CholeskyExtendFloored room earlier n floor a r a' = Passed flooredOf (ExtendedFloored floor (inRoom n room) earlier a a') r
+
+abbrev pub CholeskyTeaching : ℕ → ℕ → List Float → ℕ → List Float → Type 0
+CholeskyTeaching room n a r a' = Passed numberOf (Taught room n a a') r
 
 abbrev pub CholeskySolve : ℕ → ℕ → ℕ → List Float → List Float → ℕ → List Float → Type 0
 CholeskySolve room n = SolveTrianglesOn (inRoom n room)

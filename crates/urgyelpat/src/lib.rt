@@ -3,7 +3,7 @@ ghost use mathlib.Core.Path.{_≡_};
 ghost use Rattle.urgyelpat.specs.Passed.{determinedOf, listedOf, flooredOf};
 ghost use Rattle.urgyelpat.specs.Calls.{LbltFactor, LbltSolve, LbltSolveBench, LbltDeterminant, LbltD, LbltLPermuted};
 ghost use Rattle.urgyelpat.specs.Calls.{PivotsFromLapack, PivotsToLapack};
-ghost use Rattle.urgyelpat.specs.Calls.{CholeskyExtend, CholeskyExtendFloored, CholeskySolve, CholeskyL, CholeskyUnpack, CholeskyDeterminant};
+ghost use Rattle.urgyelpat.specs.Calls.{CholeskyExtend, CholeskyExtendFloored, CholeskyTeaching, CholeskySolve, CholeskyL, CholeskyUnpack, CholeskyDeterminant};
 ghost use Rattle.urgyelpat.specs.Calls.{UduFactor, FirstTwinPair};
 ghost use Rattle.urgyelpat.specs.Calls.{PackedLbltFactor, PackedLbltSolve, PackedLbltDeterminant, PackedCholeskyFactor, PackedCholeskyExtend, PackedCholeskySolve, PackedFirstTwin};
 use answer::Valued;
@@ -211,6 +211,14 @@ pub extern "C" fn urgyelpat_cholesky_extend_floored(
 }
 
 // n numbers of b a column.
+// By the teaching engine, for an order up to 64.
+#[no_mangle]
+pub extern "C" fn urgyelpat_cholesky_teaching(a: &mut [f64], room: usize, n: usize) -> u64
+    ensures { λ r. ⌜ CholeskyTeaching room n (now (a .entry)) r (now (a .exit)) ⌝ }
+{
+    teaching::cholesky(a, room, n).number()
+}
+
 #[no_mangle]
 pub extern "C" fn urgyelpat_cholesky_solve(
     a: &[f64],

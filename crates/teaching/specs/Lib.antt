@@ -1,0 +1,3 @@
+pub mod Promise
+pub mod Beside
+pub mod inner
