@@ -1,3 +1,4 @@
 pub mod Rows
 pub mod Working
 pub mod Promises
+pub mod Beside
