@@ -12,7 +12,7 @@ use Rattle.teaching.proofs.cholesky.Statement.{statement}
 use Rattle.teaching.proofs.cholesky.Tie as tie
 
 returns : tie.Need-returns
-returns c = taught-large (c .before .before .args .room) (c .before .before .args .n) (c .if1 .taken)
+returns c = taught-large (c .before .before .args .room) (c .before .before .args .n) (omega arith)
 
 in-room-requires : tie.Need-in-room-requires
 in-room-requires c κs = search needs
@@ -25,7 +25,7 @@ code-requires c κs = search needs
 
 returns-2 : tie.Need-returns-2
 returns-2 c =
-    taught-unfit (c .before .before .before .before .before .before .args .room) (c .before .before .before .before .before .before .args .n) (c .before .before .before .in-room .ensures) (c .before .before .before .before .if1 .left) (c .before .before .check .ensures)
+    taught-unfit (c .before .before .before .before .before .before .args .room) (c .before .before .before .before .before .before .args .n) (c .before .before .before .in-room .ensures) (omega arith) (c .before .before .check .ensures)
     (code-refused (c .before .before .check .result) (c .before .code .ensures) (c .if2 .taken))
 
 of-order-requires : tie.Need-of-order-requires
@@ -40,7 +40,7 @@ same-length c = search needs
 returns-3 : tie.Need-returns-3
 returns-3 c =
     let fits = code-fits (c .before .before .before .before .before .before .before .in-room .result) 0 (length (now (c .before .before .before .before .before .before .before .before .before .before .args .a))) (c .before .before .before .before .before .before .check .ensures) (c .before .before .before .before .before .code .ensures) (c .before .before .before .before .if2 .left) in
-    taught-fit (c .before .before .before .before .before .before .before .before .before .before .args .room) (c .before .before .before .before .before .before .before .before .before .before .args .n) (c .before .before .before .before .before .before .before .in-room .ensures) (c .before .before .before .before .before .before .before .before .if1 .left) fits (c .before .before .of-order .ensures)
+    taught-fit (c .before .before .before .before .before .before .before .before .before .before .args .room) (c .before .before .before .before .before .before .before .before .before .before .args .n) (c .before .before .before .before .before .before .before .in-room .ensures) (omega arith) fits (c .before .before .of-order .ensures)
 
 pub cholesky-spec : {M : Type 1} → statement M
 cholesky-spec =
