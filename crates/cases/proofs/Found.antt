@@ -1,5 +1,5 @@
 -- What each call gives, written out: any answer and memory that meet its promise are that. Assumes nothing.
-use mathlib.Core.Path.{_≡_, refl, sym, ap, _∙_}
+use mathlib.Core.Path.{_≡_, refl, sym, ap, subst, _∙_}
 use mathlib.Core.Bool.{Bool, true, false, cond}
 use mathlib.Core.List.{List, [], _∷_}
 use Prim.Native.Nat.{ℕ, _*_, _%_, _/_}
@@ -19,7 +19,7 @@ use Rattle.answer.proofs.Tested.{tested-fixed, tested-join}
 use Rattle.leaf.specs.Root.{rootOf}
 use Rattle.matrix.specs.Grid.{load, mask}
 use Rattle.matrix.specs.declared.Layout.{Layout}
-use Rattle.matrix.specs.Layouts.{full, inRoom, packed, entriesOf, lower, square}
+use Rattle.matrix.specs.Layouts.{full, inRoom, packed, entriesOf, sizeOf, lower, square}
 use Rattle.matrix.specs.Sizes.{sizeTests, sizesOf, Fits}
 use Rattle.matrix.proofs.Sizes.{done-fits, laid-fits}
 use Rattle.packed.specs.Growing.{growTests, grown, Grown}
@@ -40,12 +40,16 @@ use Rattle.lblt_bench.specs.Bench.{owns, benchTests, BenchSolved}
 use Rattle.cholesky.specs.Run.{Rule}
 use Rattle.cholesky.specs.Crate.{crateRule}
 use Rattle.cholesky.specs.Floor.{floorRule}
-use Rattle.cholesky.specs.Promise.{batchBy, ExtendedBy}
+use Rattle.cholesky.specs.Leaves.{Leaves}
+use Rattle.cholesky.specs.Promise.{batchBy, batch, ExtendedBy}
 use Rattle.cholesky.specs.Floored.{usedOn}
 use Rattle.cholesky.specs.Solve.{sidesTests, solveSides, CholeskySolved}
+use Rattle.teaching.specs.Promise.{teachingTests, reached, Taught}
+use Rattle.teaching.proofs.Promises.{taught-fits}
 use Rattle.udu.specs.Promise.{uduTests, uduOf, uduAnswer, factorsOf, UduFactored}
-use Rattle.cases.specs.Calls.{stray, floats, bitsOf, signedBits, answered, lentWords, lentList, lentFloats, Call, lbltFactor, lbltDeterminant, lbltSolve, lbltSolveBench, lbltReaders, lbltLargest, pivotsFromLapack, pivotsToLapack, choleskyFactor, choleskyExtendFloored, choleskySolve, choleskySolveSizes, packedLbltFactor, packedLbltDeterminant, packedLbltSolve, packedCholeskyFactor, packedCholeskyExtend, packedCholeskySolve, packedExtendSizes, uduFactor, root, Gives}
-use Rattle.matrix.proofs.Slices.{listed, is-listed, overlaid, lower-overlaid, fills-listed}
+use Rattle.cases.specs.Calls.{stray, floats, bitsOf, signedBits, answered, lentWords, lentList, lentFloats, Call, lbltFactor, lbltDeterminant, lbltSolve, lbltSolveBench, lbltReaders, lbltLargest, pivotsFromLapack, pivotsToLapack, choleskyFactor, choleskyExtendFloored, choleskyTeaching, choleskySolve, choleskySolveSizes, packedLbltFactor, packedLbltDeterminant, packedLbltSolve, packedCholeskyFactor, packedCholeskyExtend, packedCholeskySolve, packedExtendSizes, uduFactor, root, Gives}
+use Rattle.matrix.proofs.Places.{lower-low, lower-left}
+use Rattle.matrix.proofs.Slices.{listed, is-listed, overlaid, holds-overlaid, lower-overlaid, fills-listed}
 use Rattle.matrix.specs.Rounded.{plusZero}
 
 -- ---- LBLT's factor
@@ -159,6 +163,29 @@ module _ (y : Layout) (a : List Float) where
   unfolding choleskySolveNumbers
   solves-triangles s = rw (s .sides, s .answer)
 
+-- ---- the teaching engine
+
+module _ (room n : ℕ) (a : List Float) where
+  unfoldable pub teachingAnswer : Answer
+  teachingAnswer = tested (teachingTests room n (length a)) (batch (inRoom n room) 0 a .answer)
+
+  unfoldable pub teachingSlice : List Float
+  teachingSlice =
+      let rows = reached n teachingAnswer in
+      cond (isDone (tested (teachingTests room n (length a)) Done)) (overlaid (lower (inRoom rows room)) rows a (mask (lower (inRoom rows room)) (batch (inRoom n room) 0 a .cells))) a
+
+  pub teaches : {l : List Float} {r : Answer} → Taught room n a l r → (r ≡ teachingAnswer) × (l ≡ teachingSlice)
+  unfolding teachingAnswer teachingSlice lower sizeOf
+  teaches {l} t = (
+    t .answer,
+    done-or-refused (tested (teachingTests room n (length a)) Done)
+        (λ done.
+        let left = subst (λ (s : Answer). Leaves (inRoom (reached n s) room) a l (batch (inRoom n room) 0 a .cells)) (t .answer) (t .left .done done) in
+        let y = inRoom (reached n teachingAnswer) room in
+        rw done (holds-overlaid (y .order) (lower-low y) (lower-left y) (taught-fits room n (length a) done .long) (left .holds)))
+        (λ failed. rw failed (t .left .refused failed)),
+  )
+
 -- ---- the packed further batch
 
 module _ (m n : ℕ) (old rows fresh : List Float) where
@@ -228,6 +255,7 @@ found (choleskyFactor room n a) = answered (choleskyAnswer crateRule (inRoom n r
 found (choleskyExtendFloored room m n floor a) =
     let s = ofBits binary64 floor in
     answered (choleskyAnswer (floorRule s) (inRoom n room) m (floats a)) ∷ (usedOn s (inRoom n room) m (floats a) ∷ []) ∷ bitsOf (choleskySlice (floorRule s) (inRoom n room) m (floats a)) ∷ []
+found (choleskyTeaching room n a) = answered (teachingAnswer room n (floats a)) ∷ bitsOf (teachingSlice room n (floats a)) ∷ []
 found (choleskySolve room n a b) = choleskySolveNumbers (inRoom n room) (choleskySlice crateRule (inRoom n room) 0 (floats a)) (floats b)
 found (choleskySolveSizes room n columns factor sides) = answered (tested (sidesTests (inRoom n room) columns factor sides) Done) ∷ []
 found (packedLbltFactor n run a) = answered (lbltAnswer (packed n) run (floats a) (lentWords n)) ∷ leftWords (packed n) run a ∷ bitsOf (leftSlice (packed n) run a) ∷ []
@@ -261,6 +289,7 @@ gives (pivotsFromLapack n run list info) = λ r words d. reads n (lentWords n) l
 gives (pivotsToLapack n words) = λ r list d. writes n words (lentList n) d
 gives (choleskyFactor room n a) = λ r l f. let g = extends crateRule (inRoom n room) 0 (floats a) f in rw (g .0, g .1)
 gives (choleskyExtendFloored room m n floor a) = λ r l f. let g = extends (floorRule (ofBits binary64 floor)) (inRoom n room) m (floats a) (f .extended) in rw (g .0, g .1, f .used)
+gives (choleskyTeaching room n a) = λ r l t. let g = teaches room n (floats a) t in rw (g .0, g .1)
 gives (choleskySolve room n a b) = λ r s l c f d.
     let by : CholeskySolved (inRoom n room) 1 (choleskySlice crateRule (inRoom n room) 0 (floats a)) (floats b) c s = rw (extends crateRule (inRoom n room) 0 (floats a) f .1) at d in
     solves-triangles (inRoom n room) (choleskySlice crateRule (inRoom n room) 0 (floats a)) by

@@ -41,6 +41,9 @@ four = 0x4010_0000_0000_0000
 abbrev pub five : ℕ
 five = 0x4014_0000_0000_0000
 
+abbrev pub six : ℕ
+six = 0x4018_0000_0000_0000
+
 abbrev pub seven : ℕ
 seven = 0x401c_0000_0000_0000
 
@@ -52,6 +55,9 @@ eleven = 0x4026_0000_0000_0000
 
 abbrev pub twelve : ℕ
 twelve = 0x4028_0000_0000_0000
+
+abbrev pub fourteen : ℕ
+fourteen = 0x402c_0000_0000_0000
 
 abbrev pub fortyNine : ℕ
 fortyNine = 0x4048_8000_0000_0000

@@ -32,6 +32,7 @@ use Rattle.cholesky.specs.declared.Floored.{Floored}
 use Rattle.cholesky.specs.Promise.{Extended}
 use Rattle.cholesky.specs.Floored.{ExtendedFloored}
 use Rattle.cholesky.specs.Solve.{CholeskySolved}
+use Rattle.teaching.specs.Promise.{Taught}
 use Rattle.packed.specs.Growing.{growTests, Grown}
 use Rattle.udu.specs.Promise.{UduFactored}
 
@@ -76,6 +77,7 @@ pub data Call : Type 0 where
   pivotsToLapack : (n : ℕ) (words : List ℕ) → Call
   choleskyFactor : (room n : ℕ) (a : List ℕ) → Call
   choleskyExtendFloored : (room m n floor : ℕ) (a : List ℕ) → Call
+  choleskyTeaching : (room n : ℕ) (a : List ℕ) → Call
   choleskySolve : (room n : ℕ) (a b : List ℕ) → Call
   choleskySolveSizes : (room n columns factor sides : ℕ) → Call
   packedLbltFactor : (n run : ℕ) (a : List ℕ) → Call
@@ -127,6 +129,8 @@ Gives (choleskyFactor room n a) numbers = (r : Answer) (l : List Float) → Exte
 -- the answer, how many columns used the floor, the slice
 Gives (choleskyExtendFloored room m n floor a) numbers =
     (r : Floored) (l : List Float) → ExtendedFloored (ofBits binary64 floor) (inRoom n room) m (floats a) l r → (answered (r .answer) ∷ (r .used ∷ []) ∷ bitsOf l ∷ []) ≡ numbers
+-- the answer, the slice
+Gives (choleskyTeaching room n a) numbers = (r : Answer) (l : List Float) → Taught room n (floats a) l r → (answered r ∷ bitsOf l ∷ []) ≡ numbers
 -- by what the factor leaves: the answer, the right-hand side
 Gives (choleskySolve room n a b) numbers =
     (r s : Answer) (l c : List Float) → Extended (inRoom n room) 0 (floats a) l r → CholeskySolved (inRoom n room) 1 l (floats b) c s

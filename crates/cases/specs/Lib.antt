@@ -2,3 +2,4 @@ pub mod Bits
 pub mod Calls
 pub mod Table
 pub mod Twins
+pub mod Teaching

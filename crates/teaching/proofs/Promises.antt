@@ -1,6 +1,6 @@
 -- The promise of `cholesky`: refused, worked, unique, and there is always one. Assumes nothing.
 use mathlib.Core.Path.{_≡_, refl, sym, _∙_, ap, subst}
-use mathlib.Core.Bool.{false}
+use mathlib.Core.Bool.{true, false}
 use mathlib.Core.List.{List}
 use mathlib.Core.Logic.{⊎-elim}
 use Prim.Native.Nat.{ℕ, _≤_, _<_}
@@ -13,7 +13,7 @@ use Rattle.answer.specs.declared.Answer.{Answer}
 use Rattle.answer.specs.declared.Answer.the-variants.{Done, OutOfRange}
 use Rattle.answer.specs.Number.{isDone}
 use Rattle.answer.specs.Refusals.{tested}
-use Rattle.answer.proofs.Tested.{tested-fixed, leaving-done, leaving-refused, leaving-alike}
+use Rattle.answer.proofs.Tested.{all-hold, tested-fixed, leaving-done, leaving-refused, leaving-alike}
 use Rattle.answer.proofs.Tests.{lt-or-ge}
 use Rattle.matrix.specs.declared.Layout.{Layout}
 use Rattle.matrix.specs.Matrix.{Matrix}
@@ -22,7 +22,7 @@ use Rattle.matrix.specs.Layouts.{inRoom, lower}
 use Rattle.matrix.specs.Sizes.{sizeTests, Fits}
 use Rattle.matrix.proofs.Grids.{holds-part, holds-as, holds-unique, same-cells}
 use Rattle.matrix.proofs.Places.{lower-low, lower-under, in-lower, rows-part}
-use Rattle.matrix.proofs.Sizes.{fits-pass}
+use Rattle.matrix.proofs.Sizes.{sizes-refuse, hold-fits, fits-pass}
 use Rattle.cholesky.specs.Crate.{crateRule}
 use Rattle.cholesky.specs.Leaves.{Leaves}
 use Rattle.cholesky.specs.Promise.{batch}
@@ -58,6 +58,10 @@ module _ (room n : ℕ) where
 
   pub fits-tests : {len : ℕ} (r : Answer) → n ≤ 64 → Fits (inRoom n room) 0 len → tested (teachingTests room n len) r ≡ r
   fits-tests {len} r small fits = small-tests len r small ∙ fits-pass (inRoom n room) 0 len fits r
+
+  -- what is done fits
+  pub taught-fits : (len : ℕ) → isDone (tested (teachingTests room n len) Done) ≡ true → Fits (inRoom n room) 0 len
+  taught-fits len done = hold-fits (inRoom n room) 0 len (all-hold (teachingTests room n len) Done (refl, sizes-refuse (inRoom n room) 0 len) done .0 .1)
 
   -- row after row, in the rows that are reached
   rows-left : {l₀ l : List Float} → Fits (inRoom n room) 0 (length l₀) → Holds (lower (inRoom n room)) l₀ l (byRows crateRule n (load (lower (inRoom n room)) l₀) .cells)
