@@ -4,7 +4,6 @@ use mathlib.Core.Bool.{true, false}
 use mathlib.Core.List.{List}
 use mathlib.Core.Logic.{⊎-elim}
 use Prim.Native.Nat.{ℕ, _≤_, _<_}
-use native.Mathlib.Omega.{arith}
 use lib.Dec.{T}
 use lib.ListN.{length}
 use lib.Ieee.{Float}
@@ -17,7 +16,7 @@ use Rattle.answer.proofs.Tested.{all-hold, tested-fixed, leaving-done, leaving-
 use Rattle.answer.proofs.Tests.{lt-or-ge}
 use Rattle.matrix.specs.declared.Layout.{Layout}
 use Rattle.matrix.specs.Matrix.{Matrix}
-use Rattle.matrix.specs.Grid.{load, Holds, mask}
+use Rattle.matrix.specs.Grid.{load, Holds}
 use Rattle.matrix.specs.Layouts.{inRoom, lower}
 use Rattle.matrix.specs.Sizes.{sizeTests, Fits}
 use Rattle.matrix.proofs.Grids.{holds-part, holds-as, holds-unique, same-cells}

@@ -1,6 +1,6 @@
 -- Row after row gives what column after column gives, in the rows that are reached; by every rule whose refusals name their column. Assumes nothing.
-use mathlib.Core.Path.{_≡_, refl, sym, _∙_, ap, ap₂, subst}
-use mathlib.Core.Bool.{Bool, true, false, cond}
+use mathlib.Core.Path.{_≡_, sym, _∙_, ap, ap₂, subst}
+use mathlib.Core.Bool.{true, false}
 use mathlib.Core.Logic.{_⊎_, inl, inr}
 use Prim.Native.Nat.{ℕ, zero, suc, _+_, _≤_, _<_}
 use native.Mathlib.Numerals.{add-one}
@@ -9,8 +9,8 @@ use lib.Ieee.{Float}
 use Rattle.answer.specs.declared.Answer.{Answer}
 use Rattle.answer.specs.Number.{placeOf, isDone}
 use Rattle.answer.proofs.Done.{done-is, done-or-refused}
-use Rattle.answer.proofs.Tests.{either, eq-or-ne, lt-or-ge}
-use Rattle.matrix.specs.Matrix.{Matrix, entry}
+use Rattle.answer.proofs.Tests.{either, eq-or-ne}
+use Rattle.matrix.specs.Matrix.{Matrix}
 use Rattle.matrix.specs.Loop.{for}
 use Rattle.matrix.specs.Rounded.{_⊘_}
 use Rattle.matrix.proofs.Loops.{for-none, for-more, for-still}

@@ -1,10 +1,8 @@
 -- `last_row` meets its contract. Assumes nothing.
-use mathlib.Core.Path.{ap, ap₂, _∙_}
 use Prim.Native.Nat.{_-_}
 use native.Mathlib.Omega.{arith}
 use Rattle.matrix.specs.Layouts.{lower}
-use Rattle.matrix.specs.Rounded.{_⊘_}
-use Rattle.matrix.proofs.Grids.{Turned, turned-none, turned-more, turned-all, holds-as}
+use Rattle.matrix.proofs.Grids.{Turned, turned-none, turned-more, turned-all}
 use Rattle.matrix.proofs.Sizes.{laid-after}
 use Rattle.teaching.specs.inner.Rows.{leftOf}
 use Rattle.teaching.proofs.Working.{left-found, row-found}
