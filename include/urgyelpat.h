@@ -24,13 +24,13 @@
  *
  * ANSWERS. An answer is code * 4096 + place; 0 is done. The checks 1 to 5, then 13, then 6 run in that order, and the first
  * that fails is the answer; every buffer is then as it was. For a LAPACK list, 12 stands where 5 does for a record. Cholesky
- * and UDU go on from there column by column, UDU from the last one back, and the first diagonal that fails gives its code,
- * unless a floor stands in for it (two Cholesky calls take one).
+ * and UDU go on from there column by column, UDU from the last one back, the teaching engine row by row, and the first diagonal
+ * that fails gives its code, unless a floor stands in for it (two Cholesky calls take one).
  *
  *   code                             given exactly if                                          place
  *   0  URGYELPAT_DONE                the result stands in the buffers                          0
- *   1  URGYELPAT_OUT_OF_RANGE        an order, room or column count is above 1024, or UDU      0
- *                                    has order 0
+ *   1  URGYELPAT_OUT_OF_RANGE        an order, room or column count is above 1024, UDU has     0
+ *                                    order 0, or the teaching engine an order above 64
  *   2  URGYELPAT_ORDER_ABOVE_ROOM    an order is above its room, or an earlier order above     0
  *                                    the order
  *   3  URGYELPAT_MATRIX_LENGTH       the first matrix has the wrong length                     0
@@ -75,6 +75,8 @@ extern "C" {
 
 /* The largest order, room and column count. */
 #define URGYELPAT_LARGEST 1024u
+/* The largest order of the teaching engine, urgyelpat_cholesky_teaching. */
+#define URGYELPAT_TEACHING_LARGEST 64u
 
 /* The codes of the table above. */
 #define URGYELPAT_DONE 0u
@@ -246,6 +248,16 @@ URGYELPAT_MUST_USE uint64_t urgyelpat_cholesky_factor(double *a, size_t a_length
  * Answers 0, 1, 2, 3 (a), 7, 10, 11. */
 URGYELPAT_MUST_USE uint64_t urgyelpat_cholesky_extend(double *a, size_t a_length, size_t room, size_t earlier, size_t n);
 
+/* The teaching engine, a plain Cholesky for the board: that of order n is that of order n - 1, and then the last row, found
+ * from left to right. The order goes up to URGYELPAT_TEACHING_LARGEST, the room up to URGYELPAT_LARGEST. Where the sizes are
+ * accepted, the answer is that of urgyelpat_cholesky_factor; after 0 so is the whole buffer, to the bit.
+ * After 7, 10 or 11 at row j: the rows up to j, each up to and with its diagonal, are as urgyelpat_cholesky_factor leaves
+ * them. The rows below j, the entries right of the diagonals and all that is outside the first n rows and columns are as given.
+ * (That call works in the rows below j too.)
+ * Larger orders and batches are for the two calls above.
+ * Answers 0, 1, 2, 3 (a), 7, 10, 11. */
+URGYELPAT_MUST_USE uint64_t urgyelpat_cholesky_teaching(double *a, size_t a_length, size_t room, size_t n);
+
 /* urgyelpat_cholesky_factor with a floor for the diagonal. Where the diagonal of a column fails once it is updated and the floor
  * passes (above zero, +infinity too), the floor stands in for it: the root of the floor is stored there, the rows below are
  * divided by that root, and the column is counted in `used`. Where the floor fails too (zero, below zero, NaN), the refusal is
@@ -337,7 +349,7 @@ static inline uint32_t urgyelpat_twin_q(uint64_t answer) { return urgyelpat_code
  * `packed_` on the same lower part with the order for its room, code and place included, and so are the record, the solution
  * and the value; what stands packed after the call is what then stands in the lower part there. Codes, records, marks, run
  * numbers, urgyelpat_callers_row and the pairs of twins mean the same, and a record does not say in which layout its factor
- * stands. There are no packed calls with a floor. */
+ * stands. There are no packed calls with a floor, and none by the teaching engine. */
 
 /* How many numbers a packed matrix of order n has, and where its entry (i, j), j <= i < n, stands; for orders up to 1024. The
  * first is also where row n begins if lower rows stand end to end, i + 1 numbers for row i. */

@@ -34,6 +34,7 @@ typedef enum {
     PIVOTS_TO_LAPACK,
     CHOLESKY_FACTOR,
     CHOLESKY_EXTEND,
+    CHOLESKY_TEACHING,
     CHOLESKY_FACTOR_FLOORED,
     CHOLESKY_EXTEND_FLOORED,
     CHOLESKY_SOLVE_ONE,
@@ -71,6 +72,7 @@ static const char *const names[CALLS] = {
     "pivots_to_lapack",
     "cholesky_factor",
     "cholesky_extend, the second half",
+    "cholesky_teaching",
     "cholesky_factor_floored",
     "cholesky_extend_floored, the second half",
     "cholesky_solve, 1 column",
@@ -185,6 +187,7 @@ static void prepare(which call, size_t n)
         answer = urgyelpat_pivots_to_lapack(record, 2 * n + 2, list, n, n).answer;
         break;
     case CHOLESKY_FACTOR:
+    case CHOLESKY_TEACHING:
     case UDU_FACTOR:
         fill_random(n, (double)n);
         break;
@@ -308,6 +311,9 @@ __attribute__((noinline)) static uint64_t called(which call, size_t n)
     case CHOLESKY_EXTEND:
         answer = urgyelpat_cholesky_extend(a, n * n, n, n / 2, n);
         break;
+    case CHOLESKY_TEACHING:
+        answer = urgyelpat_cholesky_teaching(a, n * n, n, n);
+        break;
     case CHOLESKY_FACTOR_FLOORED:
         answer = urgyelpat_cholesky_factor_floored(a, n * n, n, n, FLOOR).answer;
         break;
@@ -420,6 +426,12 @@ static size_t used(which call, size_t n)
     return t.used;
 }
 
+/* The teaching engine refuses larger orders than its own. */
+static int takes(which call, size_t n)
+{
+    return call != CHOLESKY_TEACHING || n <= URGYELPAT_TEACHING_LARGEST;
+}
+
 int main(void)
 {
     static const size_t orders[] = {3, 16, 64, 512, 1024};
@@ -434,14 +446,17 @@ int main(void)
     }
     stack = mapped + PAGE;
     const size_t empty = used(EMPTY, 0);
-    printf("bytes of stack, less those of an empty call\n%-43s", "order");
+    printf("bytes of stack, less those of an empty call; - where the order is refused\n%-43s", "order");
     for (size_t o = 0; o < count; o++)
         printf("%7zu", orders[o]);
     printf("\n");
     for (which call = EMPTY + 1; call < CALLS; call++) {
         printf("%-43s", names[call]);
         for (size_t o = 0; o < count; o++)
-            printf("%7zu", used(call, orders[o]) - empty);
+            if (takes(call, orders[o]))
+                printf("%7zu", used(call, orders[o]) - empty);
+            else
+                printf("%7s", "-");
         printf("\n");
     }
     return 0;

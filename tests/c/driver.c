@@ -29,6 +29,7 @@ int main(void)
     list_cases();
     cholesky_cases();
     floored_cases();
+    teaching_cases();
     udu_cases();
     twin_cases();
     packed_cases();

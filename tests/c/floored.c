@@ -220,15 +220,8 @@ static void refused_by_size(void)
 
 /* ---- beside the steps, and beside the calls without a floor */
 
-/* the largest room that is tried in full, and numbers before and behind a matrix there */
-enum { MOST = 36, SQUARE = MOST * MOST, CANARIES = 8 };
-
-static double root(double number)
-{
-    double result;
-    __asm__("sqrtsd %1, %0" : "=x"(result) : "x"(number));
-    return result;
-}
+/* the largest room that is tried in full */
+enum { MOST = 36, SQUARE = MOST * MOST };
 
 /* The steps in their order, each rounded by itself. Both sizes and lengths fit. */
 static urgyelpat_floored steps(size_t room, size_t earlier, size_t n, double floor, double *a)
@@ -273,10 +266,9 @@ static void laws(double floor, urgyelpat_floored got, const double *left, uint64
 static urgyelpat_floored beside(const char *matrix, size_t room, size_t earlier, size_t n, double floor, const double *a,
                                 double *left)
 {
-    static double frame[CANARIES + SQUARE + CANARIES], plain_left[SQUARE];
+    static double plain_left[SQUARE];
     static char about[200];
     const size_t length = room * room;
-    double *const buffer = frame + CANARIES;
     snprintf(about, sizeof about, "%s, rows %lu to %lu in room %lu, floor %g", matrix, (unsigned long)earlier,
              (unsigned long)n, (unsigned long)room, floor);
     copy(left, a, length);
@@ -286,55 +278,35 @@ static urgyelpat_floored beside(const char *matrix, size_t room, size_t earlier,
     copy(plain_left, a, length);
     const uint64_t plain = urgyelpat_cholesky_extend(plain_left, length, room, earlier, n);
     for (int whole = earlier == 0; whole >= 0; whole--) {
-        for (size_t i = 0; i < length + 2 * CANARIES; i++)
-            frame[i] = KEPT;
-        copy(buffer, a, length);
+        double *const buffer = lend_framed(a, length);
         called(whole ? "cholesky_factor_floored" : "cholesky_extend_floored", about, BETWEEN_CANARIES);
         const urgyelpat_floored got = whole ? urgyelpat_cholesky_factor_floored(buffer, length, room, n, floor)
                                             : urgyelpat_cholesky_extend_floored(buffer, length, room, earlier, n, floor);
         given(got, wanted.answer, wanted.used);
-        for (size_t i = 0; i < length + 2 * CANARIES; i++)
-            valued(frame[i], i < CANARIES || i - CANARIES >= length ? KEPT : left[i - CANARIES]);
+        left_framed(left, length);
         laws(floor, got, buffer, plain, plain_left, length);
     }
     return wanted;
 }
 
-/* Every matrix of these numbers up to order 3, from every earlier order: the rows before are taken as factored. */
+/* One matrix from every earlier order: the rows before are taken as factored. */
+static void small_matrix(const char *about, size_t n, const double *a)
+{
+    const numbers floors = FLOORS;
+    double left[9];
+    for (size_t earlier = 0; earlier < n; earlier++)
+        for (size_t f = n < 3 ? 0 : 7; f < floors.length; f++)
+            (void)beside(about, n, earlier, n, floors.at[f], a, left);
+}
+
 static void every_small_matrix(void)
 {
-    const numbers floors = FLOORS, entries = NUMBERS(0, 1, 2, -1, NAN, INF, -0.0, -INF);
-    for (size_t n = 1; n <= 3; n++) {
-        const size_t choices = n < 3 ? entries.length : 6, first_floor = n < 3 ? 0 : 7;
-        size_t chosen[6] = {0}, at;
-        do {
-            double a[9], left[9];
-            char about[100];
-            size_t entry = 0, written = 0;
-            for (size_t j = 0; j < n; j++)
-                for (size_t i = 0; i < n; i++)
-                    a[i + j * n] = i < j ? KEPT : entries.at[chosen[entry++]];
-            for (size_t i = 0; i < n * n; i++)
-                written += (size_t)snprintf(about + written, sizeof about - written, "%g ", a[i]);
-            for (size_t earlier = 0; earlier < n; earlier++)
-                for (size_t f = first_floor; f < floors.length; f++)
-                    (void)beside(about, n, earlier, n, floors.at[f], a, left);
-            for (at = 0; at < entry && ++chosen[at] == choices; at++)
-                chosen[at] = 0;
-        } while (at < n * (n + 1) / 2);
-    }
+    const numbers entries = NUMBERS(0, 1, 2, -1, NAN, INF, -0.0, -INF);
+    for (size_t n = 1; n <= 3; n++)
+        every_matrix(n, some(entries.at, n < 3 ? entries.length : 6), small_matrix);
 }
 
 /* ---- matrices by chance */
-
-/* The first n rows and columns of a room of KEPT. */
-static void set_in_room(size_t room, size_t n, const double *full, double *a)
-{
-    for (size_t i = 0; i < room * room; i++)
-        a[i] = KEPT;
-    for (size_t j = 0; j < n; j++)
-        copy(a + j * room, full + j * n, n);
-}
 
 /* The batches of a matrix in one buffer, by one floor for all: they give and leave what one call on the whole does, and
  * their counts add up to its count. */

@@ -2,8 +2,14 @@
 #include "urgyelpat.h"
 
 const char *meaning(uint64_t answer);
+int is_taught(size_t n);
 size_t refused_row(const uint32_t *record, size_t n, uint64_t answer);
 size_t numbers_behind(size_t n, size_t i, size_t j);
+
+int is_taught(size_t n)
+{
+    return n <= URGYELPAT_TEACHING_LARGEST;
+}
 
 size_t refused_row(const uint32_t *record, size_t n, uint64_t answer)
 {

@@ -39,6 +39,13 @@ double by_chance(uint32_t *state)
     return (double)(*state >> 8) / 16777216.0 - 0.5;
 }
 
+double root(double number)
+{
+    double result;
+    __asm__("sqrtsd %1, %0" : "=x"(result) : "x"(number));
+    return result;
+}
+
 static uint64_t to_bits(double number)
 {
     uint64_t bits;
@@ -124,6 +131,25 @@ lent lend_words(words given, placement where)
 lent lend_wholes(wholes given, placement where)
 {
     return lend(given.at, given.length, sizeof(int32_t), where);
+}
+
+/* as many as a matrix has that is lent so, and canaries on either side */
+enum { MOST_FRAMED = 68 * 68, CANARIES = 8 };
+static double frame[CANARIES + MOST_FRAMED + CANARIES];
+
+double *lend_framed(const double *given, size_t length)
+{
+    if (length > MOST_FRAMED)
+        abort();
+    for (size_t i = 0; i < length + 2 * CANARIES; i++)
+        frame[i] = i < CANARIES || i - CANARIES >= length ? KEPT : given[i - CANARIES];
+    return frame + CANARIES;
+}
+
+void left_framed(const double *wanted, size_t length)
+{
+    for (size_t i = 0; i < length + 2 * CANARIES; i++)
+        valued(frame[i], i < CANARIES || i - CANARIES >= length ? KEPT : wanted[i - CANARIES]);
 }
 
 double *numbers_at(const lent *slice)

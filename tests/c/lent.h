@@ -2,8 +2,8 @@
  *
  * Every call that is tested on slices is made three times, its slices placed three ways: between canaries, at the end of the
  * memory (the page behind the slice cannot be touched), and at its start (the page before cannot). What lies around a slice is
- * compared too. Where very many matrices are tried (floored.c), a call is made once, between canaries. A call that only prepares
- * a case or takes an answer apart is made once. */
+ * compared too. Where very many matrices are tried (floored.c, teaching.c), a call is made once, between canaries. A call that
+ * only prepares a case or takes an answer apart is made once. */
 #ifndef LENT_H
 #define LENT_H
 
@@ -45,6 +45,8 @@ wholes old_wholes(size_t length);
 double from_bits(uint64_t bits);
 /* A double from -0.5 to 0.5 that looks like chance and is the same in every run; moves the state on. */
 double by_chance(uint32_t *state);
+/* The root, as the processor rounds it. */
+double root(double number);
 
 #define INF __builtin_inf()
 /* A NaN that a call works out: any NaN meets it. */
@@ -71,6 +73,11 @@ typedef struct {
 lent lend_numbers(numbers given, placement where);
 lent lend_words(words given, placement where);
 lent lend_wholes(wholes given, placement where);
+
+/* Numbers between canaries, for calls on very many matrices: they are lent without pages of their own, until others are lent
+ * so. What stands there after the call should be these numbers, and the canaries around them. */
+double *lend_framed(const double *given, size_t length);
+void left_framed(const double *wanted, size_t length);
 
 /* The pointer to pass. */
 double *numbers_at(const lent *slice);

@@ -48,6 +48,24 @@ void fill(kind of, size_t n, uint32_t *chance, double *full)
         repeat_row(n, 0, n - 1, full);
 }
 
+void every_matrix(size_t n, numbers entries, void (*take)(const char *about, size_t n, const double *full))
+{
+    size_t chosen[10] = {0}, at;
+    do {
+        double full[16];
+        char about[100];
+        size_t entry = 0, written = 0;
+        for (size_t j = 0; j < n; j++)
+            for (size_t i = 0; i < n; i++)
+                full[i + j * n] = i < j ? KEPT : entries.at[chosen[entry++]];
+        for (size_t i = 0; i < n * n; i++)
+            written += (size_t)snprintf(about + written, sizeof about - written, "%g ", full[i]);
+        take(about, n, full);
+        for (at = 0; at < entry && ++chosen[at] == entries.length; at++)
+            chosen[at] = 0;
+    } while (at < n * (n + 1) / 2);
+}
+
 unsigned lists_of_cuts(size_t n)
 {
     return 1u << (n == 0 ? 0 : n - 1);
@@ -63,6 +81,14 @@ size_t cuts_of(unsigned list, size_t n, size_t *cuts)
                 cuts[count++] = cut;
         }
     return count;
+}
+
+void set_in_room(size_t room, size_t n, const double *full, double *a)
+{
+    for (size_t i = 0; i < room * room; i++)
+        a[i] = KEPT;
+    for (size_t j = 0; j < n; j++)
+        copy(a + j * room, full + j * n, n);
 }
 
 void copy(double *to, const double *from, size_t length)

@@ -1,4 +1,5 @@
-/* Matrices by chance, in the full layout with KEPT above the diagonal, and the cuts of their rows into batches. */
+/* Matrices by chance and complete sets of small ones, in the full layout with KEPT above the diagonal, and the cuts of their
+ * rows into batches. */
 #ifndef MATRICES_H
 #define MATRICES_H
 
@@ -19,11 +20,15 @@ typedef enum {
 extern const char *const kinds[KINDS];
 
 void fill(kind of, size_t n, uint32_t *chance, double *full);
+/* Every matrix of order n, 4 at most, whose lower part is made of these numbers. */
+void every_matrix(size_t n, numbers entries, void (*take)(const char *about, size_t n, const double *full));
 
 /* The place of (i, j) or (j, i) in the lower part. */
 size_t lower(size_t n, size_t i, size_t j);
 /* Row q, with its column, becomes row p. */
 void repeat_row(size_t n, size_t p, size_t q, double *full);
+/* The first n rows and columns of a room of KEPT. */
+void set_in_room(size_t room, size_t n, const double *full, double *a);
 
 /* The lists of cuts that end at n, up to order 5: how many they are; the cuts of one list, and how many those are. In every
  * second list each batch is followed by one of no rows. */
