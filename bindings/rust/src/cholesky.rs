@@ -75,6 +75,48 @@ pub fn extend(a: &mut [f64], room: usize, earlier: usize, n: usize) -> Result<()
     done(unsafe { ffi::urgyelpat_cholesky_extend(a.as_mut_ptr(), a.len(), room, earlier, n) })
 }
 
+/// The teaching engine, a plain Cholesky for the board: that of order n is that of order n − 1, and then the last row, found from
+/// left to right.
+///
+/// It takes orders up to [`TEACHING_LARGEST`](crate::TEACHING_LARGEST). Where it accepts, `a` holds what [`factor`] leaves there,
+/// to the bit. Larger orders and batches are for [`factor`] and [`extend`].
+///
+/// ```
+/// use urgyelpat::{cholesky, Refusal};
+///
+/// let mut a = [4.0, 2.0, 6.0, 0.0, 5.0, 5.0, 0.0, 0.0, 14.0]; // the lower rows 4 / 2 5 / 6 5 14
+/// cholesky::teaching(&mut a, 3, 3)?;
+/// assert_eq!(a, [2.0, 1.0, 3.0, 0.0, 2.0, 1.0, 0.0, 0.0, 2.0]); // 2 / 1 2 / 3 1 2
+/// # Ok::<(), Refusal>(())
+/// ```
+///
+/// Refused by [`OutOfRange`](Refusal::OutOfRange), also for an order above [`TEACHING_LARGEST`](crate::TEACHING_LARGEST), by
+/// [`OrderAboveRoom`](Refusal::OrderAboveRoom) and [`MatrixLength`](Refusal::MatrixLength), and at a diagonal as [`factor`] is, by
+/// the same refusal at the same row. The rows up to that one, each up to and with its diagonal, are then as [`factor`] leaves
+/// them. The rows below it, the entries right of the diagonals and all that is outside the first n rows and columns are as
+/// given; [`factor`] works in the rows below too.
+///
+/// ```
+/// use urgyelpat::{cholesky, Refusal};
+///
+/// let given = [1.0, 1.0, 2.0, 0.0, 1.0, 2.0, 0.0, 0.0, 9.0]; // the lower rows 1 / 1 1 / 2 2 9
+/// let refused = Err(Refusal::CholeskyZero { column: 1 });
+/// let mut a = given;
+/// assert_eq!(cholesky::teaching(&mut a, 3, 3), refused);
+/// assert_eq!(a, [1.0, 1.0, 2.0, 0.0, 0.0, 2.0, 0.0, 0.0, 9.0]); // 1 / 1 0, and row 2 as given
+///
+/// let mut a = given;
+/// assert_eq!(cholesky::factor(&mut a, 3, 3), refused);
+/// assert_eq!(a, [1.0, 1.0, 2.0, 0.0, 0.0, 0.0, 0.0, 0.0, 9.0]); // 1 / 1 0, and column 1 updated in row 2
+///
+/// let mut a = vec![0.0; 65 * 65];
+/// assert_eq!(cholesky::teaching(&mut a, 65, 65), Err(Refusal::OutOfRange));
+/// ```
+pub fn teaching(a: &mut [f64], room: usize, n: usize) -> Result<(), Refusal> {
+    // SAFETY: the pointer and the length are a slice's, which is borrowed alone.
+    done(unsafe { ffi::urgyelpat_cholesky_teaching(a.as_mut_ptr(), a.len(), room, n) })
+}
+
 /// [`factor`] with a [floor](self#a-floor-for-the-diagonal) for the diagonal. Gives how many columns used it.
 ///
 /// **Ask [`first_twin`] before, and look at the count after.** Where it is not 0, `a` does not hold the factor of the matrix that

@@ -99,6 +99,7 @@ extern "C" {
     ) -> Listed;
     pub fn urgyelpat_cholesky_factor(a: *mut f64, a_length: usize, room: usize, n: usize) -> u64;
     pub fn urgyelpat_cholesky_extend(a: *mut f64, a_length: usize, room: usize, earlier: usize, n: usize) -> u64;
+    pub fn urgyelpat_cholesky_teaching(a: *mut f64, a_length: usize, room: usize, n: usize) -> u64;
     pub fn urgyelpat_cholesky_factor_floored(
         a: *mut f64,
         a_length: usize,

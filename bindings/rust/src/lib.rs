@@ -29,7 +29,8 @@
 //! A matrix stands column by column: entry (i, j) of an n-by-n matrix is at `i + j * n`. In a Cholesky room s it is at
 //! `i + j * s`, and what is outside the first n rows and columns is kept. Of a symmetric matrix LBLT, Cholesky and the search
 //! for twins look at the entries with i ≥ j alone, UDU at those with i ≤ j. Orders, rooms and column counts go up to
-//! [`LARGEST`]. Every `f64` is a content, infinities and NaN too; which NaN a result holds is not promised.
+//! [`LARGEST`], the order of the [teaching engine](cholesky::teaching) up to [`TEACHING_LARGEST`]. Every `f64` is a content,
+//! infinities and NaN too; which NaN a result holds is not promised.
 //!
 //! # Packed triangles
 //!
@@ -38,7 +39,8 @@
 //! as the full layout (proved of the library's calls). Take them where memory counts, or where the numbers come packed;
 //! [`packed::pack`] and [`packed::unpack`] lead from one layout to the other. They have no room for rows to come, so that each
 //! batch of a Cholesky makes new buffers, and no `solve_bench`, `d`, `l_permuted` nor, for Cholesky, `determinant`: for these
-//! unpack the factor. UDU and a Cholesky with a [substitute](Cholesky#substitutes) are in the full layout alone.
+//! unpack the factor. UDU, a Cholesky with a [substitute](Cholesky#substitutes) and the [teaching engine](cholesky::teaching) are
+//! in the full layout alone.
 //!
 //! # Where it runs
 //!
@@ -72,6 +74,9 @@ pub use udu::UDU;
 
 /// The largest order, room and column count.
 pub const LARGEST: usize = 1024;
+
+/// The largest order of the teaching engine, [`cholesky::teaching`].
+pub const TEACHING_LARGEST: usize = 64;
 
 /// The order to take memory for: 0 above [`LARGEST`], where a call is refused before it looks at a length.
 fn kept(order: usize) -> usize {

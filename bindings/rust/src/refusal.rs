@@ -7,13 +7,14 @@ use crate::ffi::{Determined, Floored};
 ///
 /// The checks 1 to 5, then 13, then 6 run in that order, and the first that fails is the answer; every slice is then as it
 /// was. For a LAPACK pivot list, 12 stands where 5 does for a record. Cholesky and UDU go on from there column by column, UDU
-/// from the last one back, and the first diagonal that fails gives its code: for Cholesky just one of 7, 10 and 11 fits it. A
-/// [floor](crate::cholesky#a-floor-for-the-diagonal) above zero stands in for such a diagonal, and none of the three is given.
-/// What 7, 8, 10 and 11 leave is said at the calls that give them.
+/// from the last one back, the [teaching engine](crate::cholesky::teaching) row by row, and the first diagonal that fails
+/// gives its code: for Cholesky just one of 7, 10 and 11 fits it. A [floor](crate::cholesky#a-floor-for-the-diagonal) above zero
+/// stands in for such a diagonal, and none of the three is given. What 7, 8, 10 and 11 leave is said at the calls that give them.
 #[derive(Clone, Copy, Debug, PartialEq, Eq, Hash)]
 #[non_exhaustive]
 pub enum Refusal {
-    /// Code 1: an order, room or column count is above [`LARGEST`](crate::LARGEST), or UDU has order 0.
+    /// Code 1: an order, room or column count is above [`LARGEST`](crate::LARGEST), UDU has order 0, or the
+    /// [teaching engine](crate::cholesky::teaching) an order above [`TEACHING_LARGEST`](crate::TEACHING_LARGEST).
     OutOfRange,
     /// Code 2: an order is above its room, or the earlier order above the order.
     OrderAboveRoom,
@@ -104,7 +105,7 @@ impl fmt::Display for Refusal {
         match *self {
             Refusal::OutOfRange => write!(
                 f,
-                "an order, a room or a column count is above 1,024, or a UDU of order 0 was asked for: check the sizes that were sent"
+                "an order, a room or a column count is above 1,024 (for the teaching engine an order above 64), or a UDU of order 0 was asked for: check the sizes that were sent"
             ),
             Refusal::OrderAboveRoom => write!(
                 f,

@@ -1,7 +1,7 @@
 //! Cholesky's calls with a floor for the diagonal: beside their steps, which are written down here once more, beside the calls
 //! without a floor, and over every cut of the rows; and what they refuse.
 
-use crate::numbers::{bits, one_nan, rows, strange, Numbers};
+use crate::numbers::{bits, in_room, one_nan, rows, strange, Numbers};
 use crate::packed::{every_matrix, matrices, old_numbers, turned_down, Refuses, TOO_LARGE, TURNED_DOWN};
 use crate::packed_cholesky::cuts;
 use urgyelpat::{cholesky, Refusal, LARGEST};
@@ -112,15 +112,6 @@ fn keeps_the_laws(a: &[f64], room: usize, earlier: usize, n: usize, floor: f64) 
         assert!(floored.0.is_ok(), "a floor above zero: {case}");
     }
     floored
-}
-
-/// A matrix of order n in a room, strange numbers around it.
-fn in_room(a: &[f64], n: usize, room: usize) -> Vec<f64> {
-    let mut buffer = strange(room * room, n);
-    for j in 0..n {
-        buffer[j * room..j * room + n].copy_from_slice(&a[j * n..(j + 1) * n]);
-    }
-    buffer
 }
 
 /// The floor's answer to the lower part of a matrix of order n, and what it leaves.

@@ -14,5 +14,6 @@ mod packed_lblt;
 mod refusals;
 mod runs;
 mod substitutes;
+mod teaching;
 mod twins;
 mod udu;

@@ -104,3 +104,12 @@ pub fn strange(count: usize, from: usize) -> Vec<f64> {
     let at = |i| f64::from_bits(STRANGE[(from + i) % STRANGE.len()]);
     (0..count).map(at).collect()
 }
+
+/// A matrix of order n in a room, strange numbers around it.
+pub fn in_room(a: &[f64], n: usize, room: usize) -> Vec<f64> {
+    let mut buffer = strange(room * room, n);
+    for j in 0..n {
+        buffer[j * room..j * room + n].copy_from_slice(&a[j * n..(j + 1) * n]);
+    }
+    buffer
+}

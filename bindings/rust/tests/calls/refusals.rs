@@ -51,6 +51,7 @@ fn each_says_what_to_do_and_where() {
         assert!(sentence.len() > 40, "{sentence}");
         assert_eq!(sentence.contains("row 1"), refusal.place() == 1, "{sentence}");
         for (code, words) in [
+            (1, "above 64"),
             (7, "exactly zero"),
             (10, "fell below zero"),
             (11, "is NaN"),
