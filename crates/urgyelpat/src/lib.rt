@@ -210,7 +210,6 @@ pub extern "C" fn urgyelpat_cholesky_extend_floored(
     floored_numbered(cholesky::extend_floored(a, room, earlier, n, floor))
 }
 
-// n numbers of b a column.
 // By the teaching engine, for an order up to 64.
 #[no_mangle]
 pub extern "C" fn urgyelpat_cholesky_teaching(a: &mut [f64], room: usize, n: usize) -> u64
@@ -219,6 +218,7 @@ pub extern "C" fn urgyelpat_cholesky_teaching(a: &mut [f64], room: usize, n: usi
     teaching::cholesky(a, room, n).number()
 }
 
+// n numbers of b a column.
 #[no_mangle]
 pub extern "C" fn urgyelpat_cholesky_solve(
     a: &[f64],
