@@ -18,6 +18,7 @@ pub enum Call {
     CholeskyExtend,
     CholeskyFactorFloored,
     CholeskyExtendFloored,
+    CholeskyTeaching,
     CholeskySolve,
     CholeskyL,
     CholeskyUnpack,
@@ -50,6 +51,7 @@ impl Call {
             Call::CholeskyExtend => io::write_all(1, b"cholesky_extend"),
             Call::CholeskyFactorFloored => io::write_all(1, b"cholesky_factor_floored"),
             Call::CholeskyExtendFloored => io::write_all(1, b"cholesky_extend_floored"),
+            Call::CholeskyTeaching => io::write_all(1, b"cholesky_teaching"),
             Call::CholeskySolve => io::write_all(1, b"cholesky_solve"),
             Call::CholeskyL => io::write_all(1, b"cholesky_l"),
             Call::CholeskyUnpack => io::write_all(1, b"cholesky_unpack"),
@@ -107,6 +109,7 @@ impl Call {
             Call::CholeskyExtendFloored => {
                 floored(cholesky::extend_floored(&mut a, room, earlier, n, 1.0))
             }
+            Call::CholeskyTeaching => plain(teaching::cholesky(&mut a, room, n)),
             Call::CholeskySolve => plain(cholesky::solve_mut(&a, &mut b, room, n, columns)),
             Call::CholeskyL => plain(cholesky::l(&a, &mut u, room, n)),
             Call::CholeskyUnpack => plain(cholesky::unpack(&mut a, room, n)),

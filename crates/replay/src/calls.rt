@@ -76,7 +76,7 @@ pub fn call(
             part(b, s.b),
             part_words(r, s.r),
         ),
-        6..=10 | 14 => of_cholesky(which, n, x, y, part(a, s.a), part(b, s.b)),
+        6..=10 | 14 | 27 => of_cholesky(which, n, x, y, part(a, s.a), part(b, s.b)),
         11 => of_udu(n, part(a, s.a), part(b, s.b), part(c, s.c)),
         12..=13 => of_twins(which, n, x, y, part(a, s.a)),
         15 => of_bench(
@@ -167,7 +167,8 @@ fn of_cholesky(
         8 => plain(cholesky::l(a, b, room, n)),
         9 => plain(cholesky::unpack(a, room, n)),
         10 => valued(cholesky::determinant(a, room, n)),
-        _ => plain(cholesky::solve_mut(a, b, room, n, y)),
+        14 => plain(cholesky::solve_mut(a, b, room, n, y)),
+        _ => plain(teaching::cholesky(a, room, n)),
     }
 }
 
