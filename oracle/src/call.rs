@@ -25,6 +25,7 @@ pub trait Calls {
     /// The answer, and how many columns used the floor.
     fn cholesky_factor_floored(&self, a: &mut [f64], room: usize, n: usize, floor: f64) -> (u64, u64);
     fn cholesky_extend_floored(&self, a: &mut [f64], room: usize, earlier: usize, n: usize, floor: f64) -> (u64, u64);
+    fn cholesky_teaching(&self, a: &mut [f64], room: usize, n: usize) -> u64;
     fn cholesky_solve(&self, a: &[f64], b: &mut [f64], room: usize, n: usize, columns: usize) -> u64;
     fn cholesky_l(&self, a: &[f64], l: &mut [f64], room: usize, n: usize) -> u64;
     fn cholesky_unpack(&self, a: &mut [f64], room: usize, n: usize) -> u64;
@@ -57,6 +58,7 @@ pub enum Call {
     CholeskyExtend,
     CholeskyFactorFloored,
     CholeskyExtendFloored,
+    CholeskyTeaching,
     CholeskySolve,
     CholeskyL,
     CholeskyUnpack,
@@ -120,7 +122,7 @@ use Number::{Bench, Floor, Info, N, Run, X, Y};
 use Slice::{A, B, Benches, C, List, Record};
 
 #[rustfmt::skip]
-pub const FORMS: [Form; 26] = [
+pub const FORMS: [Form; 27] = [
     Form { call: LbltFactor, name: "lblt_factor", number: 1, numbers: &[N, Run], slices: &[A, Record], valued: false },
     Form { call: LbltSolve, name: "lblt_solve", number: 2, numbers: &[N, X, Run], slices: &[A, Record, B], valued: false },
     Form { call: LbltDeterminant, name: "lblt_determinant", number: 3, numbers: &[N, Run], slices: &[A, Record], valued: true },
@@ -147,6 +149,7 @@ pub const FORMS: [Form; 26] = [
     Form { call: PackedFirstTwin, name: "packed_first_twin", number: 24, numbers: &[N], slices: &[A], valued: false },
     Form { call: CholeskyFactorFloored, name: "cholesky_factor_floored", number: 25, numbers: &[X, N, Floor], slices: &[A], valued: true },
     Form { call: CholeskyExtendFloored, name: "cholesky_extend_floored", number: 26, numbers: &[X, Y, N, Floor], slices: &[A], valued: true },
+    Form { call: CholeskyTeaching, name: "cholesky_teaching", number: 27, numbers: &[X, N], slices: &[A], valued: false },
 ];
 
 impl Call {
@@ -278,6 +281,7 @@ impl Case {
             CholeskyExtend => (calls.cholesky_extend(a, x, y, n), None),
             CholeskyFactorFloored => with_count(calls.cholesky_factor_floored(a, x, n, floor)),
             CholeskyExtendFloored => with_count(calls.cholesky_extend_floored(a, x, y, n, floor)),
+            CholeskyTeaching => (calls.cholesky_teaching(a, x, n), None),
             CholeskySolve => (calls.cholesky_solve(a, b, x, n, y), None),
             CholeskyL => (calls.cholesky_l(a, b, x, n), None),
             CholeskyUnpack => (calls.cholesky_unpack(a, x, n), None),

@@ -44,6 +44,7 @@ pub mod simd {
 }
 
 pub mod back;
+mod by_rows;
 pub mod call;
 pub mod cases;
 pub mod floored;
@@ -53,6 +54,7 @@ pub mod packed;
 pub mod pair;
 pub mod paper;
 pub mod tail;
+pub mod teaching;
 pub mod text;
 
 /// The text.

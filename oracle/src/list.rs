@@ -461,7 +461,7 @@ fn written(call: Call, slice: Slice) -> bool {
     match call {
         Call::LbltFactor | Call::PackedLbltFactor => true,
         Call::CholeskyFactor | Call::CholeskyExtend | Call::CholeskyUnpack | Call::PackedCholeskyFactor => true,
-        Call::CholeskyFactorFloored | Call::CholeskyExtendFloored => true,
+        Call::CholeskyFactorFloored | Call::CholeskyExtendFloored | Call::CholeskyTeaching => true,
         Call::PivotsFromLapack => slice == Slice::Record,
         Call::PackedCholeskyExtend => slice == Slice::C,
         _ => matches!(slice, Slice::B | Slice::C | Slice::List),

@@ -1,7 +1,7 @@
 //! The calls, written from document 01's steps and without the text: a matrix is read and written by `a[(i, j)]`, the loops run entry by entry.
 //! Cholesky's solve, the codes of a diagonal that is turned down, the floor and how many columns used it, the row that a mark may name, the run number,
 //! the bench's solve, LAPACK's lists and packed triangles are written from document 02. The packed calls take the same steps on the packed places;
-//! nothing is unpacked.
+//! nothing is unpacked. The teaching call is worked out row by row, in `by_rows`.
 //! The calls for rows that came twice are written from what twin rows are: all pairs are compared, one after the other.
 
 // sums and quotients stand as the documents write them
@@ -10,6 +10,7 @@
 use std::cmp::Ordering;
 use std::ops::{Deref, DerefMut, Index, IndexMut};
 
+use crate::by_rows;
 use crate::call::{Calls, word};
 
 pub struct Paper;
@@ -214,7 +215,7 @@ impl Lent<&mut [f64]> {
 }
 
 /// Document 02: the code of a number that fails a diagonal's test.
-fn failing(x: f64) -> Option<u64> {
+pub(crate) fn failing(x: f64) -> Option<u64> {
     match x.partial_cmp(&0.0) {
         Some(Ordering::Greater) => None,
         Some(Ordering::Equal) => Some(7),
@@ -319,7 +320,7 @@ impl List<'_> {
     }
 }
 
-fn code(code: u64, place: usize) -> u64 {
+pub(crate) fn code(code: u64, place: usize) -> u64 {
     code << 12 | place as u64
 }
 
@@ -612,6 +613,16 @@ impl Calls for Paper {
 
     fn cholesky_extend_floored(&self, a: &mut [f64], room: usize, earlier: usize, n: usize, floor: f64) -> (u64, u64) {
         cholesky_in_room(a, room, earlier, n, Some(floor))
+    }
+
+    fn cholesky_teaching(&self, a: &mut [f64], room: usize, n: usize) -> u64 {
+        if n > 64 {
+            return code(1, 0);
+        }
+        match in_room(a, room, 0, n) {
+            0 => by_rows::cholesky(a, room, n),
+            refused => refused,
+        }
     }
 
     fn cholesky_solve(&self, a: &[f64], b: &mut [f64], room: usize, n: usize, columns: usize) -> u64 {

@@ -3,10 +3,10 @@
 //! The text itself answers `LBLT::new`, `solve_mut`, `determinant`, `d`, `l_permuted`, `Cholesky::new`, `new_with_substitute`, `l`, `unpack`,
 //! `determinant` and `UDU::new`. What follows document 01 because the text says nothing of it is marked "document 01": the checks before a call, the
 //! room, the further batch, and what stays in the buffers after a refusal. Marked "document 02" are the codes of a diagonal that is turned down, the
-//! floor of a further batch and how many columns used it, the row that a mark may name, the run number, which columns are a bench's, LAPACK's lists:
-//! each number of a list is a pair of a record, and the record's rule is the list's; and packed triangles: they are unpacked, answered in the full
-//! layout and packed again. The text has no call for rows that came twice, and its Cholesky solve rests on triangular solves that it does not contain:
-//! the steps answer these calls here too, in the full layout.
+//! floor of a further batch and how many columns used it, the orders of the teaching call and the rows that it reaches, the row that a mark may name, the
+//! run number, which columns are a bench's, LAPACK's lists: each number of a list is a pair of a record, and the record's rule is the list's; and packed
+//! triangles: they are unpacked, answered in the full layout and packed again. The text has no call for rows that came twice, and its Cholesky solve rests
+//! on triangular solves that it does not contain: the steps answer these calls here too, in the full layout.
 
 use crate::call::{Calls, mark, pairs, record_length};
 use crate::linalg::cholesky::Cholesky;
@@ -236,6 +236,25 @@ fn with_count(a: &mut [f64], room: usize, earlier: usize, n: usize, call: impl F
     (answer, finished.map(fails).filter(|&fails| fails).count() as u64)
 }
 
+/// Document 02: the text's factor of as many of the first rows as it accepts. In the row after them, which it refuses, the entries before the diagonal are
+/// those of `new_unchecked`, which refuses nothing, and the diagonal is updated.
+fn cholesky_by_rows(a: &mut [f64], room: usize, n: usize) -> u64 {
+    let given = a.to_vec();
+    let accepted = |rows: usize| Some((rows, Cholesky::new(leading(&given, room, rows))?));
+    let (rows, factor) = (0..=n).rev().find_map(accepted).expect("the text accepts no rows");
+    put_leading(a, room, rows, factor.l_dirty().as_slice());
+    if rows == n {
+        return DONE;
+    }
+    let unchecked = Cholesky::new_unchecked(leading(&given, room, rows + 1)).unpack_dirty();
+    for k in 0..rows {
+        a[rows + k * room] = unchecked[(rows, k)];
+    }
+    let diagonal = updated(a, room, rows, rows);
+    a[rows + rows * room] = diagonal;
+    refusal(turned_down(diagonal).expect("the text refuses a diagonal that document 02 accepts"), rows)
+}
+
 fn leading_of(whole: &Square, n: usize, m: usize) -> Square {
     leading(whole.as_slice(), n, m)
 }
@@ -337,6 +356,11 @@ impl Calls for Text {
 
     fn cholesky_extend_floored(&self, a: &mut [f64], room: usize, earlier: usize, n: usize, floor: f64) -> (u64, u64) {
         with_count(a, room, earlier, n, |a| cholesky_extend(a, room, earlier, n, Some(floor)))
+    }
+
+    fn cholesky_teaching(&self, a: &mut [f64], room: usize, n: usize) -> u64 {
+        let above_its_most = (n > 64).then(|| refusal(1, 0));
+        above_its_most.or_else(|| checks::in_room(a, room, 0, n)).unwrap_or_else(|| cholesky_by_rows(a, room, n))
     }
 
     fn cholesky_solve(&self, a: &[f64], b: &mut [f64], room: usize, n: usize, columns: usize) -> u64 {

@@ -4,9 +4,11 @@
 //! held against those rows and columns of UDU of the whole, a bench's solve against one that differs only in the columns of the other benches, and a list
 //! or a record against what comes back of it. Beside every full call that has one its packed call is made and held against it, and packed batches are held
 //! against one packed call on the whole and against the batches of the full layout. Beside every plain factor and further batch of Cholesky floored calls
-//! are made and held against it, and floored batches against one floored call. What is packed or floored is counted by itself.
+//! are made and held against it, and floored batches against one floored call. Beside every plain factor of Cholesky the teaching call is made and held
+//! against it. What is packed or floored, and the teaching call, is counted by itself.
 
 mod floored;
+mod teaching;
 
 use std::collections::BTreeMap;
 use std::process::ExitCode;
@@ -19,6 +21,7 @@ use oracle::text::Text;
 use oracle::{back, packed, pair, tail};
 
 use floored::Floored;
+use teaching::Taught;
 
 fn main() -> ExitCode {
     let words: Vec<String> = std::env::args().skip(1).collect();
@@ -73,9 +76,13 @@ fn main() -> ExitCode {
     let (chain, floor) = cases::largest_floored_chain();
     tally.hold_floored_chain(&chain, floor);
     println!("floored beside these, and of their own: {} calls, {} chains", tally.floored.calls(), tally.floored.chains());
+    let taught = [cases::taught_small(), cases::taught_orders(), cases::taught_refusals(), cases::largest_taught()];
+    taught.iter().flatten().for_each(|case| tally.hold_taught(case));
+    println!("teaching beside these, and of their own: {} calls", tally.taught.calls());
     let before = tally.calls();
     let (packed_calls, packed_chains) = (tally.packed.calls(), tally.packed.chains());
     let (floored_calls, floored_chains) = (tally.floored.calls(), tally.floored.chains());
+    let taught_calls = tally.taught.calls();
     for seed in first..first + seeds {
         let family = cases::family(seed);
         family.cases.iter().for_each(|case| tally.hold(case));
@@ -91,12 +98,14 @@ fn main() -> ExitCode {
         cases::floored(seed).iter().for_each(|case| tally.hold_floored(case));
         let (chain, floor) = cases::floored_chain(seed);
         tally.hold_floored_chain(&chain, floor);
+        cases::taught(seed).iter().for_each(|case| tally.hold_taught(case));
     }
     println!("seeds {first} to {}: {} calls", (first + seeds).saturating_sub(1), tally.calls() - before);
     let (calls, chains) = (tally.packed.calls() - packed_calls, tally.packed.chains() - packed_chains);
     println!("packed beside these, and of their own: {calls} calls, {chains} chains");
     let (calls, chains) = (tally.floored.calls() - floored_calls, tally.floored.chains() - floored_chains);
     println!("floored beside these, and of their own: {calls} calls, {chains} chains");
+    println!("teaching beside these, and of their own: {} calls", tally.taught.calls() - taught_calls);
     tally.print(against);
     if tally.differences == 0 { ExitCode::SUCCESS } else { ExitCode::FAILURE }
 }
@@ -116,6 +125,7 @@ struct Tally<'a> {
     backs: Backs,
     packed: Packed,
     floored: Floored,
+    taught: Taught,
     differences: u64,
     smallest: Option<(usize, String)>,
 }
@@ -185,6 +195,7 @@ impl<'a> Tally<'a> {
             backs: Backs::default(),
             packed: Packed::default(),
             floored: Floored::default(),
+            taught: Taught::default(),
             differences: 0,
             smallest: None,
         }
@@ -232,12 +243,18 @@ impl<'a> Tally<'a> {
             self.hold_back(case, text, other);
         }
         self.hold_floors(case, text, other);
+        self.hold_taught_beside(case, text, other);
     }
 
     fn hold_alike(&mut self, case: &Case, text: &Outcome, other: &Outcome) {
-        if text != other {
-            let said = format!("{}\ntext  {}\nother {}", case_line(case), outcome_line(case, text), outcome_line(case, other));
-            self.differ(case.size(), said);
+        self.hold_one_alike(case, "text", text, other);
+    }
+
+    /// What one implementation of this name and the other answer and leave.
+    fn hold_one_alike(&mut self, case: &Case, name: &str, one: &Outcome, other: &Outcome) {
+        if one != other {
+            let [one, other] = [one, other].map(|outcome| outcome_line(case, outcome));
+            self.differ(case.size(), format!("{}\n{name}  {one}\nother {other}", case_line(case)));
         }
     }
 
@@ -262,12 +279,12 @@ impl<'a> Tally<'a> {
         }
     }
 
-    /// What a packed call is to leave by what another call leaves, and what is found.
-    fn hold_kept(&mut self, packed: &Case, by: &Case, kept: &Outcome, found: &Outcome, name: &str) {
+    /// What a call is to leave by what another call leaves, and what is found.
+    fn hold_kept(&mut self, case: &Case, by: &Case, kept: &Outcome, found: &Outcome, name: &str) {
         if kept != found {
-            let [kept, found] = [kept, found].map(|outcome| outcome_line(packed, outcome));
-            let said = format!("{}\n{}\nby the {name}\nkept  {kept}\nfound {found}", case_line(by), case_line(packed));
-            self.differ(packed.size(), said);
+            let [kept, found] = [kept, found].map(|outcome| outcome_line(case, outcome));
+            let said = format!("{}\n{}\nby the {name}\nkept  {kept}\nfound {found}", case_line(by), case_line(case));
+            self.differ(case.size(), said);
         }
     }
 
@@ -430,9 +447,10 @@ impl<'a> Tally<'a> {
             self.packed.accepted, self.packed.refused, self.packed.batches
         );
         self.floored.print();
+        self.taught.print();
         println!(
             "text against {against}: {} calls, {} chains, {} blocks, {} pairs, {} there and back, {} packed calls, {} packed chains, \
-             {} floored calls, {} floored chains, {} differ",
+             {} floored calls, {} floored chains, {} teaching calls, {} differ",
             self.calls(),
             self.chains,
             self.tails.accepted + self.tails.before + self.tails.within,
@@ -442,6 +460,7 @@ impl<'a> Tally<'a> {
             self.packed.chains(),
             self.floored.calls(),
             self.floored.chains(),
+            self.taught.calls(),
             self.differences
         );
         if let Some((_, said)) = &self.smallest {

@@ -73,6 +73,7 @@ unsafe extern "C" {
     fn urgyelpat_cholesky_extend(a: *mut f64, a_len: usize, room: usize, earlier: usize, n: usize) -> u64;
     fn urgyelpat_cholesky_factor_floored(a: *mut f64, a_len: usize, room: usize, n: usize, floor: f64) -> Floored;
     fn urgyelpat_cholesky_extend_floored(a: *mut f64, a_len: usize, room: usize, earlier: usize, n: usize, floor: f64) -> Floored;
+    fn urgyelpat_cholesky_teaching(a: *mut f64, a_len: usize, room: usize, n: usize) -> u64;
     fn urgyelpat_cholesky_solve(a: *const f64, a_len: usize, b: *mut f64, b_len: usize, room: usize, n: usize, columns: usize) -> u64;
     fn urgyelpat_cholesky_l(a: *const f64, a_len: usize, l: *mut f64, l_len: usize, room: usize, n: usize) -> u64;
     fn urgyelpat_cholesky_unpack(a: *mut f64, a_len: usize, room: usize, n: usize) -> u64;
@@ -205,6 +206,11 @@ impl Calls for Port {
     fn cholesky_extend_floored(&self, a: &mut [f64], room: usize, earlier: usize, n: usize, floor: f64) -> (u64, u64) {
         let r = unsafe { urgyelpat_cholesky_extend_floored(a.as_mut_ptr(), a.len(), room, earlier, n, floor) };
         (r.answer, r.used)
+    }
+
+    #[inline]
+    fn cholesky_teaching(&self, a: &mut [f64], room: usize, n: usize) -> u64 {
+        unsafe { urgyelpat_cholesky_teaching(a.as_mut_ptr(), a.len(), room, n) }
     }
 
     #[inline]

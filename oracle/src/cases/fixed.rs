@@ -108,7 +108,7 @@ const IN_A_ROOM: [Call; 8] = [
     Call::FirstTwin,
 ];
 
-const FAR: [usize; 6] = [1025, 1026, 4096, 1 << 32, 1 << 63, usize::MAX];
+pub(super) const FAR: [usize; 6] = [1025, 1026, 4096, 1 << 32, 1 << 63, usize::MAX];
 
 /// Wrong counts, wrong orders, wrong lengths and broken records, alone and together, so that the order of the checks shows.
 pub fn refusals() -> Vec<Case> {

@@ -2,8 +2,7 @@
 
 use super::families::{Chain, order, placed, some_cuts};
 use super::fixed::{SPECIAL, fits, spoiled};
-use super::matrices::{FOR_FLOOR, Numbers, Symmetric, fill, filled, number, symmetric};
-use super::packed::again;
+use super::matrices::{FOR_FLOOR, Numbers, Symmetric, again, fill, filled, heavy_diagonal, number, symmetric};
 use super::rng::Rng;
 use crate::call::{Call, Calls, Case, words};
 use crate::list::{DIGEST_START, digest_of};
@@ -93,7 +92,7 @@ pub fn floored_refusals() -> Vec<Case> {
 }
 
 /// Some of the diagonals are others, or some of the rows came twice.
-fn broken(r: &mut Rng, mut m: Symmetric) -> Symmetric {
+pub(super) fn broken(r: &mut Rng, mut m: Symmetric) -> Symmetric {
     let kind = r.below(4);
     let every = 1 + r.below(4);
     for row in 0..m.n {
@@ -163,7 +162,7 @@ pub fn floors_for(chain: &Chain) -> Vec<f64> {
 fn large() -> (usize, Symmetric) {
     let n = 1024;
     let r = &mut Rng::new(1030);
-    let mut m = Symmetric::of(n, |i, j| r.unit() + if i == j { n as f64 } else { 0.0 });
+    let mut m = heavy_diagonal(r, n);
     for (row, x) in [(0, 0.0), (1, -1.0), (100, f64::NAN), (511, -0.0), (512, 1.0), (1000, f64::MIN), (1022, f64::NAN), (1023, -LEAST)] {
         m.put(row, row, x);
     }

@@ -13,6 +13,7 @@ pub fn filled(len: usize) -> Vec<f64> {
 }
 
 /// A symmetric matrix of order n: entry (i, j) at i + j·n.
+#[derive(Clone)]
 pub struct Symmetric {
     pub n: usize,
     pub cells: Vec<f64>,
@@ -45,7 +46,7 @@ impl Symmetric {
 
     /// The matrix with another number in one place.
     pub(super) fn with(&self, i: usize, j: usize, x: f64) -> Symmetric {
-        let mut m = Symmetric { n: self.n, cells: self.cells.clone() };
+        let mut m = self.clone();
         m.put(i, j, x);
         m
     }
@@ -205,7 +206,7 @@ fn block_diagonal(r: &mut Rng, n: usize) -> Symmetric {
     m
 }
 
-fn heavy_diagonal(r: &mut Rng, n: usize) -> Symmetric {
+pub(super) fn heavy_diagonal(r: &mut Rng, n: usize) -> Symmetric {
     Symmetric::of(n, |i, j| if i == j { n as f64 + r.unit() } else { r.unit() })
 }
 
@@ -234,6 +235,33 @@ fn definite_exact(r: &mut Rng, n: usize) -> Symmetric {
         let sum: f64 = (0..=j).map(|k| l[i + k * n] * l[j + k * n]).sum();
         sum * power_of_two(e[i]) * power_of_two(e[j])
     })
+}
+
+/// L·Lᵀ with small whole numbers: the roots and quotients of its Cholesky are exact.
+pub(super) struct Exact {
+    pub matrix: Symmetric,
+    /// What the columns before it take off the diagonal of each row.
+    taken: Vec<f64>,
+}
+
+pub(super) fn exact(r: &mut Rng, n: usize) -> Exact {
+    let l = Symmetric::of(n, |i, j| if i == j { r.between(1, 4) } else { r.between(-2, 2) } as f64);
+    let matrix = Symmetric::of(n, |i, j| (0..=j).map(|k| l.get(i, k) * l.get(j, k)).sum());
+    let taken = (0..n).map(|row| (0..row).map(|k| l.get(row, k) * l.get(row, k)).sum()).collect();
+    Exact { matrix, taken }
+}
+
+impl Exact {
+    /// What is left of the diagonal of this row is zero, below zero, NaN.
+    pub(super) fn refused_at(&self, row: usize) -> [Symmetric; 3] {
+        [self.taken[row], self.taken[row] - 1.0, f64::NAN].map(|x| self.matrix.with(row, row, x))
+    }
+}
+
+/// Row and column q are those of p.
+pub(super) fn again(m: &Symmetric, p: usize, q: usize) -> Symmetric {
+    let source = |row: usize| if row == q { p } else { row };
+    Symmetric::of(m.n, |i, j| m.get(source(i), source(j)))
 }
 
 /// B·Bᵀ and some of the identity: positive definite with rounding everywhere.

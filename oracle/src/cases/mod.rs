@@ -9,6 +9,7 @@ mod matrices;
 mod packed;
 mod rng;
 mod solves;
+mod teaching;
 mod twins;
 
 pub use benches::{bench_lists, benches, benches_of_all_orders, largest_benches};
@@ -23,4 +24,5 @@ pub use matrices::{fill, filled};
 pub use packed::{chains_of_all_cuts, full_calls_on_triangles, largest_chains, largest_packed, packed_chain, packed_refusals};
 pub use rng::Rng;
 pub use solves::{largest_solves, solves, solves_of_all_orders};
+pub use teaching::{largest_taught, taught, taught_orders, taught_refusals, taught_small};
 pub use twins::{largest_twins, twins};

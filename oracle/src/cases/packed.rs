@@ -3,7 +3,7 @@
 use super::families::{Chain, order, some_cuts};
 use super::filled;
 use super::fixed::{RUN, SPECIAL, fits, spoiled};
-use super::matrices::{FOR_SOLVE, Symmetric, symmetric};
+use super::matrices::{FOR_SOLVE, Symmetric, again, exact, heavy_diagonal, symmetric};
 use super::rng::Rng;
 use crate::call::{Call, Case, FORMS, record_length};
 use crate::packed::packed_length;
@@ -89,7 +89,7 @@ pub fn largest_packed() -> Vec<Case> {
 pub fn largest_chains() -> Vec<Chain> {
     let r = &mut Rng::new(1029);
     let n = 1024;
-    let heavy = Symmetric::of(n, |i, j| r.unit() + if i == j { n as f64 } else { 0.0 });
+    let heavy = heavy_diagonal(r, n);
     let refused = heavy.with(1023, 1023, -1.0);
     [heavy, refused].map(|m| chain(&m, n, vec![300, 1023, 1024, 1024])).into()
 }
@@ -127,33 +127,23 @@ pub fn chains_of_all_cuts() -> Vec<Chain> {
     out
 }
 
-fn small_matrices(r: &mut Rng, n: usize) -> Vec<Symmetric> {
-    let heavy = Symmetric::of(n, |i, j| r.unit() + if i == j { n as f64 } else { 0.0 });
-    // L·Lᵀ with whole numbers: the roots and quotients are exact
-    let l = Symmetric::of(n, |i, j| if i == j { r.between(1, 4) } else { r.between(-2, 2) } as f64);
-    let exact = Symmetric::of(n, |i, j| (0..=j).map(|k| l.get(i, k) * l.get(j, k)).sum());
+pub(super) fn small_matrices(r: &mut Rng, n: usize) -> Vec<Symmetric> {
+    let heavy = heavy_diagonal(r, n);
+    let whole = exact(r, n);
     let mut out = vec![];
     for row in 0..n {
-        let squares: f64 = (0..row).map(|k| l.get(row, k) * l.get(row, k)).sum();
-        // what is left of the diagonal is zero, below zero, NaN
-        out.extend([squares, squares - 1.0, f64::NAN].map(|x| exact.with(row, row, x)));
+        out.extend(whole.refused_at(row));
         for p in 0..row {
-            out.extend([&exact, &heavy].map(|m| again(m, p, row)));
+            out.extend([&whole.matrix, &heavy].map(|m| again(m, p, row)));
         }
         for column in 0..=row {
             for x in [0.0, -0.0, f64::from_bits(1), -1.0, f64::MAX, f64::INFINITY, f64::NEG_INFINITY, f64::NAN] {
-                out.push(exact.with(row, column, x));
+                out.push(whole.matrix.with(row, column, x));
             }
         }
     }
-    out.extend([heavy, exact]);
+    out.extend([heavy, whole.matrix]);
     out
-}
-
-/// Row and column q are those of p.
-pub(super) fn again(m: &Symmetric, p: usize, q: usize) -> Symmetric {
-    let source = |row: usize| if row == q { p } else { row };
-    Symmetric::of(m.n, |i, j| m.get(source(i).max(source(j)), source(i).min(source(j))))
 }
 
 /// A matrix by chance, with a row that came twice or another diagonal in it now and then, in batches by chance. The last may end before the order.

@@ -4,7 +4,7 @@ use oracle::call::{Call, Case, Slice};
 use oracle::cases::{self, FAILING, PASSING};
 use oracle::list::{Pattern, Spot, Writer};
 
-use super::{ALL, COUNTS, NANS, ONE, ORDERS, bits, emit, emit_all, matrix, set_unless_there, some_of_each_code};
+use super::{ALL, COUNTS, NANS, ONE, ORDERS, bits, calls_by_seed, emit_all, matrix, set_unless_there, some_of_each_code};
 
 /// The floor stands alone in register C.
 pub fn set_floor(w: &mut Writer, floor: f64) {
@@ -36,9 +36,9 @@ pub fn cholesky(w: &mut Writer) {
     by_hand(w);
     diagonals(w);
     refused(w);
-    families(w, 1..=3, 1500, 9_000_000);
-    families(w, 4..=6, 1300, 9_010_000);
-    families(w, 9..=12, 700, 9_020_000);
+    calls_by_seed(w, cases::floored, 1..=3, 1500, 9_000_000);
+    calls_by_seed(w, cases::floored, 4..=6, 1300, 9_010_000);
+    calls_by_seed(w, cases::floored, 9..=12, 700, 9_020_000);
     chains(w, 2..=6, 900, 9_030_000);
     by_chance(w);
 }
@@ -115,23 +115,7 @@ fn refused(w: &mut Writer) {
     }
 }
 
-/// Floored calls of the seeds from `seed` on with orders from `orders`, until `words` more have been written.
-fn families(w: &mut Writer, orders: std::ops::RangeInclusive<usize>, words: usize, seed: u64) {
-    let end = w.list.len() + words;
-    let mut seed = seed;
-    while w.list.len() < end {
-        let cases = cases::floored(seed);
-        if orders.contains(&cases[0].n) {
-            for case in &cases {
-                w.case();
-                emit(w, case);
-            }
-        }
-        seed += 1;
-    }
-}
-
-/// Chains of floored batches, likewise.
+/// Chains of floored batches of the seeds from `seed` on with orders from `orders`, until `words` more have been written.
 fn chains(w: &mut Writer, orders: std::ops::RangeInclusive<usize>, words: usize, seed: u64) {
     let end = w.list.len() + words;
     let mut seed = seed;

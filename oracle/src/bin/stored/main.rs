@@ -2,6 +2,7 @@
 //! stored --replay FOLDER: replays them on the text and on the steps and says what differs.
 
 mod floored;
+mod teaching;
 
 use std::path::Path;
 use std::process::ExitCode;
@@ -123,6 +124,18 @@ fn families(w: &mut Writer, first: Call, orders: std::ops::RangeInclusive<usize>
     }
 }
 
+/// Calls of the seeds from `seed` on with orders from `orders`, each a case of its own, until `words` more have been written.
+fn calls_by_seed(w: &mut Writer, of_a_seed: impl Fn(u64) -> Vec<Case>, orders: std::ops::RangeInclusive<usize>, words: usize, seed: u64) {
+    let end = w.list.len() + words;
+    let mut seed = seed;
+    while w.list.len() < end {
+        for case in of_a_seed(seed).iter().filter(|case| orders.contains(&case.n)) {
+            emit_all(w, [case]);
+        }
+        seed += 1;
+    }
+}
+
 /// Of the refusals of these calls, some for each call and code.
 fn refusals(w: &mut Writer, calls: &[Call]) {
     some_of_each_code(w, cases::refusals(), calls);
@@ -161,11 +174,15 @@ fn records(w: &mut Writer) {
 
 /// A matrix by its lower rows.
 fn matrix(n: usize, lower: &[f64]) -> Vec<f64> {
-    let mut a: Vec<f64> = (0..n * n).map(fill).collect();
+    matrix_in_room(n, n, lower)
+}
+
+fn matrix_in_room(n: usize, room: usize, lower: &[f64]) -> Vec<f64> {
+    let mut a = filled(room * room);
     let mut given = lower.iter();
     for i in 0..n {
         for j in 0..=i {
-            a[i + j * n] = *given.next().expect("all lower rows");
+            a[i + j * room] = *given.next().expect("all lower rows");
         }
     }
     a
@@ -561,6 +578,7 @@ fn cholesky(w: &mut Writer) {
     cholesky_solves(w);
     packed_cholesky(w);
     floored::cholesky(w);
+    teaching::cholesky(w);
 }
 
 /// Solves of the seeds from `seed` on with orders from `orders`, the shorter ones, until `words` more have been written.
