@@ -5,3 +5,4 @@ pub mod Done
 pub mod Accepted
 pub mod Overwritten
 pub mod Runs
+pub mod Inside

@@ -1,4 +1,4 @@
--- What stood in the record before does not matter: all its words are written. Assumes nothing.
+-- What stood in the record before does not matter: all its words are written, and the matrix does not feel them. Assumes nothing.
 use mathlib.Core.Path.{_≡_, refl, sym, _∙_, ap, subst}
 use mathlib.Core.Bool.{Bool, true, false, cond}
 use mathlib.Core.List.{List}
@@ -87,6 +87,7 @@ step-over n S words = take-over n S words (choose n (S .matrix) (S .row))
 
 -- what the steps end with over two records
 record Ends (n : ℕ) (S S' : State) : Type 0 where
+  pub matrix : S .matrix ≡ S' .matrix
   pub mark : S .mark ≡ S' .mark
   pub words : Alike (markWord n) (S .words) (S' .words)
   pub long : length (S .words) ≡ wordsOf n
@@ -97,7 +98,7 @@ by-test n false f g = g refl
 
 stepped-over : (fuel n : ℕ) (S : State) (words words' : List ℕ) → length words ≡ wordsOf n → n ≤ S .row + fuel → Alike (indexWord (S .row)) words words' → Ends n (stepped fuel n (over S words)) (stepped fuel n (over S words'))
 unfolding stepped
-stepped-over zero n S words words' long enough a = record { mark = refl; words = alike-less (omega arith) a; long = long }
+stepped-over zero n S words words' long enough a = record { matrix = refl; mark = refl; words = alike-less (omega arith) a; long = long }
 stepped-over (suc fuel) n S words words' long enough a =
     by-test n (ltb (S .row) n)
     (λ test.
@@ -107,7 +108,7 @@ stepped-over (suc fuel) n S words words' long enough a =
     (stepped-over fuel n (step n S) (noted S c words) (noted S c words') (noted-long S c words ∙ long) (omega (arith, step-rises n S)) (alike-step n S words words' long more a)))
     (λ test.
     let past : n ≤ S .row = ltb-false (S .row) n test in
-    record { mark = refl; words = alike-less (omega arith) a; long = long })
+    record { matrix = refl; mark = refl; words = alike-less (omega arith) a; long = long })
 
 -- ---- the record
 
@@ -119,10 +120,18 @@ alike-all n run {words} {words'} m long a =
     ext-getD 0 (set (set words (markWord n) m) (runWord n) run) (set (set words' (markWord n) m) (runWord n) run) (b .long)
     (λ p h. b .first p (omega (arith, length-set (set words (markWord n) m) (runWord n) run, marks)))
 
-pub overwritten : (n run : ℕ) (M : Matrix) (words words' : List ℕ) → Sized n words → Sized n words' → recorded n run M words ≡ recorded n run M words'
-unfolding recorded finalState firstState
-overwritten n run M words words' sized sized' =
-    let e = stepped-over n n (record { matrix = M; words = words; row = 0; mark = 0 }) words words' (sized .total) (omega arith)
-    (record { long = sized .total ∙ sym (sized' .total); first = λ p h. absurd (omega arith) }) in
-    alike-all n run (stepped n n (record { matrix = M; words = words; row = 0; mark = 0 }) .mark) (e .long) (e .words)
-    ∙ ap (λ (m : ℕ). stamped n (marked n (stepped n n (record { matrix = M; words = words'; row = 0; mark = 0 }) .words) m) run) (e .mark)
+module _ (n : ℕ) (M : Matrix) (words words' : List ℕ) (sized : Sized n words) (sized' : Sized n words') where
+  ends : Ends n (finalState n M words) (finalState n M words')
+  unfolding finalState firstState
+  ends =
+      stepped-over n n (record { matrix = M; words = words; row = 0; mark = 0 }) words words' (sized .total) (omega arith)
+      (record { long = sized .total ∙ sym (sized' .total); first = λ p h. absurd (omega arith) })
+
+  pub overwritten : (run : ℕ) → recorded n run M words ≡ recorded n run M words'
+  unfolding recorded
+  overwritten run =
+      alike-all n run (finalState n M words .mark) (ends .long) (ends .words)
+      ∙ ap (λ (m : ℕ). stamped n (marked n (finalState n M words' .words) m) run) (ends .mark)
+
+  pub factor-apart : finalState n M words .matrix ≡ finalState n M words' .matrix
+  factor-apart = ends .matrix

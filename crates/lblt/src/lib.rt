@@ -12,6 +12,8 @@ use matrix::Layout;
 
 mod notes;
 
+pub use notes::first_mark;
+
 // The row reached, and the first mark: 0, or the marked row + 1.
 struct Reached {
     row: usize,

@@ -9,6 +9,9 @@ mod interchange;
 mod rank1;
 mod rank2;
 
+pub use rank2::Block;
+pub use rank2::Work;
+
 // A pivot of size 1 from row p at step k.
 pub fn pivot1(y: Layout, a: &mut [f64], k: usize, p: usize)
     requires { ⌜ Laid y (now a) ⌝ }

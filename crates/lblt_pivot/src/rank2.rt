@@ -33,7 +33,7 @@ impl Block {
     }
 
     // w1 and w2 of a row, from its entries in columns k and k + 1.
-    fn work(self, ajk: f64, ajk1: f64) -> Work
+    pub fn work(self, ajk: f64, ajk1: f64) -> Work
         ensures { λ r. ⌜ r ≡ workBy self ajk ajk1 ⌝ }
     {
         let multiplier = self.multiplier();

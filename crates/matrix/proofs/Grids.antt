@@ -4,6 +4,7 @@
 --   holds-unique                         two slices that hold one matrix over one slice are equal
 --   holds-part                           a part of the grid, where the other entries are as they were
 --   load-in     same-cells               an entry of `load`; two matrices that agree on the grid
+--   Bare  bare-load -entry -exchange -mask   nothing stands outside the grid: of what a slice holds, after a store, after two; such a matrix is its own mask
 -- Assumes nothing.
 use mathlib.Core.Path.{_≡_, refl, sym, _∙_, ap, subst, fun-ext}
 use mathlib.Core.Bool.{Bool, true, false, cond, not, _&&_}
@@ -19,10 +20,11 @@ use lib.Ieee.{Float, nan}
 use lib.Ieee.Bits.{is-true}
 use lib.Ieee.Fits.{and-l, and-r}
 use borrow.Author.Tests.{eq-eqb, eqb-true, eqb-false}
-use Rattle.matrix.specs.Matrix.{Matrix, entry}
+use Rattle.matrix.specs.Matrix.{Matrix, entry, exchange}
 use Rattle.matrix.specs.Loop.{for}
 use Rattle.matrix.specs.Grid.{Grid, Fair, Sound, load, mask, Free, Holds}
 use Rattle.matrix.proofs.Loops.{for-none, for-more, for-two, for-join}
+use Rattle.matrix.proofs.Stores.{entry-skip}
 
 -- ---- an entry of a slice
 
@@ -54,6 +56,33 @@ same-cells g M N each = fun-ext (λ i. fun-ext (λ j. at i j (g .inside i j) ref
     at : (i j : ℕ) (b : Bool) → g .inside i j ≡ b → cond (g .inside i j) (M i j) nan ≡ cond (g .inside i j) (N i j) nan
     at i j true e = rw e (each i j (subst T (sym e) tt))
     at i j false e = rw e
+
+-- ---- nothing stands outside
+
+pub record Bare (g : Grid) (M : Matrix) : Type 0 where
+  pub outside : (i j : ℕ) → g .inside i j ≡ false → M i j ≡ nan
+
+pub bare-load : (g : Grid) (l : List Float) → Bare g (load g l)
+unfolding load
+bare-load g l = record { outside = λ i j out. rw out }
+
+pub bare-entry : {g : Grid} {M : Matrix} (i j : ℕ) (v : Float) → T (g .inside i j) → Bare g M → Bare g (entry M i j v)
+bare-entry {g} {M} i j v here bare = record { outside = λ r c out. entry-skip M i j v r c (λ row column. apart r c out row column) ∙ bare .outside r c out }
+  where
+    apart : (r c : ℕ) → g .inside r c ≡ false → r ≡ i → c ≡ j → ⊥
+    apart r c out row column = let gone : g .inside i j ≡ false = rw (row, column) at out in subst T gone here
+
+pub bare-exchange : {g : Grid} {M : Matrix} (i j r c : ℕ) → T (g .inside i j) → T (g .inside r c) → Bare g M → Bare g (exchange M i j r c)
+unfolding exchange
+bare-exchange {M = M} i j r c here there bare = bare-entry r c (M i j) there (bare-entry i j (M r c) here bare)
+
+pub bare-mask : {g : Grid} {M : Matrix} → Bare g M → mask g M ≡ M
+unfolding mask
+bare-mask {g} {M} bare = fun-ext (λ i. fun-ext (λ j. at i j (g .inside i j) refl))
+  where
+    at : (i j : ℕ) (b : Bool) → g .inside i j ≡ b → cond (g .inside i j) (M i j) nan ≡ M i j
+    at i j true e = rw e
+    at i j false e = rw e (sym (bare .outside i j e))
 
 -- ---- one entry stored
 

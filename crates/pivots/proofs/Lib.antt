@@ -8,3 +8,4 @@ pub mod Rows
 pub mod Written
 pub mod Walks
 pub mod WholeWalks
+pub mod Alike

@@ -1,0 +1,9 @@
+pub mod Choices
+pub mod Pivots
+pub mod Listed
+pub mod Triangles
+pub mod Reaching
+pub mod ByValue
+pub mod Solving
+pub mod Records
+pub mod Answers

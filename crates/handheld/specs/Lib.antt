@@ -1,0 +1,3 @@
+pub mod Shapes
+pub mod Promise
+pub mod inner
