@@ -7,3 +7,4 @@ pub mod ByValue
 pub mod Solving
 pub mod Records
 pub mod Answers
+pub mod Promises

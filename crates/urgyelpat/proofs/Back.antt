@@ -11,12 +11,17 @@ use Rattle.answer.specs.Number.{codeOf, placeOf, numberOf}
 use Rattle.answer.proofs.Back.{code-back, place-back}
 use Rattle.answer.proofs.Within.{Within}
 use Rattle.matrix.specs.declared.Layout.{Layout}
+use Rattle.handheld.specs.declared.Column3.{Column3}
+use Rattle.handheld.specs.declared.Pivots3.{Pivots3}
 use Rattle.twins.specs.declared.Twin.{Twin}
 use Rattle.twins.specs.declared.Twin.the-variants.{Nothing, Pair, Refused}
 use Rattle.twins.specs.Number.{twinNumber}
 use Rattle.urgyelpat.specs.declared.Determined.{Determined}
 use Rattle.urgyelpat.specs.declared.Listed.{Listed}
 use Rattle.urgyelpat.specs.declared.Floored.{Floored}
+use Rattle.urgyelpat.specs.declared.Matrix3.{Matrix3}
+use Rattle.urgyelpat.specs.declared.Solved3.{Solved3}
+use Rattle.urgyelpat.specs.Calls.{HandheldSolve}
 use Rattle.urgyelpat.specs.Calls.{FactorOn, SolveOn, DeterminantOn, ExtendOn, SolveTrianglesOn, FirstTwinPairOn}
 use Rattle.urgyelpat.specs.Calls.{LbltSolveBench, LbltD, LbltLPermuted}
 use Rattle.urgyelpat.specs.Calls.{PivotsFromLapack, PivotsToLapack}
@@ -59,6 +64,11 @@ module _ {n run : ℕ} {a : List Float} {words : List ℕ} where
 
   pub lblt-l-permuted-back : {l l' : List Float} {r : ℕ} (c : LbltLPermuted n run a words l r l') → Back (c .below) r
   lblt-l-permuted-back c = number-back (c .result) (readers.filled-within (c .given))
+
+-- ---- LBLT by value
+
+pub handheld-solve-back : {matrix : Matrix3} {pivots : Pivots3} {side : Column3} {r : Solved3} (c : HandheldSolve matrix pivots side r) → Back (c .below .answer) (r .answer)
+handheld-solve-back c = number-back (ap (λ (s : Solved3). s .answer) (c .result)) (readers.solved-within (c .given .lent 0))
 
 -- ---- LAPACK pivot lists
 

@@ -19,6 +19,9 @@ use Rattle.cholesky.proofs.FlooredPromises.{floored-unique}
 use Rattle.cholesky.proofs.SolvePromises.{solved-unique}
 use Rattle.cholesky.proofs.ReaderPromises.{determined-unique, copied-unique, unpacked-unique}
 use Rattle.teaching.proofs.Promises.{taught-unique}
+use Rattle.handheld.specs.declared.Column3.{Column3}
+use Rattle.handheld.specs.declared.Pivots3.{Pivots3}
+use Rattle.handheld.proofs.Promises.{factor-unique, solve-unique}
 use Rattle.udu.proofs.Unique as udu
 use Rattle.twins.proofs.Unique.{first-twin-on-unique}
 use Rattle.packed.proofs.Growing.{grown-unique}
@@ -29,6 +32,10 @@ use Rattle.urgyelpat.specs.Passed.{Passed}
 use Rattle.urgyelpat.specs.Calls.{FactorOn, SolveOn, DeterminantOn, ExtendOn, SolveTrianglesOn, FirstTwinPairOn}
 use Rattle.urgyelpat.specs.Calls.{LbltSolveBench, LbltD, LbltLPermuted}
 use Rattle.urgyelpat.specs.Calls.{PivotsFromLapack, PivotsToLapack}
+use Rattle.urgyelpat.specs.declared.Matrix3.{Matrix3}
+use Rattle.urgyelpat.specs.declared.Factored3.{Factored3}
+use Rattle.urgyelpat.specs.declared.Solved3.{Solved3}
+use Rattle.urgyelpat.specs.Calls.{HandheldFactor, HandheldSolve}
 use Rattle.urgyelpat.specs.Calls.{CholeskyExtendFloored, CholeskyTeaching, CholeskyL, CholeskyUnpack, CholeskyDeterminant}
 use Rattle.urgyelpat.specs.Calls.{UduFactor, PackedCholeskyExtend}
 
@@ -76,6 +83,15 @@ module _ {n run : ℕ} {a : List Float} {words : List ℕ} where
   lblt-l-permuted-unique p q =
       let same = filled-once (p .given) (q .given) in
       (passed-same p q (same .0), same .1)
+
+-- ---- LBLT by value
+
+module _ {matrix : Matrix3} where
+  pub handheld-factor-unique : {r s : Factored3} → HandheldFactor matrix r → HandheldFactor matrix s → r ≡ s
+  handheld-factor-unique p q = passed-same p q (factor-unique (p .given) (q .given))
+
+  pub handheld-solve-unique : {pivots : Pivots3} {side : Column3} {r s : Solved3} → HandheldSolve matrix pivots side r → HandheldSolve matrix pivots side s → r ≡ s
+  handheld-solve-unique p q = passed-same p q (solve-unique (p .given) (q .given))
 
 -- ---- LAPACK pivot lists
 

@@ -15,6 +15,9 @@ use Rattle.lblt_read.specs.Diagonal.{dOf}
 use Rattle.lblt_read.specs.Permuted.{lPermutedOf}
 use Rattle.lblt_solve.specs.Solve.{LbltSolved}
 use Rattle.lblt_bench.specs.Bench.{BenchSolved}
+use Rattle.handheld.specs.declared.Column3.{Column3}
+use Rattle.handheld.specs.declared.Pivots3.{Pivots3}
+use Rattle.handheld.specs.Promise.{FactoredByValue, SolvedByValue}
 use Rattle.cholesky.specs.Promise.{Extended}
 use Rattle.cholesky.specs.Floored.{ExtendedFloored}
 use Rattle.cholesky.specs.Readers.{Copied, Unpacked, CholeskyDetermined}
@@ -24,10 +27,13 @@ use Rattle.udu.specs.Promise as udu
 use Rattle.twins.specs.First.{FirstTwinOn}
 use Rattle.twins.specs.Number.{twinNumber}
 use Rattle.packed.specs.Growing.{Grown}
-use Rattle.urgyelpat.specs.Passed.{Passed, determinedOf, listedOf, flooredOf}
+use Rattle.urgyelpat.specs.Passed.{Passed, determinedOf, listedOf, flooredOf, factored3Of, solved3Of}
 use Rattle.urgyelpat.specs.declared.Determined.{Determined}
 use Rattle.urgyelpat.specs.declared.Listed.{Listed}
 use Rattle.urgyelpat.specs.declared.Floored.{Floored}
+use Rattle.urgyelpat.specs.declared.Matrix3.{Matrix3}
+use Rattle.urgyelpat.specs.declared.Factored3.{Factored3}
+use Rattle.urgyelpat.specs.declared.Solved3.{Solved3}
 
 -- ---- over a layout
 
@@ -68,6 +74,14 @@ LbltD n run a words d r d' = Passed numberOf (λ (answer : Answer). LbltFilled (
 
 abbrev pub LbltLPermuted : ℕ → ℕ → List Float → List ℕ → List Float → ℕ → List Float → Type 0
 LbltLPermuted n run a words l r l' = Passed numberOf (λ (answer : Answer). LbltFilled (full n) run a words (lPermutedOf n (load (lower (full n)) a) words) l answer l') r
+
+-- ---- LBLT of three unknowns, by value
+
+abbrev pub HandheldFactor : Matrix3 → Factored3 → Type 0
+HandheldFactor matrix r = Passed factored3Of (FactoredByValue (matrix .column)) r
+
+abbrev pub HandheldSolve : Matrix3 → Pivots3 → Column3 → Solved3 → Type 0
+HandheldSolve matrix pivots side r = Passed solved3Of (SolvedByValue (matrix .column) pivots side) r
 
 -- ---- LAPACK pivot lists
 

@@ -2,11 +2,13 @@
 ghost use mathlib.Core.Path.{_≡_};
 ghost use Rattle.urgyelpat.specs.Passed.{determinedOf, listedOf, flooredOf};
 ghost use Rattle.urgyelpat.specs.Calls.{LbltFactor, LbltSolve, LbltSolveBench, LbltDeterminant, LbltD, LbltLPermuted};
-ghost use Rattle.urgyelpat.specs.Calls.{PivotsFromLapack, PivotsToLapack};
+ghost use Rattle.urgyelpat.specs.Calls.{HandheldFactor, HandheldSolve, PivotsFromLapack, PivotsToLapack};
 ghost use Rattle.urgyelpat.specs.Calls.{CholeskyExtend, CholeskyExtendFloored, CholeskyTeaching, CholeskySolve, CholeskyL, CholeskyUnpack, CholeskyDeterminant};
 ghost use Rattle.urgyelpat.specs.Calls.{UduFactor, FirstTwinPair};
 ghost use Rattle.urgyelpat.specs.Calls.{PackedLbltFactor, PackedLbltSolve, PackedLbltDeterminant, PackedCholeskyFactor, PackedCholeskyExtend, PackedCholeskySolve, PackedFirstTwin};
 use answer::Valued;
+use handheld::Column3;
+use handheld::Pivots3;
 
 // A determinant, +0 where refused, and the number of its answer.
 #[repr(C)]
@@ -140,6 +142,59 @@ pub extern "C" fn urgyelpat_lblt_l_permuted(
     ensures { λ r. ⌜ LbltLPermuted n run (now (a .entry)) (now («record» .entry)) (now (l .entry)) r (now (l .exit)) ⌝ }
 {
     lblt_read::l_permuted(a, record, l, n, run).number()
+}
+
+// Three columns of three numbers.
+#[repr(C)]
+pub struct Matrix3 {
+    pub column: [Column3; 3],
+}
+
+// A factor of order 3, and its pivots.
+#[repr(C)]
+pub struct Factored3 {
+    pub matrix: Matrix3,
+    pub pivots: Pivots3,
+}
+
+// A solution of order 3, or the side as it was where the answer is a refusal.
+#[repr(C)]
+pub struct Solved3 {
+    pub answer: u64,
+    pub side: Column3,
+}
+
+// By value, of order 3; there is no run number.
+#[no_mangle]
+pub extern "C" fn urgyelpat_handheld_factor(matrix: Matrix3) -> Factored3
+    ensures { λ r. ⌜ HandheldFactor matrix r ⌝ }
+{
+    let given = matrix.column;
+    let factored = handheld::factor(given);
+    let column = factored.matrix;
+    let pivots = factored.pivots;
+    Factored3 {
+        matrix: Matrix3 { column },
+        pivots,
+    }
+}
+
+#[no_mangle]
+pub extern "C" fn urgyelpat_handheld_solve(
+    matrix: Matrix3,
+    pivots: Pivots3,
+    side: Column3,
+) -> Solved3
+    ensures { λ r. ⌜ HandheldSolve matrix pivots side r ⌝ }
+{
+    let given = matrix.column;
+    let solved = handheld::solve(given, pivots, side);
+    let answer = solved.answer;
+    let side = solved.side;
+    Solved3 {
+        answer: answer.number(),
+        side,
+    }
 }
 
 // The record that a LAPACK pivot list and INFO stand for, with a run number.
