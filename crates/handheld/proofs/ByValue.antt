@@ -81,6 +81,13 @@ module _ (n : Nine) {r : Answer} {a : List Float} {words : List ℕ} (f : lblt.F
             ∙ eight-listed words (factor-accepted f lent-done .sized .total) (factor-run f lent-done);
       }
 
+  -- of any name of the same numbers
+  pub lent-comes-as : (matrix : List Column3) → numbersOf matrix ≡ nineOf n → (m : Nine) → numbersOf matrix ≡ nineOf m
+      → Comes (record { lower = inNine a; pivots = pivotsIn words }) (finalState 3 (matrixOf (lowerOf m)) blank)
+  lent-comes-as matrix is m other =
+      let same : lowerOf n ≡ lowerOf m = ap inNine (sym is ∙ other) in
+      subst (λ (t : Triangle). Comes (record { lower = inNine a; pivots = pivotsIn words }) (finalState 3 (matrixOf t) blank)) same lent-comes
+
 -- ---- what the steps come to
 
 module _ (M : Matrix) (p : Pivots3) (is : recorded 3 0 M blank ≡ recordOf 0 p) (run : ℕ) where

@@ -1,16 +1,21 @@
 // The factor by the lent call, in buffers of its own.
+ghost use mathlib.Core.Path.{_≡_};
 ghost use Rattle.lblt.specs.Factor.{finalState};
-ghost use Rattle.handheld.specs.inner.Numbers.{lowerOf};
+ghost use Rattle.handheld.specs.declared.numbers.Nine.{Nine};
+ghost use Rattle.handheld.specs.Shapes.{numbersOf};
+ghost use Rattle.handheld.specs.inner.Numbers.{nineOf, lowerOf};
 ghost use Rattle.handheld.specs.inner.Triangle.{matrixOf};
 ghost use Rattle.handheld.specs.inner.Steps.{blank, Comes};
+use crate::Column3;
 use crate::Pivots3;
 use crate::Triangle;
-use crate::numbers::Nine;
+use crate::numbers::of_columns;
 use crate::steps::Stepped;
 
-pub fn by_lent(n: Nine) -> Stepped
-    ensures { λ r. ⌜ Comes r (finalState 3 (matrixOf (lowerOf n)) blank) ⌝ }
+pub fn by_lent(matrix: [Column3; 3]) -> Stepped
+    ensures { λ r. ⌜ ((n : Nine) → numbersOf matrix ≡ nineOf n → Comes r (finalState 3 (matrixOf (lowerOf n)) blank)) ⌝ }
 {
+    let n = of_columns(matrix, 2);
     let first = n.first;
     let second = n.second;
     let third = n.third;

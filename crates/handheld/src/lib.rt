@@ -81,12 +81,12 @@ fn assembled(n: Nine, s: Stepped) -> Factored
 pub fn factor(matrix: [Column3; 3]) -> Factored
     ensures { λ r. ⌜ FactoredByValue matrix r ⌝ }
 {
-    let n = numbers::of_columns(matrix, 2);
-    let first = n.first;
+    let first = matrix[0];
     // a NaN at (1, 0) goes by the lent call, all else by the steps written out
-    if first.y != first.y {
-        return assembled(n, lent::by_lent(n));
+    if first.row[1] != first.row[1] {
+        return assembled(numbers::of_columns(matrix, 2), lent::by_lent(matrix));
     }
+    let n = numbers::of_columns(matrix, 2);
     assembled(n, steps::all(numbers::lower(n)))
 }
 
