@@ -35,7 +35,7 @@ use Rattle.matrix.specs.Columns.{eachColumn, eachChosen}
 use Rattle.lblt_solve_one.specs.Column.{solveColumn}
 use Rattle.lblt_read.specs.Diagonal.{determinantOf}
 use Rattle.lblt_read.specs.Calls.{readerTests, columnTests, LbltDetermined}
-use Rattle.lblt_solve.specs.Solve.{solveTests, LbltSolved}
+use Rattle.lblt_solve.specs.Solve.{markTests, solveTests, LbltSolved}
 use Rattle.lblt_bench.specs.Bench.{owns, benchTests, BenchSolved}
 use Rattle.cholesky.specs.Run.{Rule}
 use Rattle.cholesky.specs.Crate.{crateRule}
@@ -44,10 +44,15 @@ use Rattle.cholesky.specs.Leaves.{Leaves}
 use Rattle.cholesky.specs.Promise.{batchBy, batch, ExtendedBy}
 use Rattle.cholesky.specs.Floored.{usedOn}
 use Rattle.cholesky.specs.Solve.{sidesTests, solveSides, CholeskySolved}
+use Rattle.pivots.specs.Rule.{checked}
+use Rattle.handheld.specs.declared.Factored.{Factored as Factored3}
+use Rattle.handheld.specs.Shapes as handheld
+use Rattle.handheld.specs.Promise.{FactoredByValue, SolvedByValue}
+use Rattle.handheld.proofs.Promises.{solve-answer}
 use Rattle.teaching.specs.Promise.{teachingTests, reached, Taught}
 use Rattle.teaching.proofs.Promises.{taught-fits}
 use Rattle.udu.specs.Promise.{uduTests, uduOf, uduAnswer, factorsOf, UduFactored}
-use Rattle.cases.specs.Calls.{stray, floats, bitsOf, signedBits, answered, lentWords, lentList, lentFloats, Call, lbltFactor, lbltDeterminant, lbltSolve, lbltSolveBench, lbltReaders, lbltLargest, pivotsFromLapack, pivotsToLapack, choleskyFactor, choleskyExtendFloored, choleskyTeaching, choleskySolve, choleskySolveSizes, packedLbltFactor, packedLbltDeterminant, packedLbltSolve, packedCholeskyFactor, packedCholeskyExtend, packedCholeskySolve, packedExtendSizes, uduFactor, root, Gives}
+use Rattle.cases.specs.Calls.{stray, floats, bitsOf, signedBits, answered, lentWords, lentList, lentFloats, Call, lbltFactor, lbltDeterminant, lbltSolve, lbltSolveBench, lbltReaders, lbltLargest, handheldFactor, handheldSolve, handheldPivots, columnsIn, columnIn, pivotsFromLapack, pivotsToLapack, choleskyFactor, choleskyExtendFloored, choleskyTeaching, choleskySolve, choleskySolveSizes, packedLbltFactor, packedLbltDeterminant, packedLbltSolve, packedCholeskyFactor, packedCholeskyExtend, packedCholeskySolve, packedExtendSizes, uduFactor, root, Gives}
 use Rattle.matrix.proofs.Places.{lower-low, lower-left}
 use Rattle.matrix.proofs.Slices.{listed, is-listed, overlaid, holds-overlaid, lower-overlaid, fills-listed}
 use Rattle.matrix.specs.Rounded.{plusZero}
@@ -239,6 +244,16 @@ leftSlice y run a = lbltSlice y run (floats a) (lentWords (y .order))
 abbrev pub leftWords : Layout → ℕ → List ℕ → List ℕ
 leftWords y run a = lbltWords y run (floats a) (lentWords (y .order))
 
+-- and the handheld's, as slices
+abbrev pub handheldWords : List ℕ → List ℕ
+handheldWords a = lbltWords (full 3) 0 (handheld.numbersOf (columnsIn a)) (lentWords 3)
+
+abbrev pub handheldSlice : List ℕ → List Float
+handheldSlice a = lbltSlice (full 3) 0 (handheld.numbersOf (columnsIn a)) (lentWords 3)
+
+handheld-factors : (a : List ℕ) {r : Factored3} → FactoredByValue (columnsIn a) r → (handheld.recordOf 0 (r .pivots) ≡ handheldWords a) × (handheld.numbersOf (r .matrix) ≡ handheldSlice a)
+handheld-factors a f = let g = factors (full 3) 0 (handheld.numbersOf (columnsIn a)) (lentWords 3) (f .lent 0 (lentWords 3) refl) in (g .pivots, g .matrix)
+
 abbrev pub found : Call → List (List ℕ)
 found (lbltFactor n run a) = answered (lbltAnswer (full n) run (floats a) (lentWords n)) ∷ leftWords (full n) run a ∷ bitsOf (leftSlice (full n) run a) ∷ []
 found (lbltDeterminant n run expected a) = determinantNumbers (full n) expected (leftSlice (full n) run a) (leftWords (full n) run a)
@@ -249,6 +264,9 @@ found (lbltReaders n expected words) =
     let filled = answered (tested (columnTests (full n) n expected matrix words matrix) Done) in
     answered (tested (solveTests (full n) 1 expected matrix words (lentFloats n)) Done) ∷ answered (tested (readerTests (full n) expected matrix words) Done) ∷ filled ∷ filled ∷ []
 found (lbltLargest n a k) = (columnMax n (load (lower (full n)) (floats a)) k .imax ∷ []) ∷ []
+found (handheldFactor a) = handheldWords a ∷ bitsOf (handheldSlice a) ∷ []
+found (handheldSolve a b) = solveNumbers (full 3) 0 (handheldSlice a) (handheldWords a) (floats b)
+found (handheldPivots index size mark) = let words = handheld.recordOf 0 (record { index = index; size = size; mark = mark }) in answered (cond (isDone (checked 3 words)) (tested (markTests 3 words) Done) (checked 3 words)) ∷ []
 found (pivotsFromLapack n run list info) = readNumbers n (lentWords n) list run info
 found (pivotsToLapack n words) = writtenNumbers n words (lentList n)
 found (choleskyFactor room n a) = answered (choleskyAnswer crateRule (inRoom n room) 0 (floats a)) ∷ bitsOf (choleskySlice crateRule (inRoom n room) 0 (floats a)) ∷ []
@@ -285,6 +303,12 @@ gives (lbltSolveBench n run expected columns bench benches a b) = λ r s a' b' w
 gives (lbltReaders n expected words) = λ r s t v a b b' d d' l l' long-a long-b long-d long-l solved determined d-filled l-filled.
     rw (solved .answer, determined .answer, d-filled .answer, l-filled .answer, long-a, long-b, long-d, long-l, length-replicate (n * n) (ofBits binary64 stray), length-replicate n (ofBits binary64 stray))
 gives (lbltLargest n a k) = λ r e. rw e
+gives (handheldFactor a) = λ r f. let g = handheld-factors a f in rw (g .0, g .1)
+gives (handheldSolve a b) = λ r s f d.
+    let g = handheld-factors a f in
+    let by : LbltSolved (full 3) 1 0 (handheldSlice a) (handheldWords a) (floats b) (s .answer) (s .side .row) = rw (g .0, g .1) at (d .lent 0) in
+    solves (full 3) 0 (handheldSlice a) (handheldWords a) by
+gives (handheldPivots index size mark) = λ matrix side s square three d. ap (λ (r : Answer). answered r ∷ []) (solve-answer square three d)
 gives (pivotsFromLapack n run list info) = λ r words d. reads n (lentWords n) list d
 gives (pivotsToLapack n words) = λ r list d. writes n words (lentList n) d
 gives (choleskyFactor room n a) = λ r l f. let g = extends crateRule (inRoom n room) 0 (floats a) f in rw (g .0, g .1)

@@ -4,7 +4,7 @@ use mathlib.Core.List.{List, [], _∷_, map}
 use mathlib.Core.Bool.{false}
 use mathlib.Core.Path.{_≡_}
 use Prim.Native.Nat.{ℕ, _*_}
-use lib.ListN.{length, replicate}
+use lib.ListN.{length, replicate, take, drop}
 use lib.IntN.{ℤ, pos}
 use lib.Ieee.{Float, binary64, ofBits, toBits}
 use mir.Syntax.{w32}
@@ -28,6 +28,11 @@ use Rattle.lblt_read.specs.Diagonal.{dOf}
 use Rattle.lblt_read.specs.Permuted.{lPermutedOf}
 use Rattle.lblt_solve.specs.Solve.{LbltSolved}
 use Rattle.lblt_bench.specs.Bench.{BenchSolved}
+use Rattle.handheld.specs.declared.Column3.{Column3}
+use Rattle.handheld.specs.declared.Factored.{Factored as Factored3}
+use Rattle.handheld.specs.declared.Solved.{Solved as Solved3}
+use Rattle.handheld.specs.Shapes as handheld
+use Rattle.handheld.specs.Promise.{FactoredByValue, SolvedByValue}
 use Rattle.cholesky.specs.declared.Floored.{Floored}
 use Rattle.cholesky.specs.Promise.{Extended}
 use Rattle.cholesky.specs.Floored.{ExtendedFloored}
@@ -43,6 +48,13 @@ floats (b ∷ bs) = ofBits binary64 b ∷ floats bs
 unfoldable pub bitsOf : List Float → List ℕ
 bitsOf [] = []
 bitsOf (x ∷ xs) = toBits binary64 x ∷ bitsOf xs
+
+-- three numbers, and three columns of them
+abbrev pub columnIn : List ℕ → Column3
+columnIn bs = record { row = floats bs }
+
+abbrev pub columnsIn : List ℕ → List Column3
+columnsIn bs = columnIn (take 3 bs) ∷ columnIn (take 3 (drop 3 bs)) ∷ columnIn (drop 6 bs) ∷ []
 
 abbrev pub signedBits : List ℤ → List ℕ
 signedBits = map (ofZ w32)
@@ -73,6 +85,9 @@ pub data Call : Type 0 where
   lbltSolveBench : (n run expected columns bench : ℕ) (benches a b : List ℕ) → Call
   lbltReaders : (n expected : ℕ) (words : List ℕ) → Call
   lbltLargest : (n : ℕ) (a : List ℕ) (k : ℕ) → Call
+  handheldFactor : (a : List ℕ) → Call
+  handheldSolve : (a b : List ℕ) → Call
+  handheldPivots : (index size : List ℕ) (mark : ℕ) → Call
   pivotsFromLapack : (n run : ℕ) (list : List ℤ) (info : ℤ) → Call
   pivotsToLapack : (n : ℕ) (words : List ℕ) → Call
   choleskyFactor : (room n : ℕ) (a : List ℕ) → Call
@@ -115,6 +130,16 @@ Gives (lbltReaders n expected words) numbers =
     → LbltFilled (full n) expected a words (dOf n (load (lower (full n)) a) words) d s d'
     → LbltFilled (full n) expected a words (lPermutedOf n (load (lower (full n)) a) words) l t l'
     → (answered r ∷ answered (v .answer) ∷ answered s ∷ answered t ∷ []) ≡ numbers
+-- by value: the pivots, as a record with the number 0, and the nine numbers
+Gives (handheldFactor a) numbers = (r : Factored3) → FactoredByValue (columnsIn a) r → (handheld.recordOf 0 (r .pivots) ∷ bitsOf (handheld.numbersOf (r .matrix)) ∷ []) ≡ numbers
+-- by what that factor gives: the answer, the side
+Gives (handheldSolve a b) numbers =
+    (r : Factored3) (s : Solved3) → FactoredByValue (columnsIn a) r → SolvedByValue (r .matrix) (r .pivots) (columnIn b) s
+    → (answered (s .answer) ∷ bitsOf (s .side .row) ∷ []) ≡ numbers
+-- by these pivots, whatever the nine numbers and the side: the answer
+Gives (handheldPivots index size mark) numbers =
+    (matrix : List Column3) (side : Column3) (s : Solved3) → handheld.Square matrix → length (side .row) ≡ 3
+    → SolvedByValue matrix (record { index = index; size = size; mark = mark }) side s → (answered (s .answer) ∷ []) ≡ numbers
 -- the answer, the record
 Gives (pivotsFromLapack n run list info) numbers =
     (r : Answer) (words : List ℕ) → ListRead n run list info (lentWords n) r words → (answered r ∷ words ∷ []) ≡ numbers

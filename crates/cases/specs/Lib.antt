@@ -3,3 +3,4 @@ pub mod Calls
 pub mod Table
 pub mod Twins
 pub mod Teaching
+pub mod Handheld

@@ -18,7 +18,6 @@ use Rattle.matrix.specs.Loop.{for, turns}
 use Rattle.matrix.specs.Columns.{column, atColumn, eachColumn}
 use Rattle.matrix.specs.Sizes.{Fits}
 use Rattle.matrix.proofs.Sizes.{full-fits, fits-pass}
-use Rattle.pivots.specs.Words.{Sized}
 use Rattle.pivots.specs.Rule.{checked, Accepted}
 use Rattle.lblt_solve_one.specs.Column.{solveColumn}
 use Rattle.lblt_read.specs.Calls.{wordTests, sideTests, columnTests}
@@ -37,10 +36,6 @@ use Rattle.handheld.proofs.Triangles.{full-six}
 use Rattle.handheld.proofs.Records.{checked-run}
 
 -- ---- the answer
-
-pub record-sized : (p : Pivots3) → Sized 3 (recordOf 0 p)
-unfolding recordOf
-record-sized p = record { order = omega arith; total = refl }
 
 module _ (a b : List Float) (nine : length a ≡ 9) (three : length b ≡ 3) (p : Pivots3) {fault r : Answer}
     (rule : fault ≡ checked 3 (recordOf 0 p)) (then : r ≡ cond (isDone fault) (tested (markTests 3 (recordOf 0 p)) Done) fault) (run : ℕ)

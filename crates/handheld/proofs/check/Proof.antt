@@ -1,9 +1,13 @@
 -- `check` answers as the lent solve does. Assumes nothing.
-use mathlib.Core.Path.{sym, _∙_, ap}
+use mathlib.Core.Path.{refl, sym, _∙_, ap}
+use mathlib.Core.List.{[], _∷_}
+use Prim.Native.Nat.{ℕ}
+use native.Mathlib.Omega.{arith}
 use lib.ListN.{length}
 use Rattle.answer.specs.Number.{isDone}
+use Rattle.pivots.specs.Words.{Sized}
 use Rattle.handheld.specs.Shapes.{numbersOf, recordOf}
-use Rattle.handheld.proofs.Answers.{record-sized, check-answers}
+use Rattle.handheld.proofs.Answers.{check-answers}
 use borrow.Author.Needs.{needs}
 use Rattle.handheld.proofs.check.Statement.{statement}
 use Rattle.handheld.proofs.check.Tie as tie
@@ -35,16 +39,18 @@ element-copy-out-t26 c = search needs
 slice-aggregate-check : tie.Need-slice-aggregate-check
 slice-aggregate-check c = search needs
 
+-- eight words
+sized : {index0 size0 index1 size1 index2 size2 mark run : ℕ} → Sized 3 (index0 ∷ size0 ∷ index1 ∷ size1 ∷ index2 ∷ size2 ∷ mark ∷ run ∷ [])
+sized = record { order = omega arith; total = refl }
+
 check-requires : tie.Need-check-requires
-unfolding recordOf
-check-requires c κs = record-sized (c .before .before .before .before .before .before .before .before .before .args .t2)
+check-requires c κs = sized
 
 slice-aggregate-check-mark : tie.Need-slice-aggregate-check-mark
 slice-aggregate-check-mark c = search needs
 
 check-mark-requires : tie.Need-check-mark-requires
-unfolding recordOf
-check-mark-requires c κs = λ passed. record { sized = record-sized (c .before .before .before .before .before .before .before .before .before .before .before .args .t2); done = ap isDone (sym (c .before .check .ensures)) ∙ passed }
+check-mark-requires c κs = λ passed. record { sized = sized; done = ap isDone (sym (c .before .check .ensures)) ∙ passed }
 
 returns : tie.Need-returns
 unfolding recordOf
