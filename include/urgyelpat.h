@@ -9,7 +9,8 @@
  * i + j*n. A Cholesky matrix stands in a room s, at i + j*s; what is outside the first n rows and columns is kept. Of a
  * symmetric matrix LBLT, Cholesky and the search for twins look at the entries with i >= j alone, UDU at those with i <= j.
  * The others are neither read nor written, except by the calls that fill a whole matrix or say that they write there. The calls
- * on packed triangles, at the end of this page, take the entries with i >= j alone, in half the memory.
+ * on packed triangles take the entries with i >= j alone, in half the memory. The two calls for three unknowns, at the end of
+ * this page, are lent nothing: they take and give their numbers by value.
  *
  * SLICES. Every slice is a pointer and then its length, counted in numbers and not in bytes. What is asked of a caller:
  *   - The memory of the whole length is there, is initialised, and is aligned as its type is.
@@ -35,7 +36,8 @@
  *                                    the order
  *   3  URGYELPAT_MATRIX_LENGTH       the first matrix has the wrong length                     0
  *   4  URGYELPAT_SLICE_LENGTH        another slice has the wrong length                        0
- *   5  URGYELPAT_BAD_RECORD          the pivot record breaks its rule                          the row, or n for its mark
+ *   5  URGYELPAT_BAD_RECORD          the pivot record breaks its rule, or the handheld's       the row, or n for its mark
+ *                                    pivots do
  *   6  URGYELPAT_ZERO_MARK           solve: the record marks a row without a pivot             the marked row, of the
  *                                                                                              factor:
  *                                                                                              urgyelpat_callers_row
@@ -408,6 +410,70 @@ URGYELPAT_MUST_USE uint64_t urgyelpat_packed_cholesky_solve(const double *a, siz
  * nothing.
  * Answers 0 for no twins, (4096 + q) * 4096 + p for a pair, and refuses by 1, 3 (a). */
 URGYELPAT_MUST_USE uint64_t urgyelpat_packed_first_twin(const double *a, size_t a_length, size_t n);
+
+/* ---- The handheld: LBLT of three unknowns, by value ----
+ *
+ * For a probe that has no buffers to lend: matrix, pivots and right-hand side are passed and returned by value, in structs.
+ * What the caller keeps of them is not touched.
+ *
+ * Proved of the two calls, beside urgyelpat_lblt_factor and urgyelpat_lblt_solve with order 3, one column and one run number on
+ * the same numbers, column by column: the same lower entries, pivots and mark, the same answer, code and place, and the same
+ * solution, to the bit. There is no run number, so that yesterday's pivots are not told from today's: keep a factor and its
+ * pivots together. */
+
+/* A column of three numbers: of a matrix, a right-hand side or a solution. */
+typedef struct urgyelpat_column3 {
+    double row[3];
+} urgyelpat_column3;
+
+/* A matrix of order 3: entry (i, j) is column[j].row[i]. */
+typedef struct urgyelpat_matrix3 {
+    urgyelpat_column3 column[3];
+} urgyelpat_matrix3;
+
+/* What a pivot record of order 3 holds, without its run number: for each row the index and the size of its pivot, and the mark,
+ * 0 or marked row + 1. The rule is the record's. */
+typedef struct urgyelpat_pivots3 {
+    uint32_t index[3];
+    uint32_t size[3];
+    uint32_t mark;
+} urgyelpat_pivots3;
+
+/* A factor of order 3, and its pivots. */
+typedef struct urgyelpat_factored3 {
+    urgyelpat_matrix3 matrix;
+    urgyelpat_pivots3 pivots;
+} urgyelpat_factored3;
+
+/* A solution of three unknowns with its answer; where the call is refused, the right-hand side as it was given. */
+typedef struct urgyelpat_solved3 {
+    uint64_t answer;
+    urgyelpat_column3 side;
+} urgyelpat_solved3;
+
+/* Factors the lower part of a matrix of order 3, and gives the factor with its pivots. The three numbers above the diagonal
+ * come back unchanged. The mark is set as by urgyelpat_lblt_factor: pivots.mark is 0, or marked row + 1, and a solve refuses it.
+ * Every matrix is factored; there is no refusal. urgyelpat_handheld_solve never refuses these pivots by 5. */
+URGYELPAT_MUST_USE urgyelpat_factored3 urgyelpat_handheld_factor(urgyelpat_matrix3 matrix);
+
+/* Solves A x = side by a factor and its pivots. After 5 and 6 the side comes back as given. After 6 look first for NaN or
+ * infinite numbers in all rows of A.
+ * Answers 0, 5 (the pivots break the rule: its place is the first row that does, or 3 if the mark alone does), 6 (a mark stands:
+ * its place is a row of the factor; urgyelpat_handheld_callers_row gives yours). */
+URGYELPAT_MUST_USE urgyelpat_solved3 urgyelpat_handheld_solve(urgyelpat_matrix3 matrix, urgyelpat_pivots3 pivots,
+                                                              urgyelpat_column3 side);
+
+/* The row of the given matrix that stands at a row of the factor, by the pivots that a factor call gave: what
+ * urgyelpat_callers_row is for a record. */
+static inline size_t urgyelpat_handheld_callers_row(urgyelpat_pivots3 pivots, size_t row)
+{
+    uint32_t pairs[6];
+    for (size_t k = 0; k < 3; k++) {
+        pairs[2 * k] = pivots.index[k];
+        pairs[2 * k + 1] = pivots.size[k];
+    }
+    return urgyelpat_callers_row(pairs, 3, row);
+}
 
 #ifdef __cplusplus
 }

@@ -2,7 +2,7 @@
  *
  * Every call has a thread of its own, with a stack of 1 MB. Just before the call the thread paints all of the stack that lies
  * below its own frame, and right after it looks for the lowest word that has lost the paint. From the stack above that word,
- * the same after an empty call is taken off. */
+ * the same after an empty call is taken off. Arguments by value are counted, the place of a result is not. */
 #define _GNU_SOURCE
 #include "urgyelpat.h"
 #include <pthread.h>
@@ -56,6 +56,9 @@ typedef enum {
     PACKED_CHOLESKY_SOLVE_MANY,
     PACKED_FIRST_TWIN_RANDOM,
     PACKED_FIRST_TWIN_NEAR,
+    HANDHELD_FACTOR,
+    HANDHELD_FACTOR_NAN,
+    HANDHELD_SOLVE,
     CALLS
 } which;
 
@@ -94,6 +97,9 @@ static const char *const names[CALLS] = {
     "packed_cholesky_solve, 67 columns",
     "packed_first_twin, random rows",
     "packed_first_twin, rows that nearly agree",
+    "handheld_factor",
+    "handheld_factor, a NaN below the diagonal",
+    "handheld_solve",
 };
 
 static void *stack; /* its lowest byte */
@@ -102,6 +108,8 @@ static uint32_t record[2 * URGYELPAT_LARGEST + 2];
 static int32_t list[URGYELPAT_LARGEST];
 static uint32_t benches[MANY]; /* 47 columns of bench 1, which are solved together, 17 of bench 2, and 3 of bench 1, one by one */
 static double vector[URGYELPAT_LARGEST];
+static urgyelpat_factored3 factored; /* of the calls by value: the matrix before, the factor and its pivots after */
+static urgyelpat_solved3 solved;
 
 /* ---- what is lent */
 
@@ -146,6 +154,14 @@ static void lay_end_to_end(size_t n)
             b[urgyelpat_packed_length(i) + j] = a[i + j * n];
     for (size_t i = 0; i < urgyelpat_packed_length(n); i++)
         a[i] = b[i];
+}
+
+/* The lower part of a, of order 3, as a matrix that is passed by value. */
+static void by_value(void)
+{
+    for (size_t j = 0; j < 3; j++)
+        for (size_t i = j; i < 3; i++)
+            factored.matrix.column[j].row[i] = a[i + j * 3];
 }
 
 static void must(int held, const char *what, size_t n)
@@ -254,6 +270,20 @@ static void prepare(which call, size_t n)
     case PACKED_FIRST_TWIN_NEAR:
         fill_near(n);
         pack(n);
+        break;
+    case HANDHELD_FACTOR:
+        fill_random(n, 0.0);
+        by_value();
+        break;
+    case HANDHELD_FACTOR_NAN:
+        fill_random(n, 0.0);
+        a[1] = a[0] / a[0];
+        by_value();
+        break;
+    case HANDHELD_SOLVE:
+        fill_random(n, 0.0);
+        by_value();
+        factored = urgyelpat_handheld_factor(factored.matrix);
         break;
     case CALLS:
         break;
@@ -375,6 +405,14 @@ __attribute__((noinline)) static uint64_t called(which call, size_t n)
     case PACKED_FIRST_TWIN_NEAR:
         answer = urgyelpat_packed_first_twin(a, packed, n);
         break;
+    case HANDHELD_FACTOR:
+    case HANDHELD_FACTOR_NAN:
+        factored = urgyelpat_handheld_factor(factored.matrix);
+        break;
+    case HANDHELD_SOLVE:
+        solved = urgyelpat_handheld_solve(factored.matrix, factored.pivots, solved.side);
+        answer = solved.answer;
+        break;
     }
     /* after the call, so that each is a call and no jump */
     __asm__ volatile("" : "+r"(answer));
@@ -426,10 +464,10 @@ static size_t used(which call, size_t n)
     return t.used;
 }
 
-/* The teaching engine refuses larger orders than its own. */
+/* The teaching engine refuses larger orders than its own, and the handheld has order 3. */
 static int takes(which call, size_t n)
 {
-    return call != CHOLESKY_TEACHING || n <= URGYELPAT_TEACHING_LARGEST;
+    return call == CHOLESKY_TEACHING ? n <= URGYELPAT_TEACHING_LARGEST : call < HANDHELD_FACTOR || n == 3;
 }
 
 int main(void)
@@ -446,7 +484,7 @@ int main(void)
     }
     stack = mapped + PAGE;
     const size_t empty = used(EMPTY, 0);
-    printf("bytes of stack, less those of an empty call; - where the order is refused\n%-43s", "order");
+    printf("bytes of stack, less those of an empty call; - where there is no such order\n%-43s", "order");
     for (size_t o = 0; o < count; o++)
         printf("%7zu", orders[o]);
     printf("\n");

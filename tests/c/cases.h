@@ -7,3 +7,4 @@ void teaching_cases(void);
 void udu_cases(void);
 void twin_cases(void);
 void packed_cases(void);
+void handheld_cases(void);

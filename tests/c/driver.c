@@ -33,6 +33,7 @@ int main(void)
     udu_cases();
     twin_cases();
     packed_cases();
+    handheld_cases();
     printf("%lu calls, %lu wrong\n", calls_made, calls_wrong);
     return calls_wrong != 0;
 }

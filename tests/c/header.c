@@ -5,6 +5,8 @@ const char *meaning(uint64_t answer);
 int is_taught(size_t n);
 size_t refused_row(const uint32_t *record, size_t n, uint64_t answer);
 size_t numbers_behind(size_t n, size_t i, size_t j);
+size_t marked_row(urgyelpat_factored3 factored);
+double unknown(urgyelpat_solved3 solved, size_t row);
 
 int is_taught(size_t n)
 {
@@ -19,6 +21,18 @@ size_t refused_row(const uint32_t *record, size_t n, uint64_t answer)
 size_t numbers_behind(size_t n, size_t i, size_t j)
 {
     return urgyelpat_packed_length(n) - urgyelpat_packed_place(n, i, j) - 1;
+}
+
+size_t marked_row(urgyelpat_factored3 factored)
+{
+    return factored.pivots.mark == 0 ? 3 : urgyelpat_handheld_callers_row(factored.pivots, factored.pivots.mark - 1);
+}
+
+double unknown(urgyelpat_solved3 solved, size_t row)
+{
+    const urgyelpat_column3 column = solved.side;
+    const urgyelpat_matrix3 matrix = {{column, column, column}};
+    return matrix.column[row].row[row];
 }
 
 const char *meaning(uint64_t answer)

@@ -133,6 +133,11 @@ lent lend_wholes(wholes given, placement where)
     return lend(given.at, given.length, sizeof(int32_t), where);
 }
 
+lent lend_bytes(const void *given, size_t bytes, placement where)
+{
+    return lend(given, bytes, 1, where);
+}
+
 /* as many as a matrix has that is lent so, and canaries on either side */
 enum { MOST_FRAMED = 68 * 68, CANARIES = 8 };
 static double frame[CANARIES + MOST_FRAMED + CANARIES];
@@ -165,6 +170,11 @@ uint32_t *words_at(const lent *slice)
 int32_t *wholes_at(const lent *slice)
 {
     return slice->null ? NULL : (int32_t *)(void *)(slice->open + slice->start);
+}
+
+void *bytes_at(const lent *slice)
+{
+    return slice->open + slice->start;
 }
 
 void called(const char *function, const char *about, placement where)
@@ -230,6 +240,14 @@ void gave(const char *name, long got, long wanted)
     printf("%s %ld, should be %ld\n", name, got, wanted);
 }
 
+void kept(const char *name, const void *got, const void *given, size_t bytes)
+{
+    if (memcmp(got, given, bytes) == 0)
+        return;
+    wrong();
+    printf("%s was changed\n", name);
+}
+
 static void give_back(lent slice, const char *name)
 {
     if (memcmp(slice.open, slice.should, slice.open_bytes) != 0) {
@@ -280,5 +298,11 @@ void left_wholes(lent slice, const char *name, wholes wanted)
             printf("%s[%lu] is %d, should be %d\n", name, (unsigned long)i, got[i], wanted.at[i]);
         }
     memcpy(slice.should + slice.start, got, slice.length * slice.width);
+    give_back(slice, name);
+}
+
+void left_around(lent slice, const char *name)
+{
+    memcpy(slice.should + slice.start, slice.open + slice.start, slice.length * slice.width);
     give_back(slice, name);
 }

@@ -2,8 +2,8 @@
  *
  * Every call that is tested on slices is made three times, its slices placed three ways: between canaries, at the end of the
  * memory (the page behind the slice cannot be touched), and at its start (the page before cannot). What lies around a slice is
- * compared too. Where very many matrices are tried (floored.c, teaching.c), a call is made once, between canaries. A call that
- * only prepares a case or takes an answer apart is made once. */
+ * compared too. Where very many matrices are tried (floored.c, teaching.c, handheld.c), a call is made once, between canaries.
+ * A call that only prepares a case or takes an answer apart is made once. */
 #ifndef LENT_H
 #define LENT_H
 
@@ -73,6 +73,8 @@ typedef struct {
 lent lend_numbers(numbers given, placement where);
 lent lend_words(words given, placement where);
 lent lend_wholes(wholes given, placement where);
+/* What is no slice: the place of a result, or a stack with the arguments of a call at its end. */
+lent lend_bytes(const void *given, size_t bytes, placement where);
 
 /* Numbers between canaries, for calls on very many matrices: they are lent without pages of their own, until others are lent
  * so. What stands there after the call should be these numbers, and the canaries around them. */
@@ -83,6 +85,7 @@ void left_framed(const double *wanted, size_t length);
 double *numbers_at(const lent *slice);
 uint32_t *words_at(const lent *slice);
 int32_t *wholes_at(const lent *slice);
+void *bytes_at(const lent *slice);
 
 /* From here on a touch of a page beside a slice is reported, with the call that did it. */
 void watch_the_pages(void);
@@ -92,11 +95,15 @@ void called(const char *function, const char *about, placement where);
 void answered(uint64_t got, uint64_t wanted);
 void valued(double got, double wanted);
 void gave(const char *name, long got, long wanted);
+/* The same bytes as before, a NaN's too. */
+void kept(const char *name, const void *got, const void *given, size_t bytes);
 
 /* After the call the slice should hold this, and all around it be as it was. Gives the memory back. */
 void left_numbers(lent slice, const char *name, numbers wanted);
 void left_words(lent slice, const char *name, words wanted);
 void left_wholes(lent slice, const char *name, wholes wanted);
+/* After the call all around the slice should be as it was, whatever it holds. Gives the memory back. */
+void left_around(lent slice, const char *name);
 
 /* How many calls were made, and how many of them did something wrong. */
 extern unsigned long calls_made, calls_wrong;

@@ -53,7 +53,7 @@ void every_matrix(size_t n, numbers entries, void (*take)(const char *about, siz
     size_t chosen[10] = {0}, at;
     do {
         double full[16];
-        char about[100];
+        char about[16 * 14];
         size_t entry = 0, written = 0;
         for (size_t j = 0; j < n; j++)
             for (size_t i = 0; i < n; i++)

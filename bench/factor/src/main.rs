@@ -4,6 +4,7 @@
 //! Both run in turn on the same matrices, many to a turn at small orders; the ratio is that of the two medians. A ratio above 1 says that the
 //! port is faster. Copies of the given matrices are made before the clock starts. What the text allocates for its result is part of its time.
 
+mod handheld;
 mod measure;
 mod plain;
 mod work;
@@ -11,7 +12,7 @@ mod work;
 use std::process::ExitCode;
 
 use measure::Pair;
-use work::WORKS;
+use work::{OF_ORDER_3, WORKS};
 
 const ORDERS: [usize; 8] = [3, 8, 16, 60, 128, 256, 512, 1024];
 
@@ -54,9 +55,11 @@ fn run(options: &Options) {
     println!(
         "text's time / port's time, medians of turns taken one after the other (microseconds: text, or what the line names, and port; turns)"
     );
-    for work in WORKS.iter().filter(|w| w.name.contains(&options.only)) {
+    let of_any_order = WORKS.iter().map(|work| (work, &options.orders[..]));
+    let of_order_3 = OF_ORDER_3.iter().map(|work| (work, &[3][..]));
+    for (work, orders) in of_any_order.chain(of_order_3).filter(|(work, _)| work.name.contains(&options.only)) {
         println!("{}", work.name);
-        for &n in &options.orders {
+        for &n in orders {
             let Pair { text, port, turns } = (work.measure)(n, options.seconds);
             println!("  {n:>5}  {:>6.2}   ({:.3}, {:.3}; {turns})", text / port, text * 1e6, port * 1e6);
         }

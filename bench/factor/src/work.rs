@@ -11,6 +11,7 @@ use oracle::text::square;
 use oracle::{Dyn, OMatrix};
 use port::Port;
 
+use crate::handheld::{self, Column3, Matrix3};
 use crate::measure::{Pair, pair, timed, timed_in_place};
 use crate::plain;
 
@@ -35,6 +36,12 @@ pub const WORKS: [Work; 15] = [
     Work { name: "lblt l_permuted", measure: l_permuted },
     Work { name: "lblt l_permuted, heavy diagonal", measure: l_permuted_heavy },
     Work { name: "udu factor", measure: udu },
+];
+
+/// What has order 3 alone.
+pub const OF_ORDER_3: [Work; 2] = [
+    Work { name: "handheld factor and solve, random symmetric", measure: |_, s| by_value(s, 0.0) },
+    Work { name: "handheld factor and solve, heavy diagonal", measure: |_, s| by_value(s, 3.0) },
 ];
 
 /// The run number of all records.
@@ -217,4 +224,28 @@ fn udu(n: usize, seconds: f64) -> Pair {
             (u, d)
         })
     })
+}
+
+fn matrix3(a: &[f64]) -> Matrix3 {
+    Matrix3 { column: std::array::from_fn(|j| std::array::from_fn(|i| a[i + 3 * j])) }
+}
+
+fn side3() -> Column3 {
+    Column3 { row: sides(3, 1).try_into().expect("three numbers") }
+}
+
+/// A matrix is factored, and one side is solved. The text's side is solved in place.
+fn by_value(seconds: f64, on_diagonal: f64) -> Pair {
+    let (a, b) = (symmetric(3, on_diagonal), side3());
+    pair(
+        seconds,
+        &mut |many| {
+            let sides = vec![OMatrix::from_vec(Dyn(3), Dyn(1), b.row.to_vec()); many];
+            timed(squares(&a, 3, many).into_iter().zip(sides).collect(), |(a, mut b)| {
+                black_box(LBLT::new(a).solve_mut(&mut b));
+                b
+            })
+        },
+        &mut |many| timed(vec![(matrix3(&a), b); many], |(a, b)| handheld::solve(&handheld::factor(a), b)),
+    )
 }

@@ -19,6 +19,39 @@ pub struct Listed {
     pub run: u32,
 }
 
+#[derive(Clone, Copy, PartialEq)]
+#[repr(C)]
+pub struct Column3 {
+    pub row: [f64; 3],
+}
+
+#[derive(Clone, Copy, PartialEq)]
+#[repr(C)]
+pub struct Matrix3 {
+    pub column: [Column3; 3],
+}
+
+#[derive(Clone, Copy, PartialEq)]
+#[repr(C)]
+pub struct Pivots3 {
+    pub index: [u32; 3],
+    pub size: [u32; 3],
+    pub mark: u32,
+}
+
+#[derive(Clone, Copy, PartialEq)]
+#[repr(C)]
+pub struct Factored3 {
+    pub matrix: Matrix3,
+    pub pivots: Pivots3,
+}
+
+#[repr(C)]
+pub struct Solved3 {
+    pub answer: u64,
+    pub side: Column3,
+}
+
 extern "C" {
     pub fn urgyelpat_lblt_factor(
         a: *mut f64,
@@ -181,6 +214,8 @@ extern "C" {
         columns: usize,
     ) -> u64;
     pub fn urgyelpat_packed_first_twin(a: *const f64, a_length: usize, n: usize) -> u64;
+    pub fn urgyelpat_handheld_factor(matrix: Matrix3) -> Factored3;
+    pub fn urgyelpat_handheld_solve(matrix: Matrix3, pivots: Pivots3, side: Column3) -> Solved3;
     pub fn urgyelpat_udu_factor(
         p: *const f64,
         p_length: usize,

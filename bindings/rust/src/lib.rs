@@ -22,7 +22,7 @@
 //! - [`LBLT`], [`Cholesky`] and [`UDU`] own their numbers and carry nalgebra's names; so do [`PackedLBLT`] and [`PackedCholesky`].
 //! - The modules [`lblt`], [`pivots`], [`cholesky`], [`packed`] and [`udu`] have a function for each call of the library, over slices
 //!   that the caller lends; two stand at the crate's root, in no module: [`first_twin`] and [`first_twin_since`]. They take no
-//!   memory.
+//!   memory. [`handheld`] has two that take and give their numbers by value.
 //!
 //! # Matrices
 //!
@@ -42,6 +42,12 @@
 //! unpack the factor. UDU, a Cholesky with a [substitute](Cholesky#substitutes) and the [teaching engine](cholesky::teaching) are
 //! in the full layout alone.
 //!
+//! # Three unknowns
+//!
+//! A probe that solves three unknowns has no buffers to lend. The functions of [`handheld`] take and give `[[f64; 3]; 3]`,
+//! pivots and `[f64; 3]` by value, and give the same bits, pivots, codes and places as [`lblt`] with order 3 and one column
+//! (proved of the library's calls). They have no run number.
+//!
 //! # Where it runs
 //!
 //! The library is compiled for x86-64 Linux. The build takes it from the folder that `URGYELPAT_LIB_DIR` names, or from
@@ -55,6 +61,7 @@ mod record;
 mod refusal;
 
 pub mod cholesky;
+pub mod handheld;
 pub mod lblt;
 pub mod packed;
 pub mod pivots;

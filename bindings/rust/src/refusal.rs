@@ -22,7 +22,7 @@ pub enum Refusal {
     MatrixLength,
     /// Code 4: another slice has the wrong length.
     SliceLength,
-    /// Code 5: the pivot record breaks its rule.
+    /// Code 5: the pivot record breaks its rule, or the pivots of the [`handheld`](crate::handheld) do.
     BadRecord {
         /// The first row that breaks it, or the order if the mark does.
         row: usize,

@@ -4,6 +4,7 @@ mod batches;
 mod benches;
 mod cholesky;
 mod floored;
+mod handheld;
 mod lblt;
 mod lists;
 mod numbers;
