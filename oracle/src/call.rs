@@ -44,6 +44,35 @@ pub trait Calls {
     fn packed_cholesky_extend(&self, old: &[f64], rows: &[f64], fresh: &mut [f64], earlier: usize, n: usize) -> u64;
     fn packed_cholesky_solve(&self, a: &[f64], b: &mut [f64], n: usize, columns: usize) -> u64;
     fn packed_first_twin(&self, a: &[f64], n: usize) -> u64;
+    /// Order 3, by value. It refuses nothing.
+    fn handheld_factor(&self, matrix: Matrix3) -> (Matrix3, Pivots3);
+    /// The answer and the solution, or the side as given.
+    fn handheld_solve(&self, matrix: Matrix3, pivots: Pivots3, side: [f64; 3]) -> (u64, [f64; 3]);
+}
+
+/// Three columns of three numbers: entry (i, j) at [j][i].
+pub type Matrix3 = [[f64; 3]; 3];
+
+/// The pivots of the handheld.
+#[derive(Clone, Copy, Debug, PartialEq, Eq)]
+pub struct Pivots3 {
+    pub index: [u32; 3],
+    pub size: [u32; 3],
+    /// 0, or the marked row + 1.
+    pub mark: u32,
+}
+
+impl Pivots3 {
+    /// Three indexes, three sizes, the mark.
+    pub fn of(words: [u32; 7]) -> Pivots3 {
+        let [i0, i1, i2, s0, s1, s2, mark] = words;
+        Pivots3 { index: [i0, i1, i2], size: [s0, s1, s2], mark }
+    }
+
+    pub fn words(self) -> [u32; 7] {
+        let ([i0, i1, i2], [s0, s1, s2]) = (self.index, self.size);
+        [i0, i1, i2, s0, s1, s2, self.mark]
+    }
 }
 
 #[derive(Clone, Copy, Debug, PartialEq, Eq, PartialOrd, Ord)]
@@ -75,6 +104,8 @@ pub enum Call {
     PackedCholeskyExtend,
     PackedCholeskySolve,
     PackedFirstTwin,
+    HandheldFactor,
+    HandheldSolve,
 }
 
 use Call::*;
@@ -122,7 +153,7 @@ use Number::{Bench, Floor, Info, N, Run, X, Y};
 use Slice::{A, B, Benches, C, List, Record};
 
 #[rustfmt::skip]
-pub const FORMS: [Form; 27] = [
+pub const FORMS: [Form; 29] = [
     Form { call: LbltFactor, name: "lblt_factor", number: 1, numbers: &[N, Run], slices: &[A, Record], valued: false },
     Form { call: LbltSolve, name: "lblt_solve", number: 2, numbers: &[N, X, Run], slices: &[A, Record, B], valued: false },
     Form { call: LbltDeterminant, name: "lblt_determinant", number: 3, numbers: &[N, Run], slices: &[A, Record], valued: true },
@@ -150,6 +181,8 @@ pub const FORMS: [Form; 27] = [
     Form { call: CholeskyFactorFloored, name: "cholesky_factor_floored", number: 25, numbers: &[X, N, Floor], slices: &[A], valued: true },
     Form { call: CholeskyExtendFloored, name: "cholesky_extend_floored", number: 26, numbers: &[X, Y, N, Floor], slices: &[A], valued: true },
     Form { call: CholeskyTeaching, name: "cholesky_teaching", number: 27, numbers: &[X, N], slices: &[A], valued: false },
+    Form { call: HandheldFactor, name: "handheld_factor", number: 28, numbers: &[], slices: &[A, Record], valued: false },
+    Form { call: HandheldSolve, name: "handheld_solve", number: 29, numbers: &[], slices: &[A, Record, B], valued: false },
 ];
 
 impl Call {
@@ -210,6 +243,7 @@ pub struct Case {
     pub b: Vec<f64>,
     /// UDU's `d`, or the fresh buffer of the packed further batch.
     pub c: Vec<f64>,
+    /// Of the handheld its pivots: three indexes, three sizes, the mark.
     pub record: Vec<u32>,
     /// A bench number for each column.
     pub benches: Vec<u32>,
@@ -301,6 +335,17 @@ impl Case {
             PackedCholeskyExtend => (calls.packed_cholesky_extend(a, b, c, x, n), None),
             PackedCholeskySolve => (calls.packed_cholesky_solve(a, b, n, x), None),
             PackedFirstTwin => (calls.packed_first_twin(a, n), None),
+            HandheldFactor => {
+                let (matrix, pivots) = calls.handheld_factor(three_columns(a));
+                a.copy_from_slice(matrix.as_flattened());
+                record.copy_from_slice(&pivots.words());
+                (0, None)
+            }
+            HandheldSolve => {
+                let (answer, side) = calls.handheld_solve(three_columns(a), Pivots3::of(exactly(record)), exactly(b));
+                b.copy_from_slice(&side);
+                (answer, None)
+            }
         }
     }
 
@@ -325,6 +370,16 @@ impl Case {
     pub fn size(&self) -> usize {
         self.a.len() + self.b.len() + self.c.len() + self.record.len() + self.benches.len() + self.list.len()
     }
+}
+
+/// A call by value takes neither more nor less.
+fn exactly<T: Copy, const N: usize>(lent: &[T]) -> [T; N] {
+    lent.try_into().unwrap_or_else(|_| panic!("{} where a call by value takes {N}", lent.len()))
+}
+
+pub fn three_columns(a: &[f64]) -> Matrix3 {
+    let numbers: [f64; 9] = exactly(a);
+    [0, 3, 6].map(|first| [numbers[first], numbers[first + 1], numbers[first + 2]])
 }
 
 fn with_value((answer, value): (u64, f64)) -> (u64, Option<u64>) {

@@ -45,9 +45,11 @@ pub mod simd {
 
 pub mod back;
 mod by_rows;
+pub mod by_value;
 pub mod call;
 pub mod cases;
 pub mod floored;
+mod handheld;
 pub mod line;
 pub mod list;
 pub mod packed;

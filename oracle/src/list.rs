@@ -459,7 +459,7 @@ impl<'a> Writer<'a> {
 /// The slices that a call may write.
 fn written(call: Call, slice: Slice) -> bool {
     match call {
-        Call::LbltFactor | Call::PackedLbltFactor => true,
+        Call::LbltFactor | Call::PackedLbltFactor | Call::HandheldFactor => true,
         Call::CholeskyFactor | Call::CholeskyExtend | Call::CholeskyUnpack | Call::PackedCholeskyFactor => true,
         Call::CholeskyFactorFloored | Call::CholeskyExtendFloored | Call::CholeskyTeaching => true,
         Call::PivotsFromLapack => slice == Slice::Record,

@@ -6,7 +6,7 @@ use std::process::ExitCode;
 
 use oracle::call::Calls;
 use oracle::line::{case_line, outcome_line, parse_case};
-use oracle::{cases, floored, packed, paper::Paper, teaching, text::Text};
+use oracle::{by_value, cases, floored, packed, paper::Paper, teaching, text::Text};
 
 fn main() -> ExitCode {
     let words: Vec<String> = std::env::args().skip(1).collect();
@@ -40,12 +40,13 @@ fn print_family(seed: &str) -> Result<(), Box<dyn std::error::Error>> {
     let seed = seed.parse()?;
     let parts = [cases::family(seed).cases, cases::solves(seed), cases::twins(seed), cases::benches(seed), cases::lists(seed)];
     for case in parts.iter().flatten() {
-        let beside = packed::beside(case).into_iter().chain(floored::beside(case)).chain(teaching::beside(case));
+        let beside =
+            packed::beside(case).into_iter().chain(floored::beside(case)).chain(teaching::beside(case)).chain(by_value::beside(case));
         for case in [case.clone()].into_iter().chain(beside) {
             writeln!(out, "{}", case_line(&case))?;
         }
     }
-    for case in cases::floored(seed).iter().chain(&cases::taught(seed)) {
+    for case in cases::floored(seed).iter().chain(&cases::taught(seed)).chain(&cases::held(seed)) {
         writeln!(out, "{}", case_line(case))?;
     }
     let (chain, floor) = cases::floored_chain(seed);

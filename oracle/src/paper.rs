@@ -1,7 +1,7 @@
 //! The calls, written from document 01's steps and without the text: a matrix is read and written by `a[(i, j)]`, the loops run entry by entry.
 //! Cholesky's solve, the codes of a diagonal that is turned down, the floor and how many columns used it, the row that a mark may name, the run number,
 //! the bench's solve, LAPACK's lists and packed triangles are written from document 02. The packed calls take the same steps on the packed places;
-//! nothing is unpacked. The teaching call is worked out row by row, in `by_rows`.
+//! nothing is unpacked. The teaching call is worked out row by row, in `by_rows`, the handheld's calls entry by entry, in `handheld`.
 //! The calls for rows that came twice are written from what twin rows are: all pairs are compared, one after the other.
 
 // sums and quotients stand as the documents write them
@@ -11,7 +11,8 @@ use std::cmp::Ordering;
 use std::ops::{Deref, DerefMut, Index, IndexMut};
 
 use crate::by_rows;
-use crate::call::{Calls, word};
+use crate::call::{Calls, Matrix3, Pivots3, word};
+use crate::handheld;
 
 pub struct Paper;
 
@@ -847,5 +848,13 @@ impl Calls for Paper {
             return code(3, 0);
         }
         first_twin_since(&a, 0, n)
+    }
+
+    fn handheld_factor(&self, matrix: Matrix3) -> (Matrix3, Pivots3) {
+        handheld::factor(matrix)
+    }
+
+    fn handheld_solve(&self, matrix: Matrix3, pivots: Pivots3, side: [f64; 3]) -> (u64, [f64; 3]) {
+        handheld::solve(matrix, pivots, side)
     }
 }

@@ -6,9 +6,10 @@
 //! floor of a further batch and how many columns used it, the orders of the teaching call and the rows that it reaches, the row that a mark may name, the
 //! run number, which columns are a bench's, LAPACK's lists: each number of a list is a pair of a record, and the record's rule is the list's; and packed
 //! triangles: they are unpacked, answered in the full layout and packed again. The text has no call for rows that came twice, and its Cholesky solve rests
-//! on triangular solves that it does not contain: the steps answer these calls here too, in the full layout.
+//! on triangular solves that it does not contain: the steps answer these calls here too, in the full layout. The handheld's calls are the text's own at order
+//! 3; the rule of its pivots is document 01's with document 02's of a mark.
 
-use crate::call::{Calls, mark, pairs, record_length};
+use crate::call::{Calls, Matrix3, Pivots3, mark, pairs, record_length, three_columns};
 use crate::linalg::cholesky::Cholesky;
 use crate::linalg::lblt::{LBLT, parts};
 use crate::linalg::udu::UDU;
@@ -510,6 +511,26 @@ impl Calls for Text {
 
     fn packed_first_twin(&self, a: &[f64], n: usize) -> u64 {
         checks::packed(a, n).unwrap_or_else(|| self.first_twin(&unpack(a, n), n, n))
+    }
+
+    fn handheld_factor(&self, matrix: Matrix3) -> (Matrix3, Pivots3) {
+        let (factor, pivots, zero_pivot) = parts::apart(LBLT::new(square(3, matrix.as_flattened().to_vec())));
+        let pivots = pivots.as_slice();
+        let index = [0, 1, 2].map(|k| pivots[k].0 as u32);
+        let size = [0, 1, 2].map(|k| pivots[k].1 as u32);
+        (three_columns(factor.as_slice()), Pivots3 { index, size, mark: zero_pivot.map_or(0, |k| k as u32 + 1) })
+    }
+
+    fn handheld_solve(&self, matrix: Matrix3, pivots: Pivots3, side: [f64; 3]) -> (u64, [f64; 3]) {
+        let rows = (0..3).flat_map(|k| [pivots.index[k], pivots.size[k]]);
+        let record: Vec<u32> = rows.chain([pivots.mark]).collect();
+        if let Some(refused) = checks::rule(&record, 3) {
+            return (refused, side);
+        }
+        let mut solution = OMatrix::from_vec(Dyn(3), Dyn(1), side.to_vec());
+        let solved = lblt_of(matrix.as_flattened(), &record, 3).solve_mut(&mut solution);
+        let answer = if solved { DONE } else { refusal(6, pivots.mark as usize - 1) };
+        (answer, [0, 1, 2].map(|row| solution[(row, 0)]))
     }
 }
 

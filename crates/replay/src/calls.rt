@@ -1,4 +1,5 @@
 // The calls by number, on what the registers hold.
+use crate::handheld_calls;
 use crate::lists;
 use crate::packed_calls;
 use crate::registers::halves;
@@ -48,7 +49,7 @@ pub fn told(twin: Twin) -> Outcome {
 }
 
 // An answer that no call gives.
-fn no_call() -> Outcome {
+pub fn no_call() -> Outcome {
     Outcome {
         answer: 0xffff_ffff_ffff_ffff,
         value: 0,
@@ -101,6 +102,7 @@ pub fn call(
         ),
         21..=24 => packed_calls::others(which, n, x, part(a, s.a), part(b, s.b), part(c, s.c)),
         25..=26 => of_floored(which, n, x, y, part(a, s.a), part(c, s.c)),
+        28..=29 => handheld_calls::call(which, part(a, s.a), part(b, s.b), part_words(r, s.r)),
         _ => no_call(),
     }
 }

@@ -1,5 +1,6 @@
 // Replays a stored list of answers: oracle/README.md has the format.
 mod calls;
+mod handheld_calls;
 mod list;
 mod lists;
 mod machine;

@@ -5,9 +5,11 @@
 //! or a record against what comes back of it. Beside every full call that has one its packed call is made and held against it, and packed batches are held
 //! against one packed call on the whole and against the batches of the full layout. Beside every plain factor and further batch of Cholesky floored calls
 //! are made and held against it, and floored batches against one floored call. Beside every plain factor of Cholesky the teaching call is made and held
-//! against it. What is packed or floored, and the teaching call, is counted by itself.
+//! against it. Beside every lent factor and solve of order 3 the handheld's calls are made and held against the lent ones. What is packed or floored, the
+//! teaching call and the handheld's calls are counted by themselves.
 
 mod floored;
+mod handheld;
 mod teaching;
 
 use std::collections::BTreeMap;
@@ -21,6 +23,7 @@ use oracle::text::Text;
 use oracle::{back, packed, pair, tail};
 
 use floored::Floored;
+use handheld::Held;
 use teaching::Taught;
 
 fn main() -> ExitCode {
@@ -79,10 +82,13 @@ fn main() -> ExitCode {
     let taught = [cases::taught_small(), cases::taught_orders(), cases::taught_refusals(), cases::largest_taught()];
     taught.iter().flatten().for_each(|case| tally.hold_taught(case));
     println!("teaching beside these, and of their own: {} calls", tally.taught.calls());
+    cases::held_few().chain(cases::held_special()).for_each(|case| tally.hold_held(&case));
+    cases::held_pivots().chain(cases::held_sides()).for_each(|case| tally.hold_held(&case));
+    println!("handheld beside these, and of their own: {} calls", tally.held.calls());
     let before = tally.calls();
     let (packed_calls, packed_chains) = (tally.packed.calls(), tally.packed.chains());
     let (floored_calls, floored_chains) = (tally.floored.calls(), tally.floored.chains());
-    let taught_calls = tally.taught.calls();
+    let (taught_calls, held_calls) = (tally.taught.calls(), tally.held.calls());
     for seed in first..first + seeds {
         let family = cases::family(seed);
         family.cases.iter().for_each(|case| tally.hold(case));
@@ -99,6 +105,7 @@ fn main() -> ExitCode {
         let (chain, floor) = cases::floored_chain(seed);
         tally.hold_floored_chain(&chain, floor);
         cases::taught(seed).iter().for_each(|case| tally.hold_taught(case));
+        cases::held(seed).iter().for_each(|case| tally.hold_held(case));
     }
     println!("seeds {first} to {}: {} calls", (first + seeds).saturating_sub(1), tally.calls() - before);
     let (calls, chains) = (tally.packed.calls() - packed_calls, tally.packed.chains() - packed_chains);
@@ -106,6 +113,7 @@ fn main() -> ExitCode {
     let (calls, chains) = (tally.floored.calls() - floored_calls, tally.floored.chains() - floored_chains);
     println!("floored beside these, and of their own: {calls} calls, {chains} chains");
     println!("teaching beside these, and of their own: {} calls", tally.taught.calls() - taught_calls);
+    println!("handheld beside these, and of their own: {} calls", tally.held.calls() - held_calls);
     tally.print(against);
     if tally.differences == 0 { ExitCode::SUCCESS } else { ExitCode::FAILURE }
 }
@@ -126,6 +134,7 @@ struct Tally<'a> {
     packed: Packed,
     floored: Floored,
     taught: Taught,
+    held: Held,
     differences: u64,
     smallest: Option<(usize, String)>,
 }
@@ -196,6 +205,7 @@ impl<'a> Tally<'a> {
             packed: Packed::default(),
             floored: Floored::default(),
             taught: Taught::default(),
+            held: Held::default(),
             differences: 0,
             smallest: None,
         }
@@ -244,6 +254,7 @@ impl<'a> Tally<'a> {
         }
         self.hold_floors(case, text, other);
         self.hold_taught_beside(case, text, other);
+        self.hold_held_beside(case);
     }
 
     fn hold_alike(&mut self, case: &Case, text: &Outcome, other: &Outcome) {
@@ -448,9 +459,10 @@ impl<'a> Tally<'a> {
         );
         self.floored.print();
         self.taught.print();
+        self.held.print();
         println!(
             "text against {against}: {} calls, {} chains, {} blocks, {} pairs, {} there and back, {} packed calls, {} packed chains, \
-             {} floored calls, {} floored chains, {} teaching calls, {} differ",
+             {} floored calls, {} floored chains, {} teaching calls, {} handheld calls, {} differ",
             self.calls(),
             self.chains,
             self.tails.accepted + self.tails.before + self.tails.within,
@@ -461,6 +473,7 @@ impl<'a> Tally<'a> {
             self.floored.calls(),
             self.floored.chains(),
             self.taught.calls(),
+            self.held.calls(),
             self.differences
         );
         if let Some((_, said)) = &self.smallest {

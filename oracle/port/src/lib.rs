@@ -1,6 +1,6 @@
-//! The port behind its C convention: a slice is a pointer and then a length.
+//! The port behind its C convention: a slice is a pointer and then a length; the handheld's calls take and give structs.
 
-use oracle::call::Calls;
+use oracle::call::{self, Calls};
 
 #[repr(C)]
 struct Determinant {
@@ -19,6 +19,35 @@ struct Listed {
 struct Floored {
     answer: u64,
     used: u64,
+}
+
+#[repr(C)]
+struct Column3 {
+    row: [f64; 3],
+}
+
+#[repr(C)]
+struct Matrix3 {
+    column: [Column3; 3],
+}
+
+#[repr(C)]
+struct Pivots3 {
+    index: [u32; 3],
+    size: [u32; 3],
+    mark: u32,
+}
+
+#[repr(C)]
+struct Factored3 {
+    matrix: Matrix3,
+    pivots: Pivots3,
+}
+
+#[repr(C)]
+struct Solved3 {
+    answer: u64,
+    side: Column3,
 }
 
 unsafe extern "C" {
@@ -124,6 +153,8 @@ unsafe extern "C" {
     ) -> u64;
     fn urgyelpat_packed_cholesky_solve(a: *const f64, a_len: usize, b: *mut f64, b_len: usize, n: usize, columns: usize) -> u64;
     fn urgyelpat_packed_first_twin(a: *const f64, a_len: usize, n: usize) -> u64;
+    fn urgyelpat_handheld_factor(matrix: Matrix3) -> Factored3;
+    fn urgyelpat_handheld_solve(matrix: Matrix3, pivots: Pivots3, side: Column3) -> Solved3;
 }
 
 pub struct Port;
@@ -306,4 +337,22 @@ impl Calls for Port {
     fn packed_first_twin(&self, a: &[f64], n: usize) -> u64 {
         unsafe { urgyelpat_packed_first_twin(a.as_ptr(), a.len(), n) }
     }
+
+    #[inline]
+    fn handheld_factor(&self, matrix: call::Matrix3) -> (call::Matrix3, call::Pivots3) {
+        let r = unsafe { urgyelpat_handheld_factor(by_columns(matrix)) };
+        let Pivots3 { index, size, mark } = r.pivots;
+        (r.matrix.column.map(|column| column.row), call::Pivots3 { index, size, mark })
+    }
+
+    #[inline]
+    fn handheld_solve(&self, matrix: call::Matrix3, pivots: call::Pivots3, side: [f64; 3]) -> (u64, [f64; 3]) {
+        let call::Pivots3 { index, size, mark } = pivots;
+        let r = unsafe { urgyelpat_handheld_solve(by_columns(matrix), Pivots3 { index, size, mark }, Column3 { row: side }) };
+        (r.answer, r.side.row)
+    }
+}
+
+fn by_columns(matrix: call::Matrix3) -> Matrix3 {
+    Matrix3 { column: matrix.map(|row| Column3 { row }) }
 }

@@ -4,6 +4,7 @@ mod benches;
 mod families;
 mod fixed;
 mod floored;
+mod handheld;
 mod lists;
 mod matrices;
 mod packed;
@@ -19,6 +20,7 @@ pub use floored::{
     FAILING, PASSING, floored, floored_chain, floored_refusals, floored_sweep, floors_beside, floors_for, largest_floored,
     largest_floored_chain,
 };
+pub use handheld::{held, held_few, held_pivots, held_sides, held_special};
 pub use lists::{largest_lists, lists, lists_but_one_bit, lists_over, short_lists, short_records, sound_lists};
 pub use matrices::{fill, filled};
 pub use packed::{chains_of_all_cuts, full_calls_on_triangles, largest_chains, largest_packed, packed_chain, packed_refusals};

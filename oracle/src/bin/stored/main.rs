@@ -2,6 +2,7 @@
 //! stored --replay FOLDER: replays them on the text and on the steps and says what differs.
 
 mod floored;
+mod handheld;
 mod teaching;
 
 use std::path::Path;
@@ -264,6 +265,7 @@ fn lblt(w: &mut Writer) {
     benches(w);
     lists(w);
     packed_lblt(w);
+    handheld::lblt(w);
 }
 
 /// A bench's call on what the registers hold.
