@@ -77,12 +77,12 @@ fn assembled(n: Nine, s: Stepped) -> Factored
     Factored { matrix, pivots }
 }
 
-// The Bunch–Kaufman factor of a symmetric matrix of order 3. Above the diagonal nothing is read, and all comes back as it was.
+// The Bunch–Kaufman factor of a symmetric matrix of order 3. Above the diagonal nothing is looked at, and all comes back as it was.
 pub fn factor(matrix: [Column3; 3]) -> Factored
     ensures { λ r. ⌜ FactoredByValue matrix r ⌝ }
 {
     let first = matrix[0];
-    // a NaN at (1, 0) goes by the lent call, all else by the steps written out
+    // a NaN at (1, 0) goes by the lent call, all else by the steps written out; the branch keeps the compiler from reading (1, 0) and (2, 0) at once
     if first.row[1] != first.row[1] {
         return assembled(numbers::of_columns(matrix, 2), lent::by_lent(matrix));
     }
