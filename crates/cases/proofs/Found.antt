@@ -47,12 +47,12 @@ use Rattle.cholesky.specs.Solve.{sidesTests, solveSides, CholeskySolved}
 use Rattle.pivots.specs.Rule.{checked}
 use Rattle.handheld.specs.declared.Factored.{Factored as Factored3}
 use Rattle.handheld.specs.Shapes as handheld
-use Rattle.handheld.specs.Promise.{FactoredByValue, SolvedByValue}
+use Rattle.handheld.specs.Promise.{FactoredByValue}
 use Rattle.handheld.proofs.Promises.{solve-answer}
 use Rattle.teaching.specs.Promise.{teachingTests, reached, Taught}
 use Rattle.teaching.proofs.Promises.{taught-fits}
 use Rattle.udu.specs.Promise.{uduTests, uduOf, uduAnswer, factorsOf, UduFactored}
-use Rattle.cases.specs.Calls.{stray, floats, bitsOf, signedBits, answered, lentWords, lentList, lentFloats, Call, lbltFactor, lbltDeterminant, lbltSolve, lbltSolveBench, lbltReaders, lbltLargest, handheldFactor, handheldSolve, handheldPivots, columnsIn, columnIn, pivotsFromLapack, pivotsToLapack, choleskyFactor, choleskyExtendFloored, choleskyTeaching, choleskySolve, choleskySolveSizes, packedLbltFactor, packedLbltDeterminant, packedLbltSolve, packedCholeskyFactor, packedCholeskyExtend, packedCholeskySolve, packedExtendSizes, uduFactor, root, Gives}
+use Rattle.cases.specs.Calls.{stray, floats, bitsOf, signedBits, answered, lentWords, lentList, lentFloats, Call, lbltFactor, lbltDeterminant, lbltSolve, lbltSolveBench, lbltReaders, lbltLargest, handheldFactor, handheldSolve, handheldPivots, columnsIn, pivotsFromLapack, pivotsToLapack, choleskyFactor, choleskyExtendFloored, choleskyTeaching, choleskySolve, choleskySolveSizes, packedLbltFactor, packedLbltDeterminant, packedLbltSolve, packedCholeskyFactor, packedCholeskyExtend, packedCholeskySolve, packedExtendSizes, uduFactor, root, Gives}
 use Rattle.matrix.proofs.Places.{lower-low, lower-left}
 use Rattle.matrix.proofs.Slices.{listed, is-listed, overlaid, holds-overlaid, lower-overlaid, fills-listed}
 use Rattle.matrix.specs.Rounded.{plusZero}

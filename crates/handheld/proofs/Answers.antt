@@ -1,5 +1,5 @@
 -- What `solve` by value answers and leaves. Assumes nothing.
-use mathlib.Core.Path.{_≡_, refl, sym, _∙_, ap, subst}
+use mathlib.Core.Path.{_≡_, refl, sym, _∙_, ap}
 use mathlib.Core.Bool.{true, false, cond}
 use mathlib.Core.List.{List, append-nil}
 use Prim.Native.Nat.{ℕ}
@@ -11,7 +11,6 @@ use Rattle.answer.specs.declared.Answer.the-variants.{Done}
 use Rattle.answer.specs.Number.{isDone}
 use Rattle.answer.specs.Refusals.{tested}
 use Rattle.answer.proofs.Done.{done-is, done-or-refused}
-use Rattle.matrix.specs.Matrix.{Matrix}
 use Rattle.matrix.specs.Grid.{load}
 use Rattle.matrix.specs.Layouts.{full, lower}
 use Rattle.matrix.specs.Loop.{for, turns}
@@ -20,7 +19,7 @@ use Rattle.matrix.specs.Sizes.{Fits}
 use Rattle.matrix.proofs.Sizes.{full-fits, fits-pass}
 use Rattle.pivots.specs.Rule.{checked, Accepted}
 use Rattle.lblt_solve_one.specs.Column.{solveColumn}
-use Rattle.lblt_read.specs.Calls.{wordTests, sideTests, columnTests}
+use Rattle.lblt_read.specs.Calls.{wordTests, sideTests}
 use Rattle.lblt_read.proofs.Admitted.{record-broken, record-expected, sides-right, columns-answers}
 use Rattle.lblt_solve.specs.Solve.{markTests, solveTests}
 use Rattle.lblt_solve.proofs.Marked.{solve-answers, solver-admitted}

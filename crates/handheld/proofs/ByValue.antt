@@ -2,7 +2,7 @@
 use mathlib.Core.Path.{_≡_, refl, sym, _∙_, ap, subst}
 use mathlib.Core.Bool.{true}
 use mathlib.Core.List.{List, [], _∷_}
-use Prim.Native.Nat.{ℕ, zero, suc, _≤_, _<_}
+use Prim.Native.Nat.{ℕ, zero, suc}
 use native.Mathlib.Omega.{arith}
 use lib.ListN.{length, getD, set}
 use lib.Seq.{set-set}
@@ -27,7 +27,7 @@ use Rattle.handheld.specs.declared.Triangle.{Triangle}
 use Rattle.handheld.specs.declared.Factored.{Factored}
 use Rattle.handheld.specs.declared.numbers.Nine.{Nine}
 use Rattle.handheld.specs.declared.steps.Stepped.{Stepped}
-use Rattle.handheld.specs.Shapes.{numbersOf, Threes, Square, Paired, recordOf}
+use Rattle.handheld.specs.Shapes.{numbersOf, Threes, Square, recordOf}
 use Rattle.handheld.specs.Promise.{FactoredByValue}
 use Rattle.handheld.specs.inner.Numbers.{nineOf, lowerOf, factoredOf}
 use Rattle.handheld.specs.inner.Triangle.{matrixOf}

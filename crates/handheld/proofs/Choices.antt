@@ -1,5 +1,5 @@
 -- Which pivot a step of three rows takes, by the numbers that it looks at. Assumes nothing.
-use mathlib.Core.Path.{_≡_, refl, sym, _∙_}
+use mathlib.Core.Path.{_≡_, refl, _∙_}
 use mathlib.Core.Bool.{true, false}
 use Prim.Native.Nat.{ℕ}
 use lib.Ieee.{Float, lt, le, eq}

@@ -1,10 +1,9 @@
 -- Columns of three numbers, by name. Assumes nothing.
-use mathlib.Core.Path.{_≡_, refl, sym, _∙_, ap}
-use mathlib.Core.List.{List, [], _∷_, _++_}
-use Prim.Native.Nat.{ℕ, zero, suc, _<_}
+use mathlib.Core.Path.{_≡_}
+use mathlib.Core.List.{List, [], _∷_}
+use Prim.Native.Nat.{ℕ}
 use native.Mathlib.Omega.{arith}
 use lib.ListN.{length, getD}
-use lib.Ieee.{Float, nan}
 use Rattle.handheld.specs.declared.Column3.{Column3}
 use Rattle.handheld.specs.declared.numbers.Three.{Three}
 use Rattle.handheld.specs.Shapes.{numbersOf}

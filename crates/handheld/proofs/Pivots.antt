@@ -4,7 +4,7 @@ use Prim.Native.Nat.{ℕ}
 use lib.Ieee.{Float, neg}
 use Rattle.leaf.specs.Abs.{absOf}
 use Rattle.matrix.specs.Rounded.{_⊕_, _⊖_, _⊗_, _⊘_, one}
-use Rattle.matrix.specs.Matrix.{Matrix, entry, exchange}
+use Rattle.matrix.specs.Matrix.{entry, exchange}
 use Rattle.matrix.specs.Loop.{for, turns}
 use Rattle.matrix.specs.Grid.{load}
 use Rattle.matrix.specs.Layouts.{lower}

@@ -2,19 +2,18 @@
 use mathlib.Core.Path.{_≡_, refl, sym, _∙_, ap, subst}
 use mathlib.Core.Bool.{true, false}
 use mathlib.Core.List.{List, [], _∷_}
-use Prim.Native.Nat.{ℕ, _+_, _≤_, _<_}
+use Prim.Native.Nat.{ℕ, _+_, _<_}
 use native.Mathlib.Omega.{arith}
-use lib.ListN.{set}
-use lib.Ieee.{Float, lt, eq}
+use lib.Ieee.{Float, eq}
 use Rattle.leaf.specs.Abs.{absOf}
 use Rattle.leaf.specs.Maximum.{maximumOf}
-use Rattle.matrix.specs.Rounded.{_⊗_, plusZero}
+use Rattle.matrix.specs.Rounded.{plusZero}
 use Rattle.matrix.specs.Matrix.{Matrix}
 use Rattle.matrix.specs.Loop.{for, turns}
 use Rattle.matrix.specs.Grid.{load}
 use Rattle.matrix.specs.Layouts.{packed, lower}
 use Rattle.pivots.specs.Words.{paired, marked, stamped}
-use Rattle.lblt_choice.specs.Choice.{α, choose}
+use Rattle.lblt_choice.specs.Choice.{choose}
 use Rattle.lblt_choice.specs.declared.Choice.{Choice}
 use Rattle.lblt_choice.specs.declared.Choice.the-variants.{ZeroColumn, One, Two}
 use Rattle.lblt_choice.proofs.Range.{never-below, one-range, two-range}
@@ -26,7 +25,6 @@ use Rattle.lblt.specs.Factor.{firstState, finalState}
 use Rattle.lblt.proofs.Inside.{pivot1-low, pivot2-low}
 use Rattle.lblt.proofs.Stands.{step-rises}
 use Rattle.lblt.proofs.Going.{stepped-on, stepped-past}
-use Rattle.handheld.specs.declared.Pivots3.{Pivots3}
 use Rattle.handheld.specs.declared.Triangle.{Triangle}
 use Rattle.handheld.specs.declared.steps.Stepped.{Stepped}
 use Rattle.handheld.specs.Shapes.{recordOf}

@@ -1,16 +1,14 @@
 -- Pivots of three rows that are accepted: how their rows fall into blocks, and which rows they name. The check does not see a run number. Assumes nothing.
-use mathlib.Core.Path.{_≡_, refl, sym, _∙_}
-use mathlib.Core.List.{List, [], _∷_}
-use mathlib.Core.Logic.{_⊎_, inl, inr, ⊎-elim}
-use Prim.Native.Nat.{ℕ, zero, suc, _≤_, _<_}
+use mathlib.Core.Path.{_≡_, refl, _∙_}
+use mathlib.Core.List.{List}
+use mathlib.Core.Logic.{⊎-elim}
+use Prim.Native.Nat.{ℕ, zero, suc, _<_}
 use native.Mathlib.Omega.{arith}
 use lib.ListN.{getD}
 use Rattle.answer.proofs.Tests.{eq-or-ne}
 use Rattle.pivots.specs.Words.{indexAt, sizeAt}
 use Rattle.pivots.specs.Rule.{checked, Accepted}
-use Rattle.pivots.proofs.Blocks as blocks
 use Rattle.pivots.proofs.Boundaries.{Boundary, boundary-none, boundary-one, boundary-two, is-one, is-two}
-use Rattle.pivots.proofs.SamePairs.{SamePairs}
 use Rattle.pivots.proofs.Alike.{checked-alike}
 use Rattle.handheld.specs.declared.Pivots3.{Pivots3}
 use Rattle.handheld.specs.Shapes.{recordOf}

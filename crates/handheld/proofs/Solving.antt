@@ -2,7 +2,6 @@
 use mathlib.Core.Path.{_≡_, refl, sym, _∙_, ap}
 use mathlib.Core.List.{List, [], _∷_}
 use Prim.Native.Nat.{ℕ}
-use lib.ListN.{set}
 use lib.Ieee.{Float}
 use Rattle.matrix.specs.Rounded.{_⊖_, _⊗_, _⊘_}
 use Rattle.matrix.specs.Matrix.{Matrix}

@@ -3,11 +3,10 @@ use mathlib.Core.Path.{_≡_, refl, sym, _∙_}
 use mathlib.Core.List.{List}
 use Prim.Native.Nat.{ℕ, zero, suc, _≤_, _<_}
 use native.Mathlib.Omega.{arith}
-use lib.Dec.{T}
 use lib.ListN.{getD}
 use lib.Ieee.{Float, nan}
 use Rattle.matrix.specs.Matrix.{Matrix}
-use Rattle.matrix.specs.Grid.{load, mask}
+use Rattle.matrix.specs.Grid.{load}
 use Rattle.matrix.specs.Layouts.{full, packed, lower}
 use Rattle.matrix.proofs.Grids.{Bare, load-is, bare-load, bare-mask}
 use Rattle.matrix.proofs.Places.{lower-low, lower-under}

@@ -1,5 +1,4 @@
 // All steps of three rows, written out.
-ghost use Prim.Native.Nat.{_<_};
 ghost use Rattle.pivots.specs.Words.{paired};
 ghost use Rattle.lblt.specs.Step.{stepped};
 ghost use Rattle.lblt.specs.Factor.{finalState};

@@ -2,7 +2,6 @@
 use Prim.Native.Nat.{ℕ, _+_, _≤_, _<_}
 use native.Mathlib.Omega.{arith}
 use lib.Dec.{eqb}
-use lib.Ieee.{Float}
 use borrow.Author.Tests.{eqb-false}
 use Rattle.answer.proofs.Tests.{either}
 use Rattle.matrix.specs.Matrix.{Matrix}

@@ -1,6 +1,5 @@
 -- `update_first` meets its contract. Assumes nothing.
 use Rattle.handheld.proofs.Pivots.{first-updated}
-use borrow.Author.Needs.{needs}
 use Rattle.handheld.proofs.pivot.update_first.Statement.{statement}
 use Rattle.handheld.proofs.pivot.update_first.Tie as tie
 

@@ -1,6 +1,5 @@
 -- `update_second` meets its contract. Assumes nothing.
 use Rattle.handheld.proofs.Pivots.{second-updated}
-use borrow.Author.Needs.{needs}
 use Rattle.handheld.proofs.pivot.update_second.Statement.{statement}
 use Rattle.handheld.proofs.pivot.update_second.Tie as tie
 

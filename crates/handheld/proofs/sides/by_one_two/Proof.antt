@@ -1,6 +1,5 @@
 -- `by_one_two` meets its contract. Assumes nothing.
 use Rattle.handheld.proofs.Solving.{one-two-solved}
-use borrow.Author.Needs.{needs}
 use Rattle.handheld.proofs.sides.by_one_two.Statement.{statement}
 use Rattle.handheld.proofs.sides.by_one_two.Tie as tie
 

@@ -1,6 +1,5 @@
 -- `by_ones` meets its contract. Assumes nothing.
 use Rattle.handheld.proofs.Solving.{ones-solved}
-use borrow.Author.Needs.{needs}
 use Rattle.handheld.proofs.sides.by_ones.Statement.{statement}
 use Rattle.handheld.proofs.sides.by_ones.Tie as tie
 

@@ -1,6 +1,5 @@
 -- `by_two_one` meets its contract. Assumes nothing.
 use Rattle.handheld.proofs.Solving.{two-one-solved}
-use borrow.Author.Needs.{needs}
 use Rattle.handheld.proofs.sides.by_two_one.Statement.{statement}
 use Rattle.handheld.proofs.sides.by_two_one.Tie as tie
 

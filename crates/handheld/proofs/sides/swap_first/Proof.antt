@@ -1,7 +1,6 @@
 -- `swap_first` meets its contract. Assumes nothing.
 use native.Mathlib.Omega.{arith}
 use Rattle.handheld.proofs.Solving.{swap-01, swap-02, swap-none0}
-use borrow.Author.Needs.{needs}
 use Rattle.handheld.proofs.sides.swap_first.Statement.{statement}
 use Rattle.handheld.proofs.sides.swap_first.Tie as tie
 

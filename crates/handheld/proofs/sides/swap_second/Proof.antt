@@ -1,7 +1,6 @@
 -- `swap_second` meets its contract. Assumes nothing.
 use native.Mathlib.Omega.{arith}
 use Rattle.handheld.proofs.Solving.{swap-12, swap-none1}
-use borrow.Author.Needs.{needs}
 use Rattle.handheld.proofs.sides.swap_second.Statement.{statement}
 use Rattle.handheld.proofs.sides.swap_second.Tie as tie
 
