@@ -30,7 +30,7 @@ side = bits.four ∷ bits.five ∷ bits.two ∷ []
 
 abbrev pub handheldTable : List Case
 handheldTable =
-    -- the starred matrices: a block of two and a marked row 2, which a solve tells, its side as given; two pivots of size 1 on what underflows, and the same mark
+    -- the starred matrices: a block of two and a marked row 2, which a solve tells, its side as given; pivots of size 1 where the ratio underflows, and the same mark
     (handheldFactor equalMaxima ⇒ (1 ∷ 2 ∷ 1 ∷ 2 ∷ 2 ∷ 1 ∷ 3 ∷ 0 ∷ []) ∷ (bits.zero ∷ bits.three ∷ bits.zero ∷ stray ∷ bits.zero ∷ bits.minusOne ∷ stray ∷ stray ∷ bits.zero ∷ []) ∷ [])
     ∷ (handheldSolve equalMaxima side ⇒ refused 6 2 ∷ side ∷ [])
     ∷ (handheldFactor underflow

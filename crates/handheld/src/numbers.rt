@@ -1,5 +1,4 @@
-// The numbers of columns that are passed by value. `last` is the row 2: where it comes as data the compiler reads one number at a time, and
-// does not wait for what the caller has just stored to read two at once.
+// The numbers of columns that are passed by value. `last` is row 2: where it comes as data, that row is read by itself, and not with row 1 at once.
 ghost use mathlib.Core.Path.{_≡_};
 ghost use Rattle.handheld.specs.Shapes.{numbersOf};
 ghost use Rattle.handheld.specs.inner.Numbers.{threeOf, nineOf, lowerOf};

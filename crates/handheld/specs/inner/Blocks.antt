@@ -1,4 +1,4 @@
--- The records of three rows that are accepted, by the ways in which the rows fall into blocks.
+-- Records of three rows, by the ways in which the rows of an accepted one fall into blocks.
 use mathlib.Core.List.{List, [], _∷_}
 use Prim.Native.Nat.{ℕ}
 
