@@ -1,5 +1,6 @@
 -- Going over the columns of a slice.
 --     column-within, column-length    a column lies within the slice and has n numbers
+--     column-replaced                 one column is another, the others as they were
 --     chosen-column, chosen-long      after all that are chosen: column j is f of what it was if it is chosen, else as it was
 --     chosen-all, chosen-none         a stretch of columns that all are chosen, or none of them
 --     each-column, each-long          after all of them: column j is f of what it was, and nothing else
@@ -22,7 +23,7 @@ use lib.ListN.{length, take, drop, length-append, length-drop, take-append-drop}
 use lib.Seq.{length-take-le, take-at, drop-at, take-add, take-all, take-append-le, drop-append-le, drop-append-add, drop-drop}
 use Rattle.answer.proofs.Tests.{either}
 use Rattle.matrix.specs.Loop.{for}
-use Rattle.matrix.specs.Columns.{column, atColumn, eachColumn, atChosen, eachChosen}
+use Rattle.matrix.specs.Columns.{column, atColumn, eachColumn, atChosen, eachChosen, ButColumn}
 use Rattle.matrix.proofs.Loops.{for-none, for-one, for-more, for-still, for-same}
 use Rattle.matrix.proofs.ColumnsLoops.{Keeping, Keeps, Loop, Uniform}
 
@@ -49,62 +50,81 @@ apart i j other = at (ltb i j) refl
     at true e = inl (ltb-true i j e)
     at false e = let past : j ≤ i = ltb-false i j e in inr (omega (arith, other))
 
--- ---- one column
+-- ---- one column, replaced
+
+module _ {A : Type 0} (n j : ℕ) (b : List A) (within : j * n + n ≤ length b) (part : List A) (whole : length part ≡ n) where
+  replaced : List A
+  replaced = take (j * n) b ++ (part ++ drop n (drop (j * n) b))
+
+  front : length (take (j * n) b) ≡ j * n
+  front = length-take-le (j * n) b (omega arith)
+
+  replaced-long : length replaced ≡ length b
+  unfolding replaced
+  replaced-long =
+      let rest : length (drop n (drop (j * n) b)) ≡ length b - j * n - n = simp (length-drop, length-drop) in
+      simp (length-append, length-append) (omega (arith, front, whole, rest))
+
+  replaced-here : column n j replaced ≡ part
+  unfolding column replaced
+  replaced-here =
+      ap (take n) (drop-at (take (j * n) b) (part ++ drop n (drop (j * n) b)) (j * n) front)
+      ∙ take-at part (drop n (drop (j * n) b)) n whole
+
+  -- an earlier column
+  earlier : (i : ℕ) → i < j → column n i replaced ≡ column n i b
+  unfolding column replaced
+  earlier i less =
+      within-front _ ∙ sym (within-front (drop (j * n) b)) ∙ ap (λ (l : List A). take n (drop (i * n) l)) (take-append-drop (j * n) b)
+    where
+      within-front : (rest : List A) → take n (drop (i * n) (take (j * n) b ++ rest)) ≡ take n (drop (i * n) (take (j * n) b))
+      within-front rest =
+          let room : i * n + n ≤ j * n = before n i j less in
+          ap (take n) (drop-append-le (i * n) (take (j * n) b) rest (omega (arith, front)))
+          ∙ take-append-le n (drop (i * n) (take (j * n) b)) rest (simp length-drop (omega (arith, front)))
+
+  -- a later column
+  later : (i : ℕ) → j < i → column n i replaced ≡ column n i b
+  unfolding column replaced
+  later i more =
+      let t : ℕ = i * n - (j * n + n) in
+      let past : j * n + n ≤ i * n = before n j i more in
+      let place : i * n ≡ length (take (j * n) b) + (length part + t) = omega (arith, front, whole) in
+      let back : j * n + (n + t) ≡ i * n = omega arith in
+      ap (take n)
+      (ap (λ (q : ℕ). drop q (take (j * n) b ++ (part ++ drop n (drop (j * n) b)))) place
+      ∙ drop-append-add (take (j * n) b) (part ++ drop n (drop (j * n) b)) (length part + t)
+      ∙ drop-append-add part (drop n (drop (j * n) b)) t
+      ∙ drop-drop t n (drop (j * n) b)
+      ∙ drop-drop (n + t) (j * n) b
+      ∙ ap (λ (q : ℕ). drop q b) back)
+
+  -- another column
+  replaced-there : (i : ℕ) → (i ≡ j → ⊥) → column n i replaced ≡ column n i b
+  replaced-there i other = ⊎-elim (earlier i) (later i) (apart i j other)
+
+  pub column-replaced : {b' : List A} → b' ≡ take (j * n) b ++ (part ++ drop n (drop (j * n) b)) → ButColumn n j b b' × (column n j b' ≡ part)
+  unfolding replaced
+  column-replaced e = rw e (record { long = replaced-long; others = replaced-there }, replaced-here)
+
+-- ---- one column, f applied to it
 
 module _ {A : Type 0} (n : ℕ) (f : List A → List A) (keeps : Keeping f) where
   module _ (j : ℕ) (b : List A) (within : j * n + n ≤ length b) where
-    front : length (take (j * n) b) ≡ j * n
-    front = length-take-le (j * n) b (omega arith)
-
     middle : length (f (column n j b)) ≡ n
     middle = keeps (column n j b) ∙ column-length n j b within
 
     pub at-long : length (atColumn n f j b) ≡ length b
-    unfolding atColumn
-    at-long =
-        let rest : length (drop n (drop (j * n) b)) ≡ length b - j * n - n = simp (length-drop, length-drop) in
-        simp (length-append, length-append) (omega (arith, front, middle, rest))
+    unfolding atColumn replaced
+    at-long = replaced-long n j b within (f (column n j b)) middle
 
     column-here : column n j (atColumn n f j b) ≡ f (column n j b)
-    unfolding column atColumn
-    column-here =
-        ap (take n) (drop-at (take (j * n) b) (f (take n (drop (j * n) b)) ++ drop n (drop (j * n) b)) (j * n) front)
-        ∙ take-at (f (take n (drop (j * n) b))) (drop n (drop (j * n) b)) n (inner middle)
-      where
-        inner : length (f (column n j b)) ≡ n → length (f (take n (drop (j * n) b))) ≡ n
-        inner e = e
+    unfolding atColumn replaced
+    column-here = replaced-here n j b within (f (column n j b)) middle
 
-    -- an earlier column
-    earlier : (i : ℕ) → i < j → column n i (atColumn n f j b) ≡ column n i b
-    unfolding column atColumn
-    earlier i less =
-        within-front _ ∙ sym (within-front (drop (j * n) b)) ∙ ap (λ (l : List A). take n (drop (i * n) l)) (take-append-drop (j * n) b)
-      where
-        within-front : (rest : List A) → take n (drop (i * n) (take (j * n) b ++ rest)) ≡ take n (drop (i * n) (take (j * n) b))
-        within-front rest =
-            let room : i * n + n ≤ j * n = before n i j less in
-            ap (take n) (drop-append-le (i * n) (take (j * n) b) rest (omega (arith, front)))
-            ∙ take-append-le n (drop (i * n) (take (j * n) b)) rest (simp length-drop (omega (arith, front)))
-
-    -- a later column
-    later : (i : ℕ) → j < i → column n i (atColumn n f j b) ≡ column n i b
-    unfolding column atColumn
-    later i more =
-        let t : ℕ = i * n - (j * n + n) in
-        let past : j * n + n ≤ i * n = before n j i more in
-        let place : i * n ≡ length (take (j * n) b) + (length (f (column n j b)) + t) = omega (arith, front, middle) in
-        let back : j * n + (n + t) ≡ i * n = omega arith in
-        ap (take n)
-        (ap (λ (q : ℕ). drop q (take (j * n) b ++ (f (column n j b) ++ drop n (drop (j * n) b)))) place
-        ∙ drop-append-add (take (j * n) b) (f (column n j b) ++ drop n (drop (j * n) b)) (length (f (column n j b)) + t)
-        ∙ drop-append-add (f (column n j b)) (drop n (drop (j * n) b)) t
-        ∙ drop-drop t n (drop (j * n) b)
-        ∙ drop-drop (n + t) (j * n) b
-        ∙ ap (λ (q : ℕ). drop q b) back)
-
-    -- another column
     column-there : (i : ℕ) → (i ≡ j → ⊥) → column n i (atColumn n f j b) ≡ column n i b
-    column-there i other = ⊎-elim (earlier i) (later i) (apart i j other)
+    unfolding atColumn replaced
+    column-there = replaced-there n j b within (f (column n j b)) middle
 
   -- ---- the columns that are chosen
 

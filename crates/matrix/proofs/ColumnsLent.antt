@@ -1,7 +1,7 @@
 -- Columns of a slice, lent and back.
 --     column-small, column-long               one column has a place below 2²⁰ and n numbers
 --     number-at                               number i of column j stands at j·n + i
---     part-is, put-column                     the part that is lent is the column; what comes back is `atColumn`
+--     part-is, put-column, put-part           the part that is lent is the column; what comes back is `atColumn`, or another column there
 --     group-within, group-small, group-long   c columns lie within the slice, and the part has c·n numbers
 --     group-put                               what comes back is the loop over the c columns
 use mathlib.Core.List.{List, _++_, append-assoc}
@@ -13,9 +13,9 @@ use lib.Ieee.{Float, nan}
 use lib.ListN.{length, getD, take, drop, take-append-drop, length-drop}
 use lib.Seq.{length-take-le, getD-take, getD-drop, take-append-add, take-append-le, drop-append-add, drop-append-le}
 use Rattle.matrix.specs.Loop.{turns, for}
-use Rattle.matrix.specs.Columns.{at, column, atColumn, eachColumn, Lined}
+use Rattle.matrix.specs.Columns.{at, column, atColumn, eachColumn, Lined, ButColumn}
 use Rattle.matrix.proofs.Places.{product-small}
-use Rattle.matrix.proofs.Columns.{column-within, column-length, at-long}
+use Rattle.matrix.proofs.Columns.{column-within, column-length, column-replaced, at-long}
 use Rattle.matrix.proofs.ColumnsLoops.{Keeping}
 
 -- ---- one column
@@ -44,6 +44,12 @@ module _ {A : Type 0} (n j : ℕ) (b : List A) where
       → take (j * n) b ++ (ys ++ drop (j * n + n - j * n) (drop (j * n) b)) ≡ atColumn n f j b
   unfolding atColumn
   put-column f e = rw (span, e)
+
+  pub put-part
+      : {columns : ℕ} → Lined n columns b → j < columns → {ys : List A} → length ys ≡ n
+      → {b' : List A} → b' ≡ take (j * n) b ++ (ys ++ drop (j * n + n - j * n) (drop (j * n) b))
+      → ButColumn n j b b' × (column n j b' ≡ ys)
+  put-part {columns} lined below {ys} whole e = column-replaced n j b (omega (arith, column-within n columns j below, lined .long)) ys whole (e ∙ rw span refl)
 
 -- ---- c columns from column j on
 

@@ -37,3 +37,8 @@ eachChosen n columns chosen f b = for 0 columns (atChosen n chosen f) b
 pub record Lined {A : Type 0} (n columns : ℕ) (b : List A) : Type 0 where
   pub few : columns ≤ 1024
   pub long : length b ≡ n * columns
+
+-- b' is b but for column j
+pub record ButColumn {A : Type 0} (n j : ℕ) (b b' : List A) : Type 0 where
+  pub long : length b' ≡ length b
+  pub others : (i : ℕ) → (i ≡ j → ⊥) → column n i b' ≡ column n i b

@@ -15,6 +15,7 @@ use Rattle.lblt_read.specs.Diagonal.{dOf}
 use Rattle.lblt_read.specs.Permuted.{lPermutedOf}
 use Rattle.lblt_solve.specs.Solve.{LbltSolved}
 use Rattle.lblt_bench.specs.Bench.{BenchSolved}
+use Rattle.lblt_tray.specs.Tray.{TraySolved}
 use Rattle.handheld.specs.declared.Column3.{Column3}
 use Rattle.handheld.specs.declared.Pivots3.{Pivots3}
 use Rattle.handheld.specs.Promise.{FactoredByValue, SolvedByValue}
@@ -65,6 +66,10 @@ LbltSolve n = SolveOn (full n)
 
 abbrev pub LbltSolveBench : ℕ → ℕ → ℕ → ℕ → List Float → List ℕ → List Float → List ℕ → ℕ → List Float → Type 0
 LbltSolveBench n columns bench run a words b benches r b' = Passed numberOf (λ (answer : Answer). BenchSolved (full n) columns bench run a words b benches answer b') r
+
+abbrev pub LbltTray : ℕ → ℕ → List Float → List ℕ → List Float → List ℕ → List ℕ → ℕ → List Float → List ℕ → List Float → List ℕ → Type 0
+LbltTray n count a words b runs answers r a' words' b' answers' =
+    Passed numberOf (λ (answer : Answer). TraySolved n count a words b runs answers answer a' words' b' answers') r
 
 abbrev pub LbltDeterminant : ℕ → ℕ → List Float → List ℕ → Determined → Type 0
 LbltDeterminant n = DeterminantOn (full n)

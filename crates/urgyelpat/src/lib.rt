@@ -1,7 +1,7 @@
 // The calls through the C convention: a slice is a pointer and then a length, an answer is one number, code·4,096 + place.
 ghost use mathlib.Core.Path.{_≡_};
 ghost use Rattle.urgyelpat.specs.Passed.{determinedOf, listedOf, flooredOf};
-ghost use Rattle.urgyelpat.specs.Calls.{LbltFactor, LbltSolve, LbltSolveBench, LbltDeterminant, LbltD, LbltLPermuted};
+ghost use Rattle.urgyelpat.specs.Calls.{LbltFactor, LbltSolve, LbltSolveBench, LbltTray, LbltDeterminant, LbltD, LbltLPermuted};
 ghost use Rattle.urgyelpat.specs.Calls.{HandheldFactor, HandheldSolve, PivotsFromLapack, PivotsToLapack};
 ghost use Rattle.urgyelpat.specs.Calls.{CholeskyExtend, CholeskyExtendFloored, CholeskyTeaching, CholeskySolve, CholeskyL, CholeskyUnpack, CholeskyDeterminant};
 ghost use Rattle.urgyelpat.specs.Calls.{UduFactor, FirstTwinPair};
@@ -104,6 +104,22 @@ pub extern "C" fn urgyelpat_lblt_solve_bench(
     ensures { λ r. ⌜ LbltSolveBench n columns bench run (now (a .entry)) (now («record» .entry)) (now (b .entry)) (now (benches .entry)) r (now (b .exit)) ⌝ }
 {
     lblt_bench::solve_bench(a, record, b, benches, n, columns, bench, run).number()
+}
+
+// `count` systems of order n, each factored and solved; the number of each one's answer goes to `answers`.
+#[no_mangle]
+pub extern "C" fn urgyelpat_lblt_tray(
+    a: &mut [f64],
+    records: &mut [u32],
+    b: &mut [f64],
+    runs: &[u32],
+    answers: &mut [u64],
+    n: usize,
+    count: usize,
+) -> u64
+    ensures { λ r. ⌜ LbltTray n count (now (a .entry)) (now (records .entry)) (now (b .entry)) (now (runs .entry)) (now (answers .entry)) r (now (a .exit)) (now (records .exit)) (now (b .exit)) (now (answers .exit)) ⌝ }
+{
+    lblt_tray::tray(a, records, b, runs, answers, n, count).number()
 }
 
 #[no_mangle]

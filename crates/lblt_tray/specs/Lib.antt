@@ -1,0 +1,3 @@
+pub mod Tray
+pub mod Alone
+pub mod inner
