@@ -29,10 +29,10 @@ use Rattle.handheld.specs.declared.numbers.Nine.{Nine}
 use Rattle.handheld.specs.declared.steps.Stepped.{Stepped}
 use Rattle.handheld.specs.Shapes.{numbersOf, Threes, Square, recordOf}
 use Rattle.handheld.specs.Promise.{FactoredByValue}
-use Rattle.handheld.specs.inner.Numbers.{nineOf, lowerOf, factoredOf}
+use Rattle.handheld.specs.inner.Numbers.{nineOf, inNine, lowerOf, factoredOf}
 use Rattle.handheld.specs.inner.Triangle.{matrixOf}
 use Rattle.handheld.specs.inner.Steps.{blank, Comes}
-use Rattle.handheld.proofs.Triangles.{inNine, full-six}
+use Rattle.handheld.proofs.Triangles.{full-six}
 
 nine-fits : Fits (full 3) 0 9
 nine-fits = full-fits 3 9 (omega arith) refl
@@ -149,7 +149,7 @@ module _ (n : Nine) (s : Stepped) (comes : Comes s (finalState 3 (matrixOf (lowe
     unfolding recorded
     stamps = record-any (matrixOf (lowerOf n)) (s .pivots) (comes .words) run words long ∙ ap (λ (M : Matrix). recorded 3 run M words) (sym given)
 
-    as-lent : lblt.Factored (full 3) run (nineOf n) words Done left (recordOf run (s .pivots))
+    pub as-lent : lblt.Factored (full 3) run (nineOf n) words Done left (recordOf run (s .pivots))
     unfolding recorded
     as-lent = finished (full 3) (nineOf n) words nine-fits long (record { matrix = holds; pairs = refl; mark = refl }) refl stamps
 

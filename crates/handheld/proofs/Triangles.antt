@@ -11,6 +11,7 @@ use Rattle.matrix.specs.Layouts.{full, packed, lower}
 use Rattle.matrix.proofs.Grids.{Bare, load-is, bare-load, bare-mask}
 use Rattle.matrix.proofs.Places.{lower-low, lower-under}
 use Rattle.handheld.specs.declared.Triangle.{Triangle}
+use Rattle.handheld.specs.inner.Numbers.{inNine}
 use Rattle.handheld.specs.inner.Triangle.{sixOf, matrixOf, triangleOf}
 
 -- what holds of the six entries holds of every entry of the triangle
@@ -40,10 +41,6 @@ module _ (M : Matrix) where
 pub six-bare : (t : Triangle) → Bare (lower (packed 3)) (matrixOf t)
 unfolding matrixOf
 six-bare t = bare-load (lower (packed 3)) (sixOf t)
-
--- the triangle in nine numbers
-abbrev pub inNine : List Float → Triangle
-inNine l = record { a00 = getD l 0 nan; a10 = getD l 1 nan; a20 = getD l 2 nan; a11 = getD l 4 nan; a21 = getD l 5 nan; a22 = getD l 8 nan }
 
 module _ (l : List Float) where
   nine-at : (i j : ℕ) → j ≤ i → i < 3 → getD l (lower (full 3) .place i j) nan ≡ matrixOf (inNine l) i j

@@ -1,9 +1,9 @@
 // LBLT of three unknowns, by value: what a probe without buffers to lend calls.
-mod choice;
+pub mod choice;
 mod lent;
-mod numbers;
-mod pivot;
-mod sides;
+pub mod numbers;
+pub mod pivot;
+pub mod sides;
 mod steps;
 
 ghost use mathlib.Core.Path.{_≡_};

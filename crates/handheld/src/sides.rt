@@ -50,7 +50,7 @@ fn swap_second(s: Three, p: u32) -> Three
 }
 
 // Three blocks of one row.
-fn by_ones(t: Triangle, index0: u32, index1: u32, b: Three) -> Three
+pub fn by_ones(t: Triangle, index0: u32, index1: u32, b: Three) -> Three
     requires { ⌜ index0 < 3 ⌝ }
     requires { ⌜ 0 < index1 ⌝ }
     requires { ⌜ index1 < 3 ⌝ }
@@ -87,7 +87,7 @@ fn by_ones(t: Triangle, index0: u32, index1: u32, b: Three) -> Three
 }
 
 // A block of one row, then one of two.
-fn by_one_two(t: Triangle, index0: u32, b: Three) -> Three
+pub fn by_one_two(t: Triangle, index0: u32, b: Three) -> Three
     requires { ⌜ index0 < 3 ⌝ }
     ensures { λ r. ⌜ ((mark run : ℕ) → threeOf r ≡ solveColumn 3 (matrixOf t) (oneTwo index0 mark run) (threeOf b)) ⌝ }
 {
@@ -109,7 +109,7 @@ fn by_one_two(t: Triangle, index0: u32, b: Three) -> Three
 }
 
 // A block of two rows, then one of one.
-fn by_two_one(t: Triangle, index0: u32, b: Three) -> Three
+pub fn by_two_one(t: Triangle, index0: u32, b: Three) -> Three
     requires { ⌜ 0 < index0 ⌝ }
     requires { ⌜ index0 < 3 ⌝ }
     ensures { λ r. ⌜ ((mark run : ℕ) → threeOf r ≡ solveColumn 3 (matrixOf t) (twoOne index0 mark run) (threeOf b)) ⌝ }

@@ -5,18 +5,31 @@ use mathlib.Core.List.{List}
 use Prim.Native.Nat.{ℕ, zero, suc, _+_, _≤_, _<_}
 use native.Mathlib.Omega.{arith}
 use lib.Dec.{ltb, eqb}
+use lib.Ieee.{Float}
 use lib.ListN.{length, getD, set, length-set}
 use lib.Seq.{getD-set-same, getD-set-other, ext-getD}
 use borrow.Author.Tests.{ltb-true, ltb-false, eqb-true, eqb-false}
+use Rattle.answer.specs.declared.Answer.{Answer}
+use Rattle.answer.specs.declared.Answer.the-variants.{Done}
+use Rattle.answer.specs.Number.{isDone}
+use Rattle.answer.specs.Refusals.{tested}
+use Rattle.answer.proofs.Tested.{tested-join}
 use Rattle.matrix.specs.Matrix.{Matrix}
+use Rattle.matrix.specs.Grid.{load}
+use Rattle.matrix.specs.Layouts.{lower}
+use Rattle.matrix.specs.Sizes.{sizeTests, Fits}
+use Rattle.matrix.specs.declared.Layout.{Layout}
+use Rattle.matrix.proofs.Grids.{holds-unique, holds-as}
+use Rattle.matrix.proofs.Sizes.{done-fits}
 use Rattle.pivots.specs.Words.{indexWord, sizeWord, markWord, runWord, wordsOf, Sized, paired, marked, stamped}
 use Rattle.pivots.proofs.Written.{paired-length}
 use Rattle.lblt_choice.specs.Choice.{choose}
 use Rattle.lblt.specs.Step.{State, take, step, stepped}
-use Rattle.lblt.specs.Factor.{firstState, finalState, recorded}
+use Rattle.lblt.specs.Factor.{factorTests, firstState, finalState, recorded, Factored}
 use Rattle.lblt_choice.specs.declared.Choice.{Choice}
 use Rattle.lblt_choice.specs.declared.Choice.the-variants.{ZeroColumn, One, Two}
 use Rattle.lblt_choice.proofs.Range.{Within, choose-range}
+use Rattle.lblt.proofs.Done.{done-sized, all-right, Same}
 use Rattle.lblt.proofs.Stands.{step-rises}
 
 -- two records of one length with the same first m words
@@ -135,3 +148,31 @@ module _ (n : ℕ) (M : Matrix) (words words' : List ℕ) (sized : Sized n words
 
   pub factor-apart : finalState n M words .matrix ≡ finalState n M words' .matrix
   factor-apart = ends .matrix
+
+-- ---- two calls on one matrix, with one run number, over whatever stood in their records
+
+module _ {y : Layout} {run : ℕ} {a : List Float} {words words₀ : List ℕ} {r : Answer} {a' a₁ : List Float} {words' words₁ : List ℕ}
+    (f : Factored y run a words Done a' words') (g : Factored y run a words₀ r a₁ words₁) (long : length words₀ ≡ wordsOf (y .order))
+  where
+    done : isDone (tested (factorTests y a words) Done) ≡ true
+    done = ap isDone (sym (f .answer))
+
+    fits : Fits y 0 (length a)
+    fits = done-fits y 0 (length a) _ (ap isDone (sym (tested-join (sizeTests y 0 (length a)) _ Done)) ∙ done)
+
+    sized : Sized (y .order) words
+    sized = done-sized y a words done
+
+    sized₀ : Sized (y .order) words₀
+    sized₀ = record { order = sized .order; total = long }
+
+    pub factored-over : Same Done r a' a₁ words' words₁
+    factored-over =
+        let also : r ≡ Done = g .answer ∙ all-right y a words₀ fits long in
+        let first = f .left .done refl in
+        let second = g .left .done (ap isDone also) in
+        record {
+          answer = sym also;
+          matrix = holds-unique (first .matrix) (holds-as (second .matrix) (sym (factor-apart (y .order) (load (lower y) a) words words₀ sized sized₀)));
+          pivots = first .pivots ∙ overwritten (y .order) (load (lower y) a) words words₀ sized sized₀ run ∙ sym (second .pivots);
+        }

@@ -1,2 +1,5 @@
 pub mod Sizes
 pub mod Items
+pub mod Own
+pub mod ThreeRows
+pub mod Alike

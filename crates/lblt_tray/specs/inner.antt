@@ -1,1 +1,2 @@
 pub mod Engine
+pub mod Three

@@ -1,4 +1,7 @@
 // `tray`: many small systems of one order, each factored and solved.
+mod calls;
+mod three;
+
 ghost use mathlib.Core.Path.{_≡_};
 ghost use Prim.Native.Nat.{_<_};
 ghost use lib.ListN.{length};
@@ -44,13 +47,15 @@ fn check(
     Answer::Done
 }
 
-// One item: its factor, then its solve, whose answer's number comes back.
+// One item: the number of its solve's answer comes back.
 fn item(a: &mut [f64], words: &mut [u32], b: &mut [f64], n: usize, run: u32) -> u64
     requires { ⌜ Item n (now a) (now words) (now b) ⌝ }
     ensures { λ r. ⌜ ItemSolved n run (now (a .entry)) (now (words .entry)) (now (b .entry)) r (now (a .exit)) (now (words .exit)) (now (b .exit)) ⌝ }
 {
-    lblt::factor(a, words, n, run);
-    lblt_solve::solve_mut(a, words, b, n, 1, run).number()
+    if n == 3 {
+        return three::item(a, words, b, run);
+    }
+    calls::item(a, words, b, n, run)
 }
 
 // Item t, where it lies in the tray.

@@ -8,9 +8,9 @@
 --     each-same, each-none            two steps that agree on a column; no step
 --     each-after, each-then           two steps one after the other
 --     each-loop                       the turns of a loop
---     one-column                      a slice of one column
+--     one-column, whole-column        a slice of one column, and that column
 use mathlib.Core.Bool.{Bool, true, false, cond}
-use mathlib.Core.List.{List, _++_}
+use mathlib.Core.List.{List, _++_, append-nil}
 use mathlib.Core.Logic.{_⊎_, inl, inr, ⊎-elim}
 use mathlib.Core.Path.{_≡_, refl, sym, ap, fun-ext, subst, _∙_}
 use Prim.Native.Nat.{ℕ, zero, suc, _+_, _-_, _*_, _<_, _≤_}
@@ -19,7 +19,7 @@ use native.Mathlib.Numerals.{add-one}
 use native.Mathlib.Omega.{arith}
 use borrow.Author.Tests.{ltb-true, ltb-false}
 use lib.Dec.{ltb}
-use lib.ListN.{length, take, drop, length-append, length-drop, take-append-drop}
+use lib.ListN.{length, take, drop, length-append, length-drop, take-append-drop, drop-of-length-le}
 use lib.Seq.{length-take-le, take-at, drop-at, take-add, take-all, take-append-le, drop-append-le, drop-append-add, drop-drop}
 use Rattle.answer.proofs.Tests.{either}
 use Rattle.matrix.specs.Loop.{for}
@@ -289,3 +289,13 @@ pub one-column
     → b' ≡ eachColumn n columns f b
 unfolding eachColumn
 one-column n f b one e = e ∙ sym (for-one 0 (atColumn n f) b) ∙ ap (λ (c : ℕ). for 0 c (atColumn n f) b) (sym one)
+
+-- a column that is the whole slice
+pub whole-column : {A : Type 0} (n : ℕ) (f : List A → List A) (b : List A) → length b ≡ n → atColumn n f 0 b ≡ f b
+unfolding atColumn column
+whole-column {A} n f b long =
+    let start : 0 * n ≡ 0 = omega arith in
+    rw start
+    (ap (λ (l : List A). f l ++ drop n b) (take-all n b (omega (arith, long)))
+    ∙ ap (λ (l : List A). f b ++ l) (drop-of-length-le b {i = n} (omega (arith, long)))
+    ∙ append-nil (f b))

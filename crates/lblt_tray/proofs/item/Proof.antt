@@ -1,22 +1,16 @@
--- `item`: the factor is done, and the solve answers.
-use Rattle.lblt_tray.proofs.Items.{item-solved}
+-- `item`: three rows are written out, all others go by the two calls.
+use mathlib.Core.Path.{subst}
+use Rattle.lblt_tray.specs.inner.Engine.{Item}
 use borrow.Author.Needs.{needs}
 use Rattle.lblt_tray.proofs.item.Statement.{statement}
 use Rattle.lblt_tray.proofs.item.Tie as tie
 use Rattle.lblt_tray.proofs.item.Reads as reads
 use Rattle.lblt_tray.proofs.item.Lts as lts
-use Rattle.answer.proofs.Answer.number.Reads as number-reads
-use Rattle.lblt.proofs.factor.Reads as factor-reads
-use Rattle.lblt_solve.proofs.solve_mut.Reads as solve-mut-reads
+use Rattle.lblt_tray.proofs.calls.item.Reads as calls-item-reads
+use Rattle.lblt_tray.proofs.three.item.Reads as three-item-reads
 
-factor-requires : tie.Need-factor-requires
-factor-requires c κs = search needs
-
-solve-mut-requires : tie.Need-solve-mut-requires
-solve-mut-requires c κs = search needs
-
-number-requires : tie.Need-number-requires
-number-requires c κs = search needs
+item-requires : tie.Need-item-requires
+item-requires c κs = rw (c .before .before .before .if1 .taken) at (c .before .before .before .before .before .before .before .pre)
 
 same-length : tie.Need-same-length
 same-length c = search needs
@@ -28,16 +22,34 @@ same-length-3 : tie.Need-same-length-3
 same-length-3 c = search needs
 
 returns : tie.Need-returns
-returns c = item-solved (c .before .before .before .before .before .before .before .before .before .before .before .before .before .before .before .before .before .pre) (c .before .before .before .before .before .before .before .before .before .before .before .factor .ensures) (c .before .before .before .solve-mut .ensures) (c .number .ensures)
+returns c = rw (c .before .before .before .before .before .before .before .before .before .before .if1 .taken) (c .before .before .before .before .before .before .item .ensures)
+
+item-requires-2 : tie.Need-item-requires-2
+item-requires-2 c κs = c .before .before .before .before .before .before .before .pre
+
+same-length-4 : tie.Need-same-length-4
+same-length-4 c = search needs
+
+same-length-5 : tie.Need-same-length-5
+same-length-5 c = search needs
+
+same-length-6 : tie.Need-same-length-6
+same-length-6 c = search needs
+
+returns-2 : tie.Need-returns-2
+returns-2 c = c .before .before .before .before .before .before .item2 .ensures
 
 pub item-spec : {M : Type 1} → statement M
 item-spec =
     tie.close
     (tie.spec
-    factor-requires
-    solve-mut-requires
-    number-requires
+    item-requires
     same-length
     same-length-2
     same-length-3
-    returns)
+    returns
+    item-requires-2
+    same-length-4
+    same-length-5
+    same-length-6
+    returns-2)

@@ -1,0 +1,53 @@
+-- `two_one`: a block of two rows, then one of one.
+use Rattle.lblt_tray.proofs.ThreeRows.{three-solved}
+use borrow.Author.Needs.{needs}
+use Rattle.lblt_tray.proofs.three.two_one.Statement.{statement}
+use Rattle.lblt_tray.proofs.three.two_one.Tie as tie
+use Rattle.lblt_tray.proofs.three.two_one.Reads as reads
+use Rattle.lblt_tray.proofs.three.two_one.Lts as lts
+use Rattle.handheld.proofs.sides.by_two_one.Reads as by-two-one-reads
+use Rattle.lblt_tray.proofs.three.put_record.Reads as put-record-reads
+use Rattle.lblt_tray.proofs.three.put_side.Reads as put-side-reads
+use Rattle.lblt_tray.proofs.three.put_triangle.Reads as put-triangle-reads
+use Rattle.lblt_tray.proofs.three.side.Reads as side-reads
+
+put-triangle-requires : tie.Need-put-triangle-requires
+put-triangle-requires c κs = c .before .before .before .before .pre .0 .matrix
+
+put-record-requires : tie.Need-put-record-requires
+put-record-requires c κs = c .before .before .before .before .before .before .before .before .pre .0 .pivots
+
+side-requires : tie.Need-side-requires
+side-requires c κs = c .before .before .before .before .before .before .before .before .before .before .before .before .pre .0 .side
+
+by-two-one-requires : tie.Need-by-two-one-requires
+by-two-one-requires c κs = (c .before .before .before .before .before .before .before .before .before .before .before .before .before .pre .1 .0, c .before .before .before .before .before .before .before .before .before .before .before .before .before .pre .1 .1 .0)
+
+put-side-requires : tie.Need-put-side-requires
+put-side-requires c κs = c .before .before .before .before .before .before .before .before .before .before .before .before .before .before .before .pre .0 .side
+
+same-length : tie.Need-same-length
+same-length c = search needs
+
+same-length-2 : tie.Need-same-length-2
+same-length-2 c = search needs
+
+same-length-3 : tie.Need-same-length-3
+same-length-3 c = search needs
+
+returns : tie.Need-returns
+returns c = three-solved (c .before .before .before .before .before .before .before .before .before .before .before .before .before .before .before .before .before .before .pre .0) (c .before .before .before .before .before .before .before .before .before .before .before .before .before .before .before .before .before .before .pre .1 .1 .1) (c .before .before .before .before .before .before .before .before .before .before .before .before .before .put-triangle .ensures) (c .before .before .before .before .before .before .before .before .before .put-record .ensures) (c .before .before .before .before .before .side .ensures) (c .before .before .before .before .by-two-one .ensures) (c .before .before .put-side .ensures)
+
+pub two-one-spec : {M : Type 1} → statement M
+two-one-spec =
+    tie.close
+    (tie.spec
+    put-triangle-requires
+    put-record-requires
+    side-requires
+    by-two-one-requires
+    put-side-requires
+    same-length
+    same-length-2
+    same-length-3
+    returns)
