@@ -43,10 +43,11 @@ use Rattle.cases.specs.Table.{table}
 use Rattle.cases.specs.Twins.{twinTable}
 use Rattle.cases.specs.Teaching.{teachingTable}
 use Rattle.cases.specs.Handheld.{handheldTable}
+use Rattle.cases.specs.Tray.{trayTable}
 use Rattle.handheld.specs.Shapes.{numbersOf}
 use Rattle.handheld.specs.Shapes as handheld
 use Rattle.matrix.proofs.Slices.{listed, overlayAt, overlay, overlaid}
-use Rattle.cases.proofs.Found.{found, gives, lbltWords, lbltSlice, determinantNumbers, solveNumbers, benchNumbers, readNumbers, writtenNumbers, choleskyAnswer, choleskySlice, choleskySolveNumbers, teachingAnswer, teachingSlice, uduNumbers, grownNumbers}
+use Rattle.cases.proofs.Found.{found, gives, lbltWords, lbltSlice, determinantNumbers, solveNumbers, benchNumbers, trayNumbers, readNumbers, writtenNumbers, choleskyAnswer, choleskySlice, choleskySolveNumbers, teachingAnswer, teachingSlice, uduNumbers, grownNumbers}
 
 abbrev foundIn : Case → List (List ℕ)
 foundIn c = found (c .call)
@@ -58,10 +59,10 @@ hold : (cs : List Case) → map foundIn cs ≡ map numbersIn cs → Hold cs
 hold [] e = none
 hold (c ∷ cs) e = more c cs (subst (Gives (c .call)) (ap (λ (l : List (List (List ℕ))). getD l 0 []) e) (gives (c .call))) (hold cs (ap (drop 1) e))
 
-computed : map foundIn (table ++ (twinTable ++ (teachingTable ++ handheldTable))) ≡ map numbersIn (table ++ (twinTable ++ (teachingTable ++ handheldTable)))
-unfolding tested sizeOf ofBits toBits le sub mul div isNan absOf maximumOf rootOf exchange for falling load mask lower upper square paired marked stamped blockOf faultFrom checked choose choiceBy contest rowMax alongRow downColumn columnMax greater firstState finalState recorded interchange brought1 brought2 stepped step take pivot1 pivot2 firstMark rank1At rank1 scaleAt eliminate1 update1 blockBy blockAt multiplier work1 work2 rank2At rank2By rank2 update2 bySize rowsOf blocksFrom forwards blocksTo backwards swapRows lessOne lessTwo eliminateOne eliminateTwo forwardBlock divideOne blockDeterminant divideTwo divideBlock lessProduct gatherRow backwardBlock solveColumn eachColumn eachChosen atChosen atColumn column timesBlock determinantOf answerTo standing factorColumn factorColumns updated usedAt usedFrom usedOn solveSides solveTriangles uduDiagonal uduEntry withDiagonal withColumn nothing uduOf floats bitsOf listed overlayAt overlay overlaid entriesOf rowStart newRow joined grownNumbers lbltWords lbltSlice determinantNumbers solveNumbers benchNumbers recordOf listOf readNumbers writtenNumbers choleskyAnswer choleskySlice choleskySolveNumbers reached teachingAnswer teachingSlice uduNumbers numbersOf handheld.recordOf
+computed : map foundIn (table ++ (twinTable ++ (teachingTable ++ (handheldTable ++ trayTable)))) ≡ map numbersIn (table ++ (twinTable ++ (teachingTable ++ (handheldTable ++ trayTable))))
+unfolding tested sizeOf ofBits toBits le sub mul div isNan absOf maximumOf rootOf exchange for falling load mask lower upper square paired marked stamped blockOf faultFrom checked choose choiceBy contest rowMax alongRow downColumn columnMax greater firstState finalState recorded interchange brought1 brought2 stepped step take pivot1 pivot2 firstMark rank1At rank1 scaleAt eliminate1 update1 blockBy blockAt multiplier work1 work2 rank2At rank2By rank2 update2 bySize rowsOf blocksFrom forwards blocksTo backwards swapRows lessOne lessTwo eliminateOne eliminateTwo forwardBlock divideOne blockDeterminant divideTwo divideBlock lessProduct gatherRow backwardBlock solveColumn eachColumn eachChosen atChosen atColumn column timesBlock determinantOf answerTo standing factorColumn factorColumns updated usedAt usedFrom usedOn solveSides solveTriangles uduDiagonal uduEntry withDiagonal withColumn nothing uduOf floats bitsOf listed overlayAt overlay overlaid entriesOf rowStart newRow joined grownNumbers lbltWords lbltSlice determinantNumbers solveNumbers benchNumbers trayNumbers recordOf listOf readNumbers writtenNumbers choleskyAnswer choleskySlice choleskySolveNumbers reached teachingAnswer teachingSlice uduNumbers numbersOf handheld.recordOf
 computed = refl
 
--- document 01's starred cases and those beside them, twin rows, the teaching engine, and the handheld
-pub all-cases : Hold (table ++ (twinTable ++ (teachingTable ++ handheldTable)))
-all-cases = hold (table ++ (twinTable ++ (teachingTable ++ handheldTable))) computed
+-- document 01's starred cases and those beside them, twin rows, the teaching engine, the handheld, and trays
+pub all-cases : Hold (table ++ (twinTable ++ (teachingTable ++ (handheldTable ++ trayTable))))
+all-cases = hold (table ++ (twinTable ++ (teachingTable ++ (handheldTable ++ trayTable)))) computed

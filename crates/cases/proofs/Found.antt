@@ -2,17 +2,17 @@
 use mathlib.Core.Path.{_≡_, refl, sym, ap, subst, _∙_}
 use mathlib.Core.Bool.{Bool, true, false, cond}
 use mathlib.Core.List.{List, [], _∷_}
-use Prim.Native.Nat.{ℕ, _*_, _%_, _/_}
-use lib.ListN.{length, length-replicate}
+use Prim.Native.Nat.{ℕ, _*_, _%_, _/_, _<_}
+use lib.ListN.{length, replicate, length-replicate}
 use lib.IntN.{ℤ, pos}
 use lib.Ieee.{Float, binary64, ofBits, toBits}
 use mir.Syntax.{w32}
 use mir.Val.{ofZ}
-use Rattle.pivots.specs.Words.{markAt, runAt}
+use Rattle.pivots.specs.Words.{wordsOf, markAt, runAt}
 use Rattle.answer.specs.declared.Answer.{Answer}
 use Rattle.answer.specs.declared.Answer.the-variants.{Done}
 use Rattle.answer.specs.declared.Valued.{Valued}
-use Rattle.answer.specs.Number.{isDone}
+use Rattle.answer.specs.Number.{isDone, numberOf}
 use Rattle.answer.specs.Refusals.{tested}
 use Rattle.answer.proofs.Done.{done-or-refused}
 use Rattle.answer.proofs.Tested.{tested-fixed, tested-join}
@@ -37,6 +37,7 @@ use Rattle.lblt_read.specs.Diagonal.{determinantOf}
 use Rattle.lblt_read.specs.Calls.{readerTests, columnTests, LbltDetermined}
 use Rattle.lblt_solve.specs.Solve.{markTests, solveTests, LbltSolved}
 use Rattle.lblt_bench.specs.Bench.{owns, benchTests, BenchSolved}
+use Rattle.lblt_tray.specs.Tray.{trayTests, matrixAt, recordAt, sideAt, numberAt, TraySolved}
 use Rattle.cholesky.specs.Run.{Rule}
 use Rattle.cholesky.specs.Crate.{crateRule}
 use Rattle.cholesky.specs.Floor.{floorRule}
@@ -52,7 +53,7 @@ use Rattle.handheld.proofs.Promises.{solve-answer}
 use Rattle.teaching.specs.Promise.{teachingTests, reached, Taught}
 use Rattle.teaching.proofs.Promises.{taught-fits}
 use Rattle.udu.specs.Promise.{uduTests, uduOf, uduAnswer, factorsOf, UduFactored}
-use Rattle.cases.specs.Calls.{stray, floats, bitsOf, signedBits, answered, lentWords, lentList, lentFloats, Call, lbltFactor, lbltDeterminant, lbltSolve, lbltSolveBench, lbltReaders, lbltLargest, handheldFactor, handheldSolve, handheldPivots, columnsIn, pivotsFromLapack, pivotsToLapack, choleskyFactor, choleskyExtendFloored, choleskyTeaching, choleskySolve, choleskySolveSizes, packedLbltFactor, packedLbltDeterminant, packedLbltSolve, packedCholeskyFactor, packedCholeskyExtend, packedCholeskySolve, packedExtendSizes, uduFactor, root, Gives}
+use Rattle.cases.specs.Calls.{stray, floats, bitsOf, signedBits, answered, lentWords, lentList, lentFloats, Call, lbltFactor, lbltDeterminant, lbltSolve, lbltSolveBench, lbltTray, lbltReaders, lbltLargest, handheldFactor, handheldSolve, handheldPivots, columnsIn, pivotsFromLapack, pivotsToLapack, choleskyFactor, choleskyExtendFloored, choleskyTeaching, choleskySolve, choleskySolveSizes, packedLbltFactor, packedLbltDeterminant, packedLbltSolve, packedCholeskyFactor, packedCholeskyExtend, packedCholeskySolve, packedExtendSizes, uduFactor, root, Gives}
 use Rattle.matrix.proofs.Places.{lower-low, lower-left}
 use Rattle.matrix.proofs.Slices.{listed, is-listed, overlaid, holds-overlaid, lower-overlaid, fills-listed}
 use Rattle.matrix.specs.Rounded.{plusZero}
@@ -118,6 +119,53 @@ module _ (y : Layout) (run : ℕ) (a : List Float) (words : List ℕ) where
       → (answered r ∷ bitsOf b' ∷ []) ≡ benchNumbers columns bench benches b
   unfolding benchNumbers
   solves-bench s = rw (s .sides, s .answer)
+
+-- ---- an item of a tray
+
+module _ (n count : ℕ) (a : List Float) (words : List ℕ) (b : List Float) (runs answers : List ℕ) (t : ℕ) where
+  abbrev trayAnswer : Answer
+  trayAnswer = tested (trayTests n count a words b runs answers) Done
+
+  abbrev itemSlice : List Float
+  itemSlice = lbltSlice (full n) (numberAt t runs) (matrixAt n t a) (recordAt n t words)
+
+  abbrev itemWords : List ℕ
+  itemWords = lbltWords (full n) (numberAt t runs) (matrixAt n t a) (recordAt n t words)
+
+  abbrev itemAnswer : Answer
+  itemAnswer = tested (solveTests (full n) 1 (numberAt t runs) itemSlice itemWords (sideAt n t b)) Done
+
+  abbrev itemSide : List Float
+  itemSide = cond (isDone itemAnswer) (eachColumn n 1 (solveColumn n (load (lower (full n)) itemSlice) itemWords) (sideAt n t b)) (sideAt n t b)
+
+  unfoldable pub trayNumbers : List (List ℕ)
+  trayNumbers =
+      answered trayAnswer
+      ∷ (cond (isDone trayAnswer) (numberOf itemAnswer) (numberAt t answers) ∷ [])
+      ∷ cond (isDone trayAnswer) itemWords (recordAt n t words)
+      ∷ bitsOf (cond (isDone trayAnswer) itemSlice (matrixAt n t a))
+      ∷ bitsOf (cond (isDone trayAnswer) itemSide (sideAt n t b))
+      ∷ []
+
+  module _ {r : Answer} {a' : List Float} {words' : List ℕ} {b' : List Float} {answers' : List ℕ} (d : TraySolved n count a words b runs answers r a' words' b' answers') (below : t < count) where
+    is : {v : Bool} → isDone r ≡ v → isDone trayAnswer ≡ v
+    is e = ap isDone (sym (d .answer)) ∙ e
+
+    pub tray-gives : (answered r ∷ (numberAt t answers' ∷ []) ∷ recordAt n t words' ∷ bitsOf (matrixAt n t a') ∷ bitsOf (sideAt n t b') ∷ []) ≡ trayNumbers
+    unfolding trayNumbers
+    tray-gives =
+        done-or-refused r
+        (λ (done : isDone r ≡ true).
+        let item = d .left .done done .items t below in
+        let g = factors (full n) (numberAt t runs) (matrixAt n t a) (recordAt n t words) (item .factor) in
+        let by : LbltSolved (full n) 1 (numberAt t runs) itemSlice itemWords (sideAt n t b) (item .answer) (sideAt n t b') = rw (g .matrix, g .pivots) at (item .solve) in
+        let number : numberAt t answers' ≡ numberOf itemAnswer = item .numbered ∙ ap numberOf (by .answer) in
+        let side : sideAt n t b' ≡ itemSide =
+        by .sides ∙ ap (λ (q : Answer). cond (isDone q) (eachColumn n 1 (solveColumn n (load (lower (full n)) itemSlice) itemWords) (sideAt n t b)) (sideAt n t b)) (by .answer) in
+        rw (is done, number, g .pivots, g .matrix, side, d .answer))
+        (λ (refused : isDone r ≡ false).
+        let left = d .left .refused refused in
+        rw (is refused, left .answered, left .records, left .matrices, left .sides, d .answer))
 
 -- ---- LAPACK pivot lists
 
@@ -259,6 +307,7 @@ found (lbltFactor n run a) = answered (lbltAnswer (full n) run (floats a) (lentW
 found (lbltDeterminant n run expected a) = determinantNumbers (full n) expected (leftSlice (full n) run a) (leftWords (full n) run a)
 found (lbltSolve n run expected a b) = solveNumbers (full n) expected (leftSlice (full n) run a) (leftWords (full n) run a) (floats b)
 found (lbltSolveBench n run expected columns bench benches a b) = benchNumbers (full n) expected (leftSlice (full n) run a) (leftWords (full n) run a) columns bench benches (floats b)
+found (lbltTray n count runs a b t) = trayNumbers n count (floats a) (replicate (wordsOf n * count) 99) (floats b) runs (replicate count 99) t
 found (lbltReaders n expected words) =
     let matrix = lentFloats (n * n) in
     let filled = answered (tested (columnTests (full n) n expected matrix words matrix) Done) in
@@ -300,6 +349,8 @@ gives (lbltSolveBench n run expected columns bench benches a b) = λ r s a' b' w
     let g = factors (full n) run (floats a) (lentWords n) f in
     let by : BenchSolved (full n) columns bench expected (leftSlice (full n) run a) (leftWords (full n) run a) (floats b) benches s b' = rw (g .matrix, g .pivots) at d in
     solves-bench (full n) expected (leftSlice (full n) run a) (leftWords (full n) run a) by
+gives (lbltTray n count runs a b t) = λ r a' words b' answers d below.
+    tray-gives n count (floats a) (replicate (wordsOf n * count) 99) (floats b) runs (replicate count 99) t d below
 gives (lbltReaders n expected words) = λ r s t v a b b' d d' l l' long-a long-b long-d long-l solved determined d-filled l-filled.
     rw (solved .answer, determined .answer, d-filled .answer, l-filled .answer, long-a, long-b, long-d, long-l, length-replicate (n * n) (ofBits binary64 stray), length-replicate n (ofBits binary64 stray))
 gives (lbltLargest n a k) = λ r e. rw e

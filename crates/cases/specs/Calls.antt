@@ -3,7 +3,7 @@
 use mathlib.Core.List.{List, [], _∷_, map}
 use mathlib.Core.Bool.{false}
 use mathlib.Core.Path.{_≡_}
-use Prim.Native.Nat.{ℕ, _*_}
+use Prim.Native.Nat.{ℕ, _*_, _<_}
 use lib.ListN.{length, replicate, take, drop}
 use lib.IntN.{ℤ, pos}
 use lib.Ieee.{Float, binary64, ofBits, toBits}
@@ -28,6 +28,7 @@ use Rattle.lblt_read.specs.Diagonal.{dOf}
 use Rattle.lblt_read.specs.Permuted.{lPermutedOf}
 use Rattle.lblt_solve.specs.Solve.{LbltSolved}
 use Rattle.lblt_bench.specs.Bench.{BenchSolved}
+use Rattle.lblt_tray.specs.Tray.{matrixAt, recordAt, sideAt, numberAt, TraySolved}
 use Rattle.handheld.specs.declared.Column3.{Column3}
 use Rattle.handheld.specs.declared.Factored.{Factored as Factored3}
 use Rattle.handheld.specs.declared.Solved.{Solved as Solved3}
@@ -77,12 +78,13 @@ abbrev pub lentFloats : ℕ → List Float
 lentFloats count = replicate count (ofBits binary64 stray)
 
 -- a is the slice that is factored, of order n, with the number `run`; b is one right-hand side, or `columns` of them with a list of benches; a reader of
--- LBLT's factor expects the number `expected`
+-- LBLT's factor expects the number `expected`; a tray has `count` of all these, one after the other
 pub data Call : Type 0 where
   lbltFactor : (n run : ℕ) (a : List ℕ) → Call
   lbltDeterminant : (n run expected : ℕ) (a : List ℕ) → Call
   lbltSolve : (n run expected : ℕ) (a b : List ℕ) → Call
   lbltSolveBench : (n run expected columns bench : ℕ) (benches a b : List ℕ) → Call
+  lbltTray : (n count : ℕ) (runs a b : List ℕ) (t : ℕ) → Call
   lbltReaders : (n expected : ℕ) (words : List ℕ) → Call
   lbltLargest : (n : ℕ) (a : List ℕ) (k : ℕ) → Call
   handheldFactor : (a : List ℕ) → Call
@@ -123,6 +125,11 @@ Gives (lbltSolveBench n run expected columns bench benches a b) numbers =
     (r s : Answer) (a' b' : List Float) (words : List ℕ) → Factored (full n) run (floats a) (lentWords n) r a' words
     → BenchSolved (full n) columns bench expected a' words (floats b) benches s b'
     → (answered s ∷ bitsOf b' ∷ []) ≡ numbers
+-- a tray: its own answer; and of its item t the number of the answer, the record, the slice, the right-hand side
+Gives (lbltTray n count runs a b t) numbers =
+    (r : Answer) (a' : List Float) (words : List ℕ) (b' : List Float) (answers : List ℕ)
+    → TraySolved n count (floats a) (replicate (wordsOf n * count) 99) (floats b) runs (replicate count 99) r a' words b' answers → t < count
+    → (answered r ∷ (numberAt t answers ∷ []) ∷ recordAt n t words ∷ bitsOf (matrixAt n t a') ∷ bitsOf (sideAt n t b') ∷ []) ≡ numbers
 -- by these words as the record, whatever numbers are lent in slices that fit: what solve, determinant, d and l_permuted answer
 Gives (lbltReaders n expected words) numbers =
     (r s t : Answer) (v : Valued) (a b b' d d' l l' : List Float) → length a ≡ n * n → length b ≡ n → length d ≡ n * n → length l ≡ n * n

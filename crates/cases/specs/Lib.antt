@@ -4,3 +4,4 @@ pub mod Table
 pub mod Twins
 pub mod Teaching
 pub mod Handheld
+pub mod Tray

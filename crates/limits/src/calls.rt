@@ -9,6 +9,7 @@ pub enum Call {
     LbltFactor,
     LbltSolve,
     LbltSolveBench,
+    LbltTray,
     LbltDeterminant,
     LbltD,
     LbltLPermuted,
@@ -42,6 +43,7 @@ impl Call {
             Call::LbltFactor => io::write_all(1, b"lblt_factor"),
             Call::LbltSolve => io::write_all(1, b"lblt_solve"),
             Call::LbltSolveBench => io::write_all(1, b"lblt_solve_bench"),
+            Call::LbltTray => io::write_all(1, b"lblt_tray"),
             Call::LbltDeterminant => io::write_all(1, b"lblt_determinant"),
             Call::LbltD => io::write_all(1, b"lblt_d"),
             Call::LbltLPermuted => io::write_all(1, b"lblt_l_permuted"),
@@ -78,6 +80,7 @@ impl Call {
         // A sound record of order 1, with the run number 7.
         let mut record = [0u32, 1, 0, 7];
         let benches = [5u32; 1024];
+        let mut answers = [0u64];
         let mut list = [1i32];
         match self {
             Call::LbltFactor => plain(lblt::factor(&mut a, &mut record, n, 7)),
@@ -91,6 +94,15 @@ impl Call {
                 columns,
                 5,
                 7,
+            )),
+            Call::LbltTray => plain(lblt_tray::tray(
+                &mut a,
+                &mut record,
+                &mut b,
+                &benches,
+                &mut answers,
+                n,
+                columns,
             )),
             Call::LbltDeterminant => valued(lblt_read::determinant(&a, &record, n, 7)),
             Call::LbltD => plain(lblt_read::d(&a, &record, &mut u, n, 7)),

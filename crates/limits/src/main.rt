@@ -1,4 +1,4 @@
-// 1,024 is accepted and 1,025 refused, in every order, room and column count of every call; of the orders of the teaching call 64 and 65. An accepted
+// 1,024 is accepted and 1,025 refused, in every order, room and column count of every call and in the count of a tray; of the orders of a tray and of the teaching call 64 and 65. An accepted
 // order or room is seen by the next refusal, code 3 or for a pivot list 4, since nothing of such a length is lent here, but for the teaching call;
 // oracle/longrun has whole runs at order 1,024.
 mod calls;
@@ -22,9 +22,27 @@ fn lblt() {
     columns(Call::LbltSolve);
     order(Call::LbltSolveBench);
     columns(Call::LbltSolveBench);
+    tray(Call::LbltTray);
     order(Call::LbltDeterminant);
     order(Call::LbltD);
     order(Call::LbltLPermuted);
+}
+
+fn tray(call: Call) {
+    line(
+        call,
+        b", order",
+        64,
+        call.code(1024, 0, 64, 1),
+        call.code(1024, 0, 65, 1),
+    );
+    line(
+        call,
+        b", count",
+        1024,
+        call.code(1024, 0, 1, 1024),
+        call.code(1024, 0, 1, 1025),
+    );
 }
 
 fn lists() {

@@ -1,5 +1,6 @@
 -- The code and the place of an answer come back from the number that goes across: every place is at most 1,024, in any layout.
 -- Assumes nothing.
+use mathlib.Core.Bool.{true}
 use mathlib.Core.List.{List}
 use mathlib.Core.Path.{_≡_, sym, ap, subst}
 use Prim.Native.Nat.{ℕ, _+_, _/_, _%_, _<_}
@@ -7,10 +8,11 @@ use native.Mathlib.Omega.{arith}
 use lib.IntN.{ℤ}
 use lib.Ieee.{Float}
 use Rattle.answer.specs.declared.Answer.{Answer}
-use Rattle.answer.specs.Number.{codeOf, placeOf, numberOf}
+use Rattle.answer.specs.Number.{codeOf, placeOf, numberOf, isDone}
 use Rattle.answer.proofs.Back.{code-back, place-back}
 use Rattle.answer.proofs.Within.{Within}
 use Rattle.matrix.specs.declared.Layout.{Layout}
+use Rattle.lblt_tray.specs.Tray.{ItemAt, numberAt}
 use Rattle.handheld.specs.declared.Column3.{Column3}
 use Rattle.handheld.specs.declared.Pivots3.{Pivots3}
 use Rattle.twins.specs.declared.Twin.{Twin}
@@ -23,7 +25,7 @@ use Rattle.urgyelpat.specs.declared.Matrix3.{Matrix3}
 use Rattle.urgyelpat.specs.declared.Solved3.{Solved3}
 use Rattle.urgyelpat.specs.Calls.{HandheldSolve}
 use Rattle.urgyelpat.specs.Calls.{FactorOn, SolveOn, DeterminantOn, ExtendOn, SolveTrianglesOn, FirstTwinPairOn}
-use Rattle.urgyelpat.specs.Calls.{LbltSolveBench, LbltD, LbltLPermuted}
+use Rattle.urgyelpat.specs.Calls.{LbltSolveBench, LbltTray, LbltD, LbltLPermuted}
 use Rattle.urgyelpat.specs.Calls.{PivotsFromLapack, PivotsToLapack}
 use Rattle.urgyelpat.specs.Calls.{CholeskyExtendFloored, CholeskyTeaching, CholeskyL, CholeskyUnpack, CholeskyDeterminant}
 use Rattle.urgyelpat.specs.Calls.{UduFactor, PackedCholeskyExtend}
@@ -54,6 +56,20 @@ module _ {y : Layout} {run : ℕ} {a : List Float} {words : List ℕ} where
 
   pub lblt-determinant-back : {r : Determined} (c : DeterminantOn y run a words r) → Back (c .below .answer) (r .answer)
   lblt-determinant-back c = number-back (ap (λ (d : Determined). d .answer) (c .result)) (readers.determined-within (c .given))
+
+-- a tray: its own answer, and each item's
+module _ {n count : ℕ} {a : List Float} {words : List ℕ} {b : List Float} {runs answers : List ℕ} {r : ℕ} {a' : List Float} {words' : List ℕ} {b' : List Float} {answers' : List ℕ}
+    (c : LbltTray n count a words b runs answers r a' words' b' answers')
+  where
+    pub lblt-tray-back : Back (c .below) r
+    lblt-tray-back = number-back (c .result) (readers.tray-within (c .given))
+
+    module _ (done : isDone (c .below) ≡ true) (t : ℕ) (below : t < count) where
+      abbrev item : ItemAt n a words b runs a' words' b' answers' t
+      item = c .given .left .done done .items t below
+
+      pub lblt-tray-item-back : Back (item .answer) (numberAt t answers')
+      lblt-tray-item-back = number-back (item .numbered) (readers.solved-within (item .solve))
 
 module _ {n run : ℕ} {a : List Float} {words : List ℕ} where
   pub lblt-solve-bench-back : {columns bench : ℕ} {b b' : List Float} {benches : List ℕ} {r : ℕ} (c : LbltSolveBench n columns bench run a words b benches r b') → Back (c .below) r

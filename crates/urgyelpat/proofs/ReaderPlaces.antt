@@ -16,7 +16,7 @@ use Rattle.answer.specs.Number.{isDone}
 use Rattle.answer.specs.Refusals.{_otherwise_, tested}
 use Rattle.answer.proofs.Tests.{eq-or-ne}
 use Rattle.answer.proofs.Tested.{tested-join, tested-all, tested-fixed, all-hold}
-use Rattle.answer.proofs.Within.{Within, within-none, within-test}
+use Rattle.answer.proofs.Within.{Within, within-none, within-test, within-tested}
 use Rattle.matrix.specs.declared.Layout.{Layout}
 use Rattle.matrix.specs.Matrix.{Matrix}
 use Rattle.matrix.specs.Sizes.{sizeTests}
@@ -29,6 +29,7 @@ use Rattle.lblt_read.proofs.Admitted.{columns-done, columns-refuse}
 use Rattle.lblt_solve.specs.Solve.{markTests, solveTests, LbltSolved}
 use Rattle.lblt_bench.specs.Bench.{BenchSolved}
 use Rattle.lblt_bench.proofs.Listed.{as-solve, list-refused}
+use Rattle.lblt_tray.specs.Tray.{trayTests, TraySolved}
 use Rattle.urgyelpat.proofs.RulePlaces.{rule-within}
 
 -- the record's tests answer a row, or the order
@@ -94,6 +95,15 @@ bench-within {y} {columns} {bench} {run} {a} {words} {b} {benches = benches} x =
     (λ (fits : length benches ≡ columns). subst (Within 1024) (sym (x .answer ∙ as-solve y columns run a words b benches fits)) (solve-within y columns run a words b))
     (λ (other : length benches ≡ columns → ⊥). subst (Within 1024) (sym (x .answer ∙ list-refused y columns run a words b benches other)) (sides-within y columns run a words b SliceLength (within-none (y .order))))
     (eq-or-ne (length benches) columns)
+
+-- a tray's own refusals name no place
+pub tray-within
+    : {n count : ℕ} {a : List Float} {words : List ℕ} {b : List Float} {runs answers : List ℕ} {r : Answer} {a' : List Float} {words' : List ℕ} {b' : List Float} {answers' : List ℕ}
+    → TraySolved n count a words b runs answers r a' words' b' answers' → Within 1024 r
+tray-within {n} {count} {a} {words} {b} {runs} {answers} x =
+    let none : 0 ≤ 1024 = omega arith in
+    subst (Within 1024) (sym (x .answer))
+    (within-tested 1024 (trayTests n count a words b runs answers) Done (none, (none, (none, (none, (none, (none, (none, tt))))))) (λ all. none))
 
 pub determined-within : {y : Layout} {run : ℕ} {a : List Float} {words : List ℕ} {r : Valued} → LbltDetermined y run a words r → Within 1024 (r .answer)
 determined-within {y} {run} {a} {words} x = subst (Within 1024) (sym (x .answer)) (reader-within y run a words)

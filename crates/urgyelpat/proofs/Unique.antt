@@ -14,6 +14,7 @@ use Rattle.lblt.proofs.Done as lblt
 use Rattle.lblt_read.proofs.Once.{determined-once, filled-once}
 use Rattle.lblt_solve.proofs.Once.{solved-once}
 use Rattle.lblt_bench.proofs.Once.{bench-once}
+use Rattle.lblt_tray.proofs.Alike.{tray-once}
 use Rattle.cholesky.proofs.Promises.{extended-unique}
 use Rattle.cholesky.proofs.FlooredPromises.{floored-unique}
 use Rattle.cholesky.proofs.SolvePromises.{solved-unique}
@@ -30,7 +31,7 @@ use Rattle.urgyelpat.specs.declared.Listed.{Listed}
 use Rattle.urgyelpat.specs.declared.Floored.{Floored}
 use Rattle.urgyelpat.specs.Passed.{Passed}
 use Rattle.urgyelpat.specs.Calls.{FactorOn, SolveOn, DeterminantOn, ExtendOn, SolveTrianglesOn, FirstTwinPairOn}
-use Rattle.urgyelpat.specs.Calls.{LbltSolveBench, LbltD, LbltLPermuted}
+use Rattle.urgyelpat.specs.Calls.{LbltSolveBench, LbltTray, LbltD, LbltLPermuted}
 use Rattle.urgyelpat.specs.Calls.{PivotsFromLapack, PivotsToLapack}
 use Rattle.urgyelpat.specs.declared.Matrix3.{Matrix3}
 use Rattle.urgyelpat.specs.declared.Factored3.{Factored3}
@@ -64,6 +65,14 @@ module _ {y : Layout} {run : ℕ} {a : List Float} {words : List ℕ} where
 
   pub lblt-determinant-unique : {r s : Determined} → DeterminantOn y run a words r → DeterminantOn y run a words s → r ≡ s
   lblt-determinant-unique p q = passed-same p q (valued-same (determined-once (p .given) (q .given)))
+
+pub lblt-tray-unique
+    : {n count : ℕ} {a : List Float} {words : List ℕ} {b : List Float} {runs answers : List ℕ} {r s : ℕ} {a₁ a₂ : List Float} {words₁ words₂ : List ℕ} {b₁ b₂ : List Float} {answers₁ answers₂ : List ℕ}
+    → LbltTray n count a words b runs answers r a₁ words₁ b₁ answers₁ → LbltTray n count a words b runs answers s a₂ words₂ b₂ answers₂
+    → (r ≡ s) × (a₁ ≡ a₂) × (words₁ ≡ words₂) × (b₁ ≡ b₂) × (answers₁ ≡ answers₂)
+lblt-tray-unique p q =
+    let same = tray-once (p .given) (q .given) in
+    (passed-same p q (same .answer), same .matrices, same .records, same .sides, same .answered)
 
 module _ {n run : ℕ} {a : List Float} {words : List ℕ} where
   pub lblt-solve-bench-unique
