@@ -11,7 +11,7 @@ use leaf::maximum;
 const ALPHA: f64 = 0.6403882032022076;
 
 // By the numbers that are looked at: at row k the diagonal's magnitude, the largest of its column and its row imax, the largest of that row, and its diagonal.
-fn choose_by(k: usize, diag: f64, colmax: f64, imax: usize, rowmax: f64, other: f64) -> Choice
+pub fn choose_by(k: usize, diag: f64, colmax: f64, imax: usize, rowmax: f64, other: f64) -> Choice
     ensures { λ r. ⌜ r ≡ choiceOf k diag colmax imax rowmax other ⌝ }
 {
     if maximum(diag, colmax) == 0.0 {

@@ -1,16 +1,23 @@
 -- An item of three rows, from what its steps come to. Assumes nothing.
 --     record-put, side-listed, side-put   its record and its side, number by number
+--     first-chosen                        which pivot the first step takes
 --     three-factored                      the factor's promise
 --     three-solved                        the item's
+use mathlib.Core.Bool.{Bool, true, false}
 use mathlib.Core.List.{List, [], _∷_}
 use mathlib.Core.Path.{_≡_, refl, sym, ap, _∙_}
 use Prim.Native.Nat.{ℕ}
 use native.Mathlib.Omega.{arith}
-use lib.Ieee.{Float, nan}
+use lib.Ieee.{Float, nan, lt}
 use lib.ListN.{length, getD, set}
 use Rattle.answer.specs.declared.Answer.the-variants.{Done}
+use Rattle.leaf.specs.Abs.{absOf}
+use Rattle.leaf.specs.Maximum.{maximumOf}
 use Rattle.matrix.specs.Grid.{load}
 use Rattle.matrix.specs.Layouts.{full, lower}
+use Rattle.matrix.specs.Rounded.{plusZero}
+use Rattle.lblt_choice.specs.Choice.{choose}
+use Rattle.lblt_choice.specs.declared.Choice.{Choice}
 use Rattle.lblt.specs.Factor.{Factored, finalState}
 use Rattle.lblt_solve_one.specs.Column.{solveColumn}
 use Rattle.handheld.specs.declared.Triangle.{Triangle}
@@ -19,12 +26,15 @@ use Rattle.handheld.specs.declared.steps.Stepped.{Stepped}
 use Rattle.handheld.specs.Shapes.{numbersOf, recordOf}
 use Rattle.handheld.specs.inner.Numbers.{threeOf, inNine}
 use Rattle.handheld.specs.inner.Triangle.{matrixOf}
+use Rattle.handheld.specs.inner.Choice.{choiceOf}
 use Rattle.handheld.specs.inner.Steps.{blank, Comes}
+use Rattle.handheld.proofs.Choices.{first-two, first-one}
 use Rattle.handheld.proofs.ByValue.{as-lent}
 use Rattle.handheld.proofs.Triangles.{full-six}
+use Rattle.lblt_tray.specs.declared.three.Top.{Top}
 use Rattle.lblt_tray.specs.Tray.{ItemSolved}
 use Rattle.lblt_tray.specs.inner.Engine.{Item}
-use Rattle.lblt_tray.specs.inner.Three.{withLower, recordBy, endingIn, Ends}
+use Rattle.lblt_tray.specs.inner.Three.{withLower, recordBy, topOf, endingIn, Ends}
 use Rattle.lblt_tray.proofs.Own.{item-unmarked}
 
 -- what holds of three numbers, of eight words, of nine numbers, each by name, holds of every list of that length
@@ -79,6 +89,29 @@ side-put b s = of-three (λ l. set (set (set l 0 (s .x)) 1 (s .y)) 2 (s .z) ≡ 
 -- the triangle that is put is there
 lower-put : (t : Triangle) (a : List Float) → length a ≡ 9 → inNine (withLower a t) ≡ t
 lower-put t = of-nine (λ l. inNine (withLower l t) ≡ t) (λ c d e f g h i j k. refl)
+
+-- ---- the choice at row 0
+
+module _ (t : Triangle) {diag one two rest above rowmax : Float} {top : Top} {r : Choice}
+    (diag-is : diag ≡ absOf (t .a00)) (one-is : one ≡ absOf (t .a10)) (two-is : two ≡ absOf (t .a20)) (rest-is : rest ≡ absOf (t .a21))
+    (top-is : top ≡ topOf t one two) (above-is : above ≡ maximumOf plusZero (top .largest)) (rowmax-is : rowmax ≡ maximumOf above rest)
+    (is : r ≡ choiceOf 0 diag (top .largest) (top .row) rowmax (top .diagonal))
+  where
+    pub first-chosen : r ≡ choose 3 (matrixOf t) 0
+    unfolding topOf
+    first-chosen = by (lt one two) refl
+      where
+        by : (test : Bool) → lt one two ≡ test → r ≡ choose 3 (matrixOf t) 0
+        by true e =
+            let found : top ≡ record { row = 2; largest = two; diagonal = t .a22 } = top-is ∙ rw e refl in
+            first-two t diag-is one-is two-is rest-is e
+            (above-is ∙ ap (λ (x : Top). maximumOf plusZero (x .largest)) found) rowmax-is
+            (is ∙ ap (λ (x : Top). choiceOf 0 diag (x .largest) (x .row) rowmax (x .diagonal)) found)
+        by false e =
+            let found : top ≡ record { row = 1; largest = one; diagonal = t .a11 } = top-is ∙ rw e refl in
+            first-one t diag-is one-is two-is rest-is e
+            (above-is ∙ ap (λ (x : Top). maximumOf plusZero (x .largest)) found) rowmax-is
+            (is ∙ ap (λ (x : Top). choiceOf 0 diag (x .largest) (x .row) rowmax (x .diagonal)) found)
 
 -- ---- the item
 

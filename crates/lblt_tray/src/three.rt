@@ -3,15 +3,17 @@ ghost use mathlib.Core.Path.{_≡_};
 ghost use Prim.Native.Nat.{_<_};
 ghost use lib.ListN.{length};
 ghost use Rattle.pivots.specs.Words.{paired};
+ghost use Rattle.lblt_choice.specs.Choice.{choose};
 ghost use Rattle.lblt.specs.Step.{stepped};
 ghost use Rattle.handheld.specs.inner.Numbers.{threeOf, inNine};
+ghost use Rattle.handheld.specs.inner.Triangle.{matrixOf};
 ghost use Rattle.handheld.specs.inner.Steps.{blank, stateOf};
 ghost use Rattle.lblt_tray.specs.Tray.{ItemSolved};
 ghost use Rattle.lblt_tray.specs.inner.Engine.{Item};
-ghost use Rattle.lblt_tray.specs.inner.Three.{withLower, recordBy, Onward, Ends};
+ghost use Rattle.lblt_tray.specs.inner.Three.{withLower, recordBy, topOf, Onward, Ends};
 use crate::calls;
 use handheld::Triangle;
-use handheld::choice::choose_first;
+use handheld::choice::choose_by;
 use handheld::choice::choose_second;
 use handheld::numbers::Three;
 use handheld::pivot::one_first;
@@ -162,6 +164,39 @@ fn two_one(
 }
 
 // ---- the steps
+
+// Of column 0 the largest magnitude below the diagonal, its row, and the diagonal there.
+struct Top {
+    row: usize,
+    largest: f64,
+    diagonal: f64,
+}
+
+fn top_of(t: Triangle, one: f64, two: f64) -> Top
+    ensures { λ r. ⌜ r ≡ topOf t one two ⌝ }
+{
+    if two > one {
+        return Top {
+            row: 2,
+            largest: two,
+            diagonal: t.a22,
+        };
+    }
+    Top {
+        row: 1,
+        largest: one,
+        diagonal: t.a11,
+    }
+}
+
+// At row 0.
+fn choose_first(t: Triangle) -> Choice
+    ensures { λ r. ⌜ r ≡ choose 3 (matrixOf t) 0 ⌝ }
+{
+    let top = top_of(t, abs(t.a10), abs(t.a20));
+    let rowmax = maximum(maximum(0.0, top.largest), abs(t.a21));
+    choose_by(0, abs(t.a00), top.largest, top.row, rowmax, top.diagonal)
+}
 
 // After two rows of their own.
 fn after_ones(

@@ -1,7 +1,8 @@
 -- An item of three rows: its slices, and where its steps come to. The promise of `tray` does not rest on these.
+use mathlib.Core.Bool.{cond}
 use mathlib.Core.List.{List, [], _∷_}
 use Prim.Native.Nat.{ℕ}
-use lib.Ieee.{Float}
+use lib.Ieee.{Float, lt}
 use lib.ListN.{set}
 use Rattle.lblt.specs.Step.{State}
 use Rattle.lblt.specs.Factor.{finalState}
@@ -10,6 +11,7 @@ use Rattle.handheld.specs.declared.steps.Stepped.{Stepped}
 use Rattle.handheld.specs.inner.Numbers.{inNine}
 use Rattle.handheld.specs.inner.Triangle.{matrixOf}
 use Rattle.handheld.specs.inner.Steps.{blank, Comes}
+use Rattle.lblt_tray.specs.declared.three.Top.{Top}
 
 -- nine numbers with the triangle t in their lower part
 abbrev pub withLower : List Float → Triangle → List Float
@@ -18,6 +20,10 @@ withLower l t = set (set (set (set (set (set l 0 (t .a00)) 1 (t .a10)) 2 (t .a20
 -- the record of three rows without a mark, the last one's index being its own
 abbrev pub recordBy : ℕ → ℕ → ℕ → ℕ → ℕ → ℕ → List ℕ
 recordBy index0 size0 index1 size1 size2 run = index0 ∷ size0 ∷ index1 ∷ size1 ∷ 2 ∷ size2 ∷ 0 ∷ run ∷ []
+
+-- of two magnitudes below the diagonal of column 0 the larger, the first of equal ones, its row, and the diagonal there
+unfoldable pub topOf : Triangle → Float → Float → Top
+topOf t one two = cond (lt one two) (record { row = 2; largest = two; diagonal = t .a22 }) (record { row = 1; largest = one; diagonal = t .a11 })
 
 -- these pairs, without a mark
 abbrev pub endingIn : Triangle → ℕ → ℕ → ℕ → ℕ → ℕ → Stepped
