@@ -3,3 +3,4 @@ pub mod Updates
 pub mod Entries
 pub mod Pairs
 pub mod Pivots
+pub mod Begins

@@ -3,7 +3,7 @@ ghost use Prim.Native.Nat.{_+_, _≤_, _<_};
 ghost use Rattle.matrix.specs.Grid.{Holds, load};
 ghost use Rattle.matrix.specs.Layouts.{lower, Laid};
 ghost use Rattle.matrix.specs.Loop.{for};
-ghost use Rattle.lblt_pivot.specs.inner.Engine.{rank1PairAt};
+ghost use Rattle.lblt_pivot.specs.inner.Engine.{rank1PairAt, Begun};
 ghost use Rattle.lblt_pivot.specs.Update.{rank1At, rank1, scaleAt, update1};
 use matrix::Layout;
 use matrix::get;
@@ -54,6 +54,50 @@ fn rank1_pair_at(
     put(y, a, i, j + 1, get(y, a, i, j + 1) + scaled * aj1k);
 }
 
+// Row j + 1 of both by itself where its place in the slice is odd, so that those after it are read and written two at a time; the row to go on from.
+fn rank1_pair_first(
+    y: Layout,
+    a: &mut [f64],
+    k: usize,
+    j: usize,
+    inv: f64,
+    ajk: f64,
+    aj1k: f64,
+) -> usize
+    requires { ⌜ Laid y (now a) ⌝ }
+    requires { ⌜ k < j ⌝ }
+    requires { ⌜ j + 1 < y .order ⌝ }
+    ensures { λ r. ⌜ Begun y (j + 1) (rank1PairAt k j inv ajk aj1k) (now (a .entry)) r (now (a .exit)) ⌝ }
+{
+    let row = j + 1;
+    if (row + y.start(j)) % 2 == 1 {
+        rank1_pair_at(y, a, k, j, inv, ajk, aj1k, row);
+        return row + 1;
+    }
+    row
+}
+
+fn rank1_pair_columns(
+    y: Layout,
+    a: &mut [f64],
+    k: usize,
+    j: usize,
+    inv: f64,
+    ajk: f64,
+    aj1k: f64,
+)
+    requires { ⌜ Laid y (now a) ⌝ }
+    requires { ⌜ k < j ⌝ }
+    requires { ⌜ j + 1 < y .order ⌝ }
+    ensures { λ _. ⌜ Holds (lower y) (now (a .entry)) (now (a .exit)) (for (j + 1) (y .order) (rank1PairAt k j inv ajk aj1k) (load (lower y) (now (a .entry)))) ⌝ }
+{
+    let n = y.order;
+    let first = rank1_pair_first(y, a, k, j, inv, ajk, aj1k);
+    for i in first..n {
+        rank1_pair_at(y, a, k, j, inv, ajk, aj1k, i);
+    }
+}
+
 // Columns j and j + 1.
 fn rank1_pair(y: Layout, a: &mut [f64], k: usize, inv: f64, j: usize)
     requires { ⌜ Laid y (now a) ⌝ }
@@ -61,13 +105,10 @@ fn rank1_pair(y: Layout, a: &mut [f64], k: usize, inv: f64, j: usize)
     requires { ⌜ j + 1 < y .order ⌝ }
     ensures { λ _. ⌜ Holds (lower y) (now (a .entry)) (now (a .exit)) (rank1 (y .order) k inv (j + 1) (rank1 (y .order) k inv j (load (lower y) (now (a .entry))))) ⌝ }
 {
-    let n = y.order;
     let ajk = get(y, a, j, k);
     let aj1k = get(y, a, j + 1, k);
     rank1_at(y, a, k, j, inv, ajk, j);
-    for i in (j + 1)..n {
-        rank1_pair_at(y, a, k, j, inv, ajk, aj1k, i);
-    }
+    rank1_pair_columns(y, a, k, j, inv, ajk, aj1k);
 }
 
 // By pairs of columns; the last one alone where their number is odd.

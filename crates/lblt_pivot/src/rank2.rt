@@ -4,7 +4,7 @@ ghost use Prim.Native.Nat.{_+_, _≤_, _<_};
 ghost use Rattle.matrix.specs.Grid.{Holds, load};
 ghost use Rattle.matrix.specs.Layouts.{lower, Laid};
 ghost use Rattle.matrix.specs.Loop.{for};
-ghost use Rattle.lblt_pivot.specs.inner.Engine.{workBy, workAt, workedAt, storeWork, rank2PairAt};
+ghost use Rattle.lblt_pivot.specs.inner.Engine.{workBy, workAt, workedAt, storeWork, rank2PairAt, Begun};
 ghost use Rattle.lblt_pivot.specs.Update.{blockAt, multiplier, rank2, update2};
 use leaf::abs;
 use matrix::Layout;
@@ -138,6 +138,21 @@ fn rank2_pair_at(y: Layout, a: &mut [f64], k: usize, j: usize, w: Work, v: Work,
     );
 }
 
+// Row j + 1 of both by itself where its place in the slice is odd, as for a pivot of size 1; the row to go on from.
+fn rank2_pair_first(y: Layout, a: &mut [f64], k: usize, j: usize, w: Work, v: Work) -> usize
+    requires { ⌜ Laid y (now a) ⌝ }
+    requires { ⌜ k + 1 < j ⌝ }
+    requires { ⌜ j + 1 < y .order ⌝ }
+    ensures { λ r. ⌜ Begun y (j + 1) (rank2PairAt k j w v) (now (a .entry)) r (now (a .exit)) ⌝ }
+{
+    let row = j + 1;
+    if (row + y.start(j)) % 2 == 1 {
+        rank2_pair_at(y, a, k, j, w, v, row);
+        return row + 1;
+    }
+    row
+}
+
 fn rank2_pair_columns(y: Layout, a: &mut [f64], k: usize, j: usize, w: Work, v: Work)
     requires { ⌜ Laid y (now a) ⌝ }
     requires { ⌜ k + 1 < j ⌝ }
@@ -145,7 +160,8 @@ fn rank2_pair_columns(y: Layout, a: &mut [f64], k: usize, j: usize, w: Work, v: 
     ensures { λ _. ⌜ Holds (lower y) (now (a .entry)) (now (a .exit)) (for (j + 1) (y .order) (rank2PairAt k j w v) (load (lower y) (now (a .entry)))) ⌝ }
 {
     let n = y.order;
-    for i in (j + 1)..n {
+    let first = rank2_pair_first(y, a, k, j, w, v);
+    for i in first..n {
         rank2_pair_at(y, a, k, j, w, v, i);
     }
 }

@@ -1,7 +1,12 @@
 -- The updates go by pairs of neighbouring columns j and j + 1.
-use Prim.Native.Nat.{ℕ, _+_}
+use mathlib.Core.List.{List}
+use Prim.Native.Nat.{ℕ, _+_, _≤_}
 use lib.Ieee.{Float}
 use Rattle.matrix.specs.Matrix.{Matrix, entry}
+use Rattle.matrix.specs.Grid.{load, Holds}
+use Rattle.matrix.specs.Layouts.{lower}
+use Rattle.matrix.specs.Loop.{for}
+use Rattle.matrix.specs.declared.Layout.{Layout}
 use Rattle.lblt_pivot.specs.Update.{rank1At, work1, work2, rank2At}
 use Rattle.lblt_pivot.specs.declared.rank2.Block.{Block}
 use Rattle.lblt_pivot.specs.declared.rank2.Work.{Work}
@@ -26,3 +31,9 @@ storeWork k j w M = entry (entry M j k (w .w1)) j (k + 1) (w .w2)
 -- row i of the pair, size 2
 unfoldable pub rank2PairAt : ℕ → ℕ → Work → Work → ℕ → Matrix → Matrix
 rank2PairAt k j w v i M = workedAt k (j + 1) v i (workedAt k j w i M)
+
+-- f has gone over the rows from `row` on and before i, and a has become a'
+pub record Begun (y : Layout) (row : ℕ) (f : ℕ → Matrix → Matrix) (a : List Float) (i : ℕ) (a' : List Float) : Type 0 where
+  pub from : row ≤ i
+  pub upto : i ≤ y .order
+  pub holds : Holds (lower y) a a' (for row i f (load (lower y) a))
