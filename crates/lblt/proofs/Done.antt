@@ -18,9 +18,24 @@ use Rattle.matrix.specs.Sizes.{sizeTests, Fits}
 use Rattle.matrix.specs.declared.Layout.{Layout}
 use Rattle.matrix.proofs.Grids.{holds-unique}
 use Rattle.matrix.proofs.Sizes.{sizes-refuse, hold-fits, fits-pass}
-use Rattle.pivots.specs.Words.{wordsOf, marked, stamped, Sized}
-use Rattle.lblt.specs.Factor.{factorTests, recorded, Factored}
-use Rattle.lblt.specs.inner.Engine.{Steps}
+use Rattle.pivots.specs.Words.{wordsOf, markAt, marked, stamped, Sized}
+use Rattle.pivots.proofs.Written.{ended-mark}
+use Rattle.lblt.specs.Factor.{factorTests, recorded, Stored, Factored}
+use Rattle.lblt.specs.inner.Engine.{Steps, Filled}
+
+-- ---- all steps, then the mark and the run number
+
+stores : {y : Layout} {run : ℕ} {a : List Float} {words : List ℕ} {a' : List Float} {words₁ words₂ words' : List ℕ} {mark : ℕ}
+    → Steps y a words a' words₁ mark → words₂ ≡ marked (y .order) words₁ mark → words' ≡ stamped (y .order) words₂ run → Stored y run a words a' words'
+unfolding recorded
+stores steps marks stamps = record { matrix = steps .matrix; pivots = rw (rw (steps .pairs, steps .mark) at marks) at stamps }
+
+pub fills : {y : Layout} {run : ℕ} {a : List Float} {words : List ℕ} {a' : List Float} {words₁ words₂ words' : List ℕ} {mark : ℕ}
+    → length words₁ ≡ wordsOf (y .order) → Steps y a words a' words₁ mark → words₂ ≡ marked (y .order) words₁ mark → words' ≡ stamped (y .order) words₂ run → Filled y run a words a' words' mark
+fills {y} {run} {words₁ = words₁} {mark = mark} total steps marks stamps = record {
+  stored = stores steps marks stamps;
+  mark = sym (ap (markAt (y .order)) (rw marks at stamps) ∙ ended-mark (y .order) words₁ mark run total);
+}
 
 -- ---- the ways out
 
@@ -49,11 +64,12 @@ module _ (y : Layout) (a : List Float) (words : List ℕ) where
     pub all-right : length words ≡ wordsOf (y .order) → tested (factorTests y a words) Done ≡ Done
     all-right total = passed ∙ tested-all lengthTest Done (eq-eqb (length words) (wordsOf (y .order)) total, tt)
 
+    pub done : {run : ℕ} {a' : List Float} {words' : List ℕ} → length words ≡ wordsOf (y .order) → Stored y run a words a' words' → Factored y run a words Done a' words'
+    done total stored = record { answer = sym (all-right total); left = leaving-done refl stored }
+
     pub finished : {run : ℕ} {a' : List Float} {words₁ words₂ words' : List ℕ} {mark : ℕ}
         → length words ≡ wordsOf (y .order) → Steps y a words a' words₁ mark → words₂ ≡ marked (y .order) words₁ mark → words' ≡ stamped (y .order) words₂ run → Factored y run a words Done a' words'
-    unfolding recorded
-    finished total steps marks stamps =
-        record { answer = sym (all-right total); left = leaving-done refl (record { matrix = steps .matrix; pivots = rw (rw (steps .pairs, steps .mark) at marks) at stamps }) }
+    finished total steps marks stamps = done total (stores steps marks stamps)
 
   -- a call that is done was given an allowed order and as many words as it has
   pub done-sized : isDone (tested (factorTests y a words) Done) ≡ true → Sized (y .order) words

@@ -4,7 +4,7 @@ ghost use Rattle.matrix.specs.Grid.{load};
 ghost use Rattle.matrix.specs.Layouts.{full, lower, Laid};
 ghost use Rattle.pivots.specs.Words.{Sized};
 ghost use Rattle.lblt.specs.Step.{step};
-ghost use Rattle.lblt.specs.inner.Engine.{Stands, stateAt, Steps};
+ghost use Rattle.lblt.specs.inner.Engine.{Stands, stateAt, Steps, Filled};
 ghost use Rattle.lblt.specs.Factor.{Factored};
 use answer::Answer;
 use lblt_choice::Choice;
@@ -66,6 +66,18 @@ fn steps(y: Layout, a: &mut [f64], words: &mut [u32]) -> u32
     s.mark
 }
 
+// All steps, then the mark and the run number, in slices that fit. The mark comes back.
+pub fn fill(y: Layout, a: &mut [f64], words: &mut [u32], run: u32) -> u32
+    requires { ⌜ Laid y (now a) ⌝ }
+    requires { ⌜ Sized (y .order) (now words) ⌝ }
+    ensures { λ r. ⌜ Filled y run (now (a .entry)) (now (words .entry)) (now (a .exit)) (now (words .exit)) r ⌝ }
+{
+    let mark = steps(y, a, words);
+    pivots::put_mark(words, y.order, mark);
+    pivots::put_run(words, y.order, run);
+    mark
+}
+
 // Factors the lower triangle of a layout, and writes its pivot record, which ends with the caller's run number. An order above 1,024,
 // then a wrong length of the matrix, then of the record, is refused, and nothing is written.
 pub fn factor_on(y: Layout, a: &mut [f64], words: &mut [u32], run: u32) -> Answer
@@ -78,9 +90,7 @@ pub fn factor_on(y: Layout, a: &mut [f64], words: &mut [u32], run: u32) -> Answe
     if words.len() != pivots::words(y.order) {
         return Answer::SliceLength;
     }
-    let mark = steps(y, a, words);
-    pivots::put_mark(words, y.order, mark);
-    pivots::put_run(words, y.order, run);
+    fill(y, a, words, run);
     Answer::Done
 }
 

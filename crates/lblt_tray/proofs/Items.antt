@@ -1,5 +1,5 @@
 -- One item, then all items up to one.
---     item-factored, item-solved   an item's two calls
+--     item-laid, item-sized, item-factored   its slices fit, so that its factor is done
 --     one-solved                   an item's parts, lent out of the tray and back
 --     none-before, more-before     no item; one more
 --     each-solved                  all items
@@ -12,32 +12,33 @@ use native.Mathlib.Omega.{arith}
 use lib.Ieee.{Float}
 use lib.ListN.{length, getD, set, take, drop, length-set}
 use lib.Seq.{getD-set-same, getD-set-other}
-use Rattle.answer.specs.declared.Answer.{Answer}
 use Rattle.answer.specs.declared.Answer.the-variants.{Done}
-use Rattle.answer.specs.Number.{numberOf}
 use Rattle.matrix.specs.Columns.{column, Lined, ButColumn}
-use Rattle.matrix.specs.Layouts.{full}
+use Rattle.matrix.specs.Layouts.{full, Laid}
+use Rattle.matrix.specs.Sizes.{Fits}
 use Rattle.matrix.proofs.ColumnsLent.{part-is, column-long, put-part}
-use Rattle.matrix.proofs.Sizes.{full-fits}
-use Rattle.pivots.specs.Words.{wordsOf}
+use Rattle.matrix.proofs.Sizes.{full-fits, laid-fits}
+use Rattle.pivots.specs.Words.{wordsOf, Sized}
 use Rattle.lblt.specs.Factor.{Factored}
-use Rattle.lblt.proofs.Done.{all-right}
-use Rattle.lblt_solve.specs.Solve.{LbltSolved}
+use Rattle.lblt.specs.inner.Engine.{Filled}
+use Rattle.lblt.proofs.Done.{done}
 use Rattle.lblt_tray.specs.Tray.{ItemSolved, ItemAt, matrixAt, recordAt, sideAt, numberAt, EachSolved}
 use Rattle.lblt_tray.specs.inner.Engine.{Item, Trayed, OneSolved, SolvedBefore}
 
 -- ---- one item
 
-module _ {n run : ℕ} {a : List Float} {words : List ℕ} {b : List Float} (item : Item n a words b) where
-  pub item-done : {r : Answer} {a' : List Float} {words' : List ℕ} → Factored (full n) run a words r a' words' → r ≡ Done
-  item-done f = f .answer ∙ all-right (full n) a words (full-fits n (length a) (omega (arith, item .order)) (item .matrix)) (item .pivots)
+module _ {n : ℕ} {a : List Float} {words : List ℕ} {b : List Float} (item : Item n a words b) where
+  fits : Fits (full n) 0 (length a)
+  fits = full-fits n (length a) (omega (arith, item .order)) (item .matrix)
 
-  pub item-solved
-      : {r q : Answer} {number : ℕ} {a' : List Float} {words' : List ℕ} {b' : List Float}
-      → Factored (full n) run a words r a' words' → LbltSolved (full n) 1 run a' words' b q b' → number ≡ numberOf q
-      → ItemSolved n run a words b number a' words' b'
-  item-solved {q = q} {a' = a'} {words'} f s numbered =
-      record { factor = subst (λ (r : Answer). Factored (full n) run a words r a' words') (item-done f) f; answer = q; solve = s; numbered = numbered }
+  pub item-laid : Laid (full n) a
+  item-laid = laid-fits fits
+
+  pub item-sized : Sized n words
+  item-sized = record { order = omega (arith, item .order); total = item .pivots }
+
+  pub item-factored : {run m : ℕ} {a' : List Float} {words' : List ℕ} → Filled (full n) run a words a' words' m → Factored (full n) run a words Done a' words'
+  item-factored filled = done (full n) a words fits (item .pivots) (filled .stored)
 
 -- ---- an item of a tray
 

@@ -1,5 +1,5 @@
 // `tray`: many small systems of one order, each factored and solved.
-mod calls;
+mod general;
 mod three;
 
 ghost use mathlib.Core.Path.{_≡_};
@@ -55,7 +55,7 @@ fn item(a: &mut [f64], words: &mut [u32], b: &mut [f64], n: usize, run: u32) -> 
     if n == 3 {
         return three::item(a, words, b, run);
     }
-    calls::item(a, words, b, n, run)
+    general::item(a, words, b, n, run)
 }
 
 // Item t, where it lies in the tray.

@@ -1,4 +1,4 @@
-// One item of three rows: its steps and its solve, written out for each way in which the rows fall into blocks. A marked one goes by the two calls.
+// One item of three rows: its steps and its solve, written out for each way in which the rows fall into blocks. A marked one goes the general way.
 ghost use mathlib.Core.Path.{_≡_};
 ghost use Prim.Native.Nat.{_<_};
 ghost use lib.ListN.{length};
@@ -11,7 +11,7 @@ ghost use Rattle.handheld.specs.inner.Steps.{blank, stateOf};
 ghost use Rattle.lblt_tray.specs.Tray.{ItemSolved};
 ghost use Rattle.lblt_tray.specs.inner.Engine.{Item};
 ghost use Rattle.lblt_tray.specs.inner.Three.{withLower, recordBy, topOf, Onward, Ends};
-use crate::calls;
+use crate::general;
 use handheld::Triangle;
 use handheld::choice::choose_by;
 use handheld::choice::choose_second;
@@ -216,7 +216,7 @@ fn after_ones(
     ensures { λ r. ⌜ ItemSolved 3 run (now (a .entry)) (now (words .entry)) (now (b .entry)) r (now (a .exit)) (now (words .exit)) (now (b .exit)) ⌝ }
 {
     if maximum(abs(t.a22), 0.0) == 0.0 {
-        return calls::item(a, words, b, 3, run);
+        return general::item(a, words, b, 3, run);
     }
     ones(a, words, b, t, index0, index1, run)
 }
@@ -237,7 +237,7 @@ fn after_two(
     ensures { λ r. ⌜ ItemSolved 3 run (now (a .entry)) (now (words .entry)) (now (b .entry)) r (now (a .exit)) (now (words .exit)) (now (b .exit)) ⌝ }
 {
     if maximum(abs(t.a22), 0.0) == 0.0 {
-        return calls::item(a, words, b, 3, run);
+        return general::item(a, words, b, 3, run);
     }
     two_one(a, words, b, t, index0, run)
 }
@@ -257,7 +257,7 @@ fn after_one(
     ensures { λ r. ⌜ ItemSolved 3 run (now (a .entry)) (now (words .entry)) (now (b .entry)) r (now (a .exit)) (now (words .exit)) (now (b .exit)) ⌝ }
 {
     match choose_second(t) {
-        Choice::ZeroColumn => calls::item(a, words, b, 3, run),
+        Choice::ZeroColumn => general::item(a, words, b, 3, run),
         Choice::One(p) => { after_ones(a, words, b, one_second(t, p), index0, p as u32, run) }
         Choice::Two(_) => one_two(a, words, b, t, index0, run),
     }
@@ -270,7 +270,7 @@ pub fn item(a: &mut [f64], words: &mut [u32], b: &mut [f64], run: u32) -> u64
 {
     let t = triangle(a);
     match choose_first(t) {
-        Choice::ZeroColumn => calls::item(a, words, b, 3, run),
+        Choice::ZeroColumn => general::item(a, words, b, 3, run),
         Choice::One(p) => after_one(a, words, b, one_first(t, p), p as u32, run),
         Choice::Two(p) => after_two(a, words, b, two_first(t, p), p as u32, run),
     }

@@ -7,6 +7,7 @@ use crate::registers::low;
 use crate::registers::part;
 use crate::registers::part_words;
 use crate::state::State;
+use crate::tray_calls;
 use answer::Answer;
 use answer::Valued;
 use cholesky::Floored;
@@ -103,6 +104,15 @@ pub fn call(
         21..=24 => packed_calls::others(which, n, x, part(a, s.a), part(b, s.b), part(c, s.c)),
         25..=26 => of_floored(which, n, x, y, part(a, s.a), part(c, s.c)),
         28..=29 => handheld_calls::call(which, part(a, s.a), part(b, s.b), part_words(r, s.r)),
+        30 => tray_calls::call(
+            n,
+            x,
+            y,
+            part(a, s.a),
+            part(b, s.b),
+            part(c, s.c),
+            part_words(r, s.r),
+        ),
         _ => no_call(),
     }
 }

@@ -10,6 +10,7 @@ mod repeat;
 mod report;
 mod state;
 mod sweep;
+mod tray_calls;
 
 use state::State;
 
@@ -22,7 +23,7 @@ pub fn run() {
     let mut a = [0.0; 4096];
     let mut b = [0.0; 4096];
     let mut c = [0.0; 4096];
-    let mut r = [0u32; pivots::WORDS_OF_64];
+    let mut r = [0u32; 4096];
     report::summary(blocks(&mut block, &mut a, &mut b, &mut c, &mut r));
 }
 

@@ -21,7 +21,7 @@ fn word(x: &[u32], i: usize) -> u64 {
     0
 }
 
-fn bits(x: &[f64], i: usize) -> u64 {
+pub fn bits(x: &[f64], i: usize) -> u64 {
     if i < x.len() {
         return leaf::to_bits(x[i]);
     }

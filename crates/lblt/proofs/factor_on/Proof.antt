@@ -1,12 +1,12 @@
 -- `factor_on` meets its promise. Assumes nothing.
 use mathlib.Core.Path.{sym, _∙_}
-use borrow.Author.Needs.{needs}
 use lib.ListN.{length}
 use denote.Ref.{now}
 use native.Mathlib.Omega.{arith}
 use Rattle.answer.proofs.Done.{code-refused}
 use Rattle.matrix.proofs.Sizes.{code-fits, laid-fits}
-use Rattle.lblt.proofs.Done.{wrong-size, wrong-record, finished}
+use Rattle.lblt.proofs.Done.{wrong-size, wrong-record, done}
+use borrow.Author.Needs.{needs}
 use Rattle.lblt.proofs.factor_on.Statement.{statement}
 use Rattle.lblt.proofs.factor_on.Tie as tie
 
@@ -29,16 +29,10 @@ returns-2 c =
     let fits = code-fits (c .before .before .before .before .before .before .before .args .y) 0 (length (now (c .before .before .before .before .before .before .before .args .a))) (c .before .before .before .before .check .ensures) (c .before .before .before .code .ensures) (c .before .before .if1 .left) in
     wrong-record (c .before .before .before .before .before .before .before .args .y) _ _ fits (λ e. c .if2 .taken (e ∙ sym (c .before .words .ensures)))
 
-steps-requires : tie.Need-steps-requires
-steps-requires c κs =
+fill-requires : tie.Need-fill-requires
+fill-requires c κs =
     let fits = code-fits (c .before .before .before .before .before .before .before .before .before .args .y) 0 (length (now (c .before .before .before .before .before .before .before .before .before .args .a))) (c .before .before .before .before .before .before .check .ensures) (c .before .before .before .before .before .code .ensures) (c .before .before .before .before .if1 .left) in
     (laid-fits fits, record { order = omega (arith, fits .roomy .ordered, fits .roomy .small); total = c .before .before .if2 .left ∙ c .before .before .before .words .ensures })
-
-put-mark-requires : tie.Need-put-mark-requires
-put-mark-requires c κs = omega arith
-
-put-run-requires : tie.Need-put-run-requires
-put-run-requires c κs = search needs
 
 same-length : tie.Need-same-length
 same-length c = search needs
@@ -48,10 +42,19 @@ same-length-2 c = search needs
 
 returns-3 : tie.Need-returns-3
 returns-3 c =
-    let fits = code-fits (c .before .before .before .before .before .before .before .before .before .before .before .before .before .before .before .before .before .before .before .before .before .before .args .y) 0 (length (now (c .before .before .before .before .before .before .before .before .before .before .before .before .before .before .before .before .before .before .before .before .before .before .args .a))) (c .before .before .before .before .before .before .before .before .before .before .before .before .before .before .before .before .before .before .before .check .ensures) (c .before .before .before .before .before .before .before .before .before .before .before .before .before .before .before .before .before .before .code .ensures) (c .before .before .before .before .before .before .before .before .before .before .before .before .before .before .before .before .before .if1 .left) in
-    finished (c .before .before .before .before .before .before .before .before .before .before .before .before .before .before .before .before .before .before .before .before .before .before .args .y) _ _ fits (c .before .before .before .before .before .before .before .before .before .before .before .before .before .before .before .if2 .left ∙ c .before .before .before .before .before .before .before .before .before .before .before .before .before .before .before .before .words .ensures) (c .before .before .before .before .before .before .before .before .before .before .before .before .steps .ensures) (c .before .before .before .before .before .before .put-mark .ensures) (c .before .before .put-run .ensures)
+    let fits = code-fits (c .before .before .before .before .before .before .before .before .before .before .before .before .before .before .args .y) 0 (length (now (c .before .before .before .before .before .before .before .before .before .before .before .before .before .before .args .a))) (c .before .before .before .before .before .before .before .before .before .before .before .check .ensures) (c .before .before .before .before .before .before .before .before .before .before .code .ensures) (c .before .before .before .before .before .before .before .before .before .if1 .left) in
+    done (c .before .before .before .before .before .before .before .before .before .before .before .before .before .before .args .y) _ _ fits (c .before .before .before .before .before .before .before .if2 .left ∙ c .before .before .before .before .before .before .before .before .words .ensures) (c .before .before .before .before .fill .ensures .stored)
 
 pub factor-on-spec : {M : Type 1} → statement M
 factor-on-spec =
     tie.close
-    (tie.spec check-requires code-requires returns words-requires returns-2 steps-requires put-mark-requires put-run-requires same-length same-length-2 returns-3)
+    (tie.spec
+    check-requires
+    code-requires
+    returns
+    words-requires
+    returns-2
+    fill-requires
+    same-length
+    same-length-2
+    returns-3)

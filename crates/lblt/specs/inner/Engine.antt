@@ -8,7 +8,8 @@ use Rattle.matrix.specs.Grid.{load, Holds}
 use Rattle.matrix.specs.Layouts.{lower}
 use Rattle.matrix.specs.declared.Layout.{Layout}
 use Rattle.lblt.specs.Step.{State}
-use Rattle.lblt.specs.Factor.{finalState}
+use Rattle.pivots.specs.Words.{markAt}
+use Rattle.lblt.specs.Factor.{finalState, Stored}
 use Rattle.lblt.specs.declared.Reached.{Reached}
 
 -- the state where the code has reached r, on a matrix and a record
@@ -27,3 +28,8 @@ pub record Steps (y : Layout) (a : List Float) (words : List ℕ) (a' : List Flo
   pub matrix : Holds (lower y) a a' (finalState (y .order) (load (lower y) a) words .matrix)
   pub pairs : words' ≡ finalState (y .order) (load (lower y) a) words .words
   pub mark : m ≡ finalState (y .order) (load (lower y) a) words .mark
+
+-- the whole call after its tests: a holds the factor, words the record, and m is the record's mark
+pub record Filled (y : Layout) (run : ℕ) (a : List Float) (words : List ℕ) (a' : List Float) (words' : List ℕ) (m : ℕ) : Type 0 where
+  pub stored : Stored y run a words a' words'
+  pub mark : m ≡ markAt (y .order) words'

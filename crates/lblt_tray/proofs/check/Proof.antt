@@ -6,9 +6,6 @@ use Rattle.lblt_tray.proofs.Sizes.{many, large, matrices-wrong, records
 use borrow.Author.Needs.{needs}
 use Rattle.lblt_tray.proofs.check.Statement.{statement}
 use Rattle.lblt_tray.proofs.check.Tie as tie
-use Rattle.lblt_tray.proofs.check.Reads as reads
-use Rattle.lblt_tray.proofs.check.Lts as lts
-use Rattle.pivots.proofs.words.Reads as words-reads
 
 returns : tie.Need-returns
 returns c =

@@ -6,9 +6,6 @@ use Rattle.lblt_tray.proofs.Items.{none-before, more-before, still-tray
 use borrow.Author.Needs.{needs}
 use Rattle.lblt_tray.proofs.each.Statement.{statement}
 use Rattle.lblt_tray.proofs.each.Tie as tie
-use Rattle.lblt_tray.proofs.each.Reads as reads
-use Rattle.lblt_tray.proofs.each.Lts as lts
-use Rattle.lblt_tray.proofs.item_at.Reads as item-at-reads
 
 abbrev Inv-loop : tie.InvT-loop
 Inv-loop a₀ words₀ b₀ runs answers₀ n t₀ a words b answers t = SolvedBefore n t a₀ words₀ b₀ runs answers₀ a words b answers

@@ -1,13 +1,7 @@
--- `item`: three rows are written out, all others go by the two calls.
-use mathlib.Core.Path.{subst}
-use Rattle.lblt_tray.specs.inner.Engine.{Item}
+-- `item`: three rows are written out, all others go the general way.
 use borrow.Author.Needs.{needs}
 use Rattle.lblt_tray.proofs.item.Statement.{statement}
 use Rattle.lblt_tray.proofs.item.Tie as tie
-use Rattle.lblt_tray.proofs.item.Reads as reads
-use Rattle.lblt_tray.proofs.item.Lts as lts
-use Rattle.lblt_tray.proofs.calls.item.Reads as calls-item-reads
-use Rattle.lblt_tray.proofs.three.item.Reads as three-item-reads
 
 item-requires : tie.Need-item-requires
 item-requires c κs = rw (c .before .before .before .if1 .taken) at (c .before .before .before .before .before .before .before .pre)

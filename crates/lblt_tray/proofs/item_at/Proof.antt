@@ -9,10 +9,6 @@ use Rattle.lblt_tray.proofs.Items.{lent-item, one-solved}
 use borrow.Author.Needs.{needs}
 use Rattle.lblt_tray.proofs.item_at.Statement.{statement}
 use Rattle.lblt_tray.proofs.item_at.Tie as tie
-use Rattle.lblt_tray.proofs.item_at.Reads as reads
-use Rattle.lblt_tray.proofs.item_at.Lts as lts
-use Rattle.lblt_tray.proofs.item.Reads as item-reads
-use Rattle.pivots.proofs.words.Reads as words-reads
 
 mul-square : tie.Need-mul-square
 mul-square c = omega (arith, square-small (c .before .before .before .before .before .args .n) (c .before .before .before .before .before .pre .0 .order))

@@ -4,11 +4,6 @@ use Rattle.lblt_tray.proofs.Sizes.{trayed-runs, refused-untouched, done
 use borrow.Author.Needs.{needs}
 use Rattle.lblt_tray.proofs.tray.Statement.{statement}
 use Rattle.lblt_tray.proofs.tray.Tie as tie
-use Rattle.lblt_tray.proofs.tray.Reads as reads
-use Rattle.lblt_tray.proofs.tray.Lts as lts
-use Rattle.answer.proofs.Answer.code.Reads as code-reads
-use Rattle.lblt_tray.proofs.check.Reads as check-reads
-use Rattle.lblt_tray.proofs.each.Reads as each-reads
 
 check-requires : tie.Need-check-requires
 check-requires c κs = search needs

@@ -5,11 +5,6 @@ use Rattle.lblt_pivot.proofs.Pairs.{pairs1}
 use borrow.Author.Needs.{needs}
 use Rattle.lblt_pivot.proofs.rank1.rank1_pair.Statement.{statement}
 use Rattle.lblt_pivot.proofs.rank1.rank1_pair.Tie as tie
-use Rattle.lblt_pivot.proofs.rank1.rank1_pair.Reads as reads
-use Rattle.lblt_pivot.proofs.rank1.rank1_pair.Lts as lts
-use Rattle.lblt_pivot.proofs.rank1.rank1_at.Reads as rank1-at-reads
-use Rattle.lblt_pivot.proofs.rank1.rank1_pair_columns.Reads as rank1-pair-columns-reads
-use Rattle.matrix.proofs.get.Reads as get-reads
 
 get-requires : tie.Need-get-requires
 get-requires c κs = (c .before .before .pre .0, (omega arith, omega arith))

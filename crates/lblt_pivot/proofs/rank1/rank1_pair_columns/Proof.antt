@@ -9,10 +9,6 @@ use Rattle.lblt_pivot.specs.inner.Engine.{rank1PairAt}
 use Rattle.lblt_pivot.proofs.Begins.{begun-all}
 use Rattle.lblt_pivot.proofs.rank1.rank1_pair_columns.Statement.{statement}
 use Rattle.lblt_pivot.proofs.rank1.rank1_pair_columns.Tie as tie
-use Rattle.lblt_pivot.proofs.rank1.rank1_pair_columns.Reads as reads
-use Rattle.lblt_pivot.proofs.rank1.rank1_pair_columns.Lts as lts
-use Rattle.lblt_pivot.proofs.rank1.rank1_pair_at.Reads as rank1-pair-at-reads
-use Rattle.lblt_pivot.proofs.rank1.rank1_pair_first.Reads as rank1-pair-first-reads
 
 abbrev Inv-loop : tie.InvT-loop
 Inv-loop y a₀ k j inv ajk aj1k n first i₀ a i = Turned (lower y) first n (rank1PairAt k j inv ajk aj1k) a₀ i a

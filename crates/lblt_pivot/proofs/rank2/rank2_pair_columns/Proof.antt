@@ -9,10 +9,6 @@ use Rattle.lblt_pivot.specs.inner.Engine.{rank2PairAt}
 use Rattle.lblt_pivot.proofs.Begins.{begun-all}
 use Rattle.lblt_pivot.proofs.rank2.rank2_pair_columns.Statement.{statement}
 use Rattle.lblt_pivot.proofs.rank2.rank2_pair_columns.Tie as tie
-use Rattle.lblt_pivot.proofs.rank2.rank2_pair_columns.Reads as reads
-use Rattle.lblt_pivot.proofs.rank2.rank2_pair_columns.Lts as lts
-use Rattle.lblt_pivot.proofs.rank2.rank2_pair_at.Reads as rank2-pair-at-reads
-use Rattle.lblt_pivot.proofs.rank2.rank2_pair_first.Reads as rank2-pair-first-reads
 
 abbrev Inv-loop : tie.InvT-loop
 Inv-loop y a₀ k j w v n first i₀ a i = Turned (lower y) first n (rank2PairAt k j w v) a₀ i a

@@ -5,13 +5,6 @@ use Rattle.handheld.proofs.Reaching.{second-one, second-two}
 use borrow.Author.Needs.{needs}
 use Rattle.lblt_tray.proofs.three.after_one.Statement.{statement}
 use Rattle.lblt_tray.proofs.three.after_one.Tie as tie
-use Rattle.lblt_tray.proofs.three.after_one.Reads as reads
-use Rattle.lblt_tray.proofs.three.after_one.Lts as lts
-use Rattle.handheld.proofs.choice.choose_second.Reads as choose-second-reads
-use Rattle.handheld.proofs.pivot.one_second.Reads as one-second-reads
-use Rattle.lblt_tray.proofs.calls.item.Reads as item-reads
-use Rattle.lblt_tray.proofs.three.after_ones.Reads as after-ones-reads
-use Rattle.lblt_tray.proofs.three.one_two.Reads as one-two-reads
 
 choose-second-requires : tie.Need-choose-second-requires
 choose-second-requires c κs = search needs

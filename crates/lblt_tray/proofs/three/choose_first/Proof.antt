@@ -3,12 +3,6 @@ use Rattle.lblt_tray.proofs.ThreeRows.{first-chosen}
 use borrow.Author.Needs.{needs}
 use Rattle.lblt_tray.proofs.three.choose_first.Statement.{statement}
 use Rattle.lblt_tray.proofs.three.choose_first.Tie as tie
-use Rattle.lblt_tray.proofs.three.choose_first.Reads as reads
-use Rattle.lblt_tray.proofs.three.choose_first.Lts as lts
-use Rattle.handheld.proofs.choice.choose_by.Reads as choose-by-reads
-use Rattle.lblt_tray.proofs.three.top_of.Reads as top-of-reads
-use Rattle.leaf.proofs.abs.Reads as abs-reads
-use Rattle.leaf.proofs.maximum.Reads as maximum-reads
 
 abs-requires : tie.Need-abs-requires
 abs-requires c κs = search needs

@@ -5,15 +5,6 @@ use Rattle.handheld.proofs.Reaching.{first-one, first-two}
 use borrow.Author.Needs.{needs}
 use Rattle.lblt_tray.proofs.three.item.Statement.{statement}
 use Rattle.lblt_tray.proofs.three.item.Tie as tie
-use Rattle.lblt_tray.proofs.three.item.Reads as reads
-use Rattle.lblt_tray.proofs.three.item.Lts as lts
-use Rattle.handheld.proofs.choice.choose_first.Reads as choose-first-reads
-use Rattle.handheld.proofs.pivot.one_first.Reads as one-first-reads
-use Rattle.handheld.proofs.pivot.two_first.Reads as two-first-reads
-use Rattle.lblt_tray.proofs.calls.item.Reads as item-reads
-use Rattle.lblt_tray.proofs.three.after_one.Reads as after-one-reads
-use Rattle.lblt_tray.proofs.three.after_two.Reads as after-two-reads
-use Rattle.lblt_tray.proofs.three.triangle.Reads as triangle-reads
 
 triangle-requires : tie.Need-triangle-requires
 triangle-requires c κs = c .before .before .before .before .pre .matrix

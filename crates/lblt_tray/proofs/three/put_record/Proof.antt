@@ -5,8 +5,6 @@ use Rattle.lblt_tray.proofs.ThreeRows.{record-put}
 use borrow.Author.Needs.{needs}
 use Rattle.lblt_tray.proofs.three.put_record.Statement.{statement}
 use Rattle.lblt_tray.proofs.three.put_record.Tie as tie
-use Rattle.lblt_tray.proofs.three.put_record.Reads as reads
-use Rattle.lblt_tray.proofs.three.put_record.Lts as lts
 
 slice-write-words : tie.Need-slice-write-words
 slice-write-words c = search needs

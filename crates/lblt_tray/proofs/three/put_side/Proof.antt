@@ -3,8 +3,6 @@ use Rattle.lblt_tray.proofs.ThreeRows.{side-put}
 use borrow.Author.Needs.{needs}
 use Rattle.lblt_tray.proofs.three.put_side.Statement.{statement}
 use Rattle.lblt_tray.proofs.three.put_side.Tie as tie
-use Rattle.lblt_tray.proofs.three.put_side.Reads as reads
-use Rattle.lblt_tray.proofs.three.put_side.Lts as lts
 
 slice-write-b : tie.Need-slice-write-b
 slice-write-b c = search needs

@@ -5,8 +5,6 @@ use mathlib.Core.Path.{refl}
 use borrow.Author.Needs.{needs}
 use Rattle.lblt_tray.proofs.three.put_triangle.Statement.{statement}
 use Rattle.lblt_tray.proofs.three.put_triangle.Tie as tie
-use Rattle.lblt_tray.proofs.three.put_triangle.Reads as reads
-use Rattle.lblt_tray.proofs.three.put_triangle.Lts as lts
 
 slice-write-a : tie.Need-slice-write-a
 slice-write-a c = search needs

@@ -3,8 +3,6 @@ use Rattle.lblt_tray.proofs.ThreeRows.{side-listed}
 use borrow.Author.Needs.{needs}
 use Rattle.lblt_tray.proofs.three.side.Statement.{statement}
 use Rattle.lblt_tray.proofs.three.side.Tie as tie
-use Rattle.lblt_tray.proofs.three.side.Reads as reads
-use Rattle.lblt_tray.proofs.three.side.Lts as lts
 
 shared-slice-read-t3 : tie.Need-shared-slice-read-t3
 shared-slice-read-t3 c = search needs

@@ -3,8 +3,6 @@ use mathlib.Core.Path.{refl}
 use Rattle.lblt_tray.specs.inner.Three.{topOf}
 use Rattle.lblt_tray.proofs.three.top_of.Statement.{statement}
 use Rattle.lblt_tray.proofs.three.top_of.Tie as tie
-use Rattle.lblt_tray.proofs.three.top_of.Reads as reads
-use Rattle.lblt_tray.proofs.three.top_of.Lts as lts
 
 returns : tie.Need-returns
 unfolding topOf

@@ -3,13 +3,6 @@ use Rattle.lblt_tray.proofs.ThreeRows.{three-solved}
 use borrow.Author.Needs.{needs}
 use Rattle.lblt_tray.proofs.three.two_one.Statement.{statement}
 use Rattle.lblt_tray.proofs.three.two_one.Tie as tie
-use Rattle.lblt_tray.proofs.three.two_one.Reads as reads
-use Rattle.lblt_tray.proofs.three.two_one.Lts as lts
-use Rattle.handheld.proofs.sides.by_two_one.Reads as by-two-one-reads
-use Rattle.lblt_tray.proofs.three.put_record.Reads as put-record-reads
-use Rattle.lblt_tray.proofs.three.put_side.Reads as put-side-reads
-use Rattle.lblt_tray.proofs.three.put_triangle.Reads as put-triangle-reads
-use Rattle.lblt_tray.proofs.three.side.Reads as side-reads
 
 put-triangle-requires : tie.Need-put-triangle-requires
 put-triangle-requires c κs = c .before .before .before .before .pre .0 .matrix
