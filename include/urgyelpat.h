@@ -26,15 +26,18 @@
  * ANSWERS. An answer is code * 4096 + place; 0 is done. The checks 1 to 5, then 13, then 6 run in that order, and the first
  * that fails is the answer; every buffer is then as it was. For a LAPACK list, 12 stands where 5 does for a record. Cholesky
  * and UDU go on from there column by column, UDU from the last one back, the teaching engine row by row, and the first diagonal
- * that fails gives its code, unless a floor stands in for it (two Cholesky calls take one).
+ * that fails gives its code, unless a floor stands in for it (two Cholesky calls take one). A tray has one answer of its own and
+ * one for each item.
  *
  *   code                             given exactly if                                          place
  *   0  URGYELPAT_DONE                the result stands in the buffers                          0
  *   1  URGYELPAT_OUT_OF_RANGE        an order, room or column count is above 1024, UDU has     0
- *                                    order 0, or the teaching engine an order above 64
+ *                                    order 0, the teaching engine or a tray an order above
+ *                                    64, or a tray more than 1024 items
  *   2  URGYELPAT_ORDER_ABOVE_ROOM    an order is above its room, or an earlier order above     0
  *                                    the order
- *   3  URGYELPAT_MATRIX_LENGTH       the first matrix has the wrong length                     0
+ *   3  URGYELPAT_MATRIX_LENGTH       the first matrix, or those of a tray, have the wrong      0
+ *                                    length
  *   4  URGYELPAT_SLICE_LENGTH        another slice has the wrong length                        0
  *   5  URGYELPAT_BAD_RECORD          the pivot record breaks its rule, or the handheld's       the row, or n for its mark
  *                                    pivots do
@@ -79,6 +82,9 @@ extern "C" {
 #define URGYELPAT_LARGEST 1024u
 /* The largest order of the teaching engine, urgyelpat_cholesky_teaching. */
 #define URGYELPAT_TEACHING_LARGEST 64u
+/* The largest order of a tray, urgyelpat_lblt_tray, and the most items that it can have. */
+#define URGYELPAT_TRAY_ORDER_LARGEST 64u
+#define URGYELPAT_TRAY_COUNT_LARGEST 1024u
 
 /* The codes of the table above. */
 #define URGYELPAT_DONE 0u
@@ -196,6 +202,28 @@ URGYELPAT_MUST_USE uint64_t urgyelpat_lblt_d(const double *a, size_t a_length, c
  * Answers 0, 1, 3 (a), 4 (record or l), 5, 13. */
 URGYELPAT_MUST_USE uint64_t urgyelpat_lblt_l_permuted(const double *a, size_t a_length, const uint32_t *record,
                                                       size_t record_length, double *l, size_t l_length, size_t n, uint32_t run);
+
+/* ---- A tray: many small systems by LBLT, in one call ---- */
+
+/* Factors and solves `count` systems of order n, each with one right-hand side, laid end to end. Item t has its matrix (n*n
+ * numbers) at a + t*n*n, its record (2n + 2 words) at records + t*(2n + 2), its side (n numbers) at b + t*n, its run number in
+ * runs[t], and gets its answer in answers[t]. What stood in records and answers before is not read. None of the five slices
+ * overlaps another.
+ * Item by item this leaves, to the bit, what urgyelpat_lblt_factor and then urgyelpat_lblt_solve with one column leave, both
+ * with the item's own run number: the factor where the matrix stood, the record, and the solution where the side stood.
+ * answers[t] is the answer of that solve: 0, or 6 where the factor is marked, its place the marked row. A marked item keeps its
+ * factor and its record, and its side is as it was. No item feels another: those beside it are solved.
+ * THE CALL ANSWERS 0 WHERE ITEMS ARE MARKED: it says that all were worked on, and answers[t] whether item t is solved. After a 6
+ * look first for NaN or infinite numbers in all rows of that item's matrix as it was given; urgyelpat_callers_row takes the
+ * item's record, and gives your row. An item's factor and record are read by the calls above, as any other's.
+ * A tray is refused as a whole, and then nothing is written, in answers neither: by 1 where n is above
+ * URGYELPAT_TRAY_ORDER_LARGEST or count above URGYELPAT_TRAY_COUNT_LARGEST, then by 3 where a does not have count*n*n numbers,
+ * then by 4 where records does not have count*(2n + 2) words, b count*n numbers, runs count words or answers count numbers.
+ * Order 0 and count 0 are done.
+ * Answers 0, 1, 3 (a), 4 (records, b, runs or answers). */
+URGYELPAT_MUST_USE uint64_t urgyelpat_lblt_tray(double *a, size_t a_length, uint32_t *records, size_t records_length, double *b,
+                                                size_t b_length, const uint32_t *runs, size_t runs_length, uint64_t *answers,
+                                                size_t answers_length, size_t n, size_t count);
 
 /* ---- LAPACK's pivot lists, read and written ----
  *

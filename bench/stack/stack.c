@@ -14,7 +14,7 @@
 #define PAGE ((size_t)4096)
 #define PAINT 0xa5a5a5a5a5a5a5a5u
 #define MOST ((size_t)URGYELPAT_LARGEST)
-/* the columns of a solve: one, and many with a rest when they are taken four at a time */
+/* the columns of a solve: one, and many with a rest when they are taken four at a time; the items of a tray */
 #define MANY ((size_t)67)
 /* the run number of every record */
 #define RUN ((uint32_t)7)
@@ -27,6 +27,7 @@ typedef enum {
     LBLT_SOLVE_ONE,
     LBLT_SOLVE_MANY,
     LBLT_SOLVE_BENCH,
+    LBLT_TRAY,
     LBLT_DETERMINANT,
     LBLT_D,
     LBLT_L_PERMUTED,
@@ -68,6 +69,7 @@ static const char *const names[CALLS] = {
     "lblt_solve, 1 column",
     "lblt_solve, 67 columns",
     "lblt_solve_bench, 50 columns of 67",
+    "lblt_tray, 67 items",
     "lblt_determinant",
     "lblt_d",
     "lblt_l_permuted",
@@ -107,6 +109,8 @@ static double *a, *b;
 static uint32_t record[2 * URGYELPAT_LARGEST + 2];
 static int32_t list[URGYELPAT_LARGEST];
 static uint32_t benches[MANY]; /* 47 columns of bench 1, which are solved together, 17 of bench 2, and 3 of bench 1, one by one */
+static uint32_t records[MANY * (2 * URGYELPAT_TRAY_ORDER_LARGEST + 2)], runs[MANY];
+static uint64_t answers[MANY];
 static double vector[URGYELPAT_LARGEST];
 static urgyelpat_factored3 factored; /* of the calls by value: the matrix before, the factor and its pivots after */
 static urgyelpat_solved3 solved;
@@ -135,6 +139,30 @@ static void fill_near(size_t n)
     for (size_t j = 0; j < n; j++)
         for (size_t i = 0; i < n; i++)
             a[i + j * n] = (i ^ 1) == j ? 2.0 : 1.0;
+}
+
+/* From the first matrix of a tray, with pivots of size 2, number i of item t: in turn alike, with pivots of size 1, zero and so
+ * without a pivot, with a NaN. */
+static double in_tray(size_t n, size_t t, size_t i)
+{
+    switch (t % 4) {
+    case 1:
+        return i % (n + 1) == 0 ? (double)n : a[i];
+    case 2:
+        return 0.0;
+    case 3:
+        return i == 1 ? a[0] / a[0] : a[i];
+    default:
+        return a[i];
+    }
+}
+
+static void fill_tray(size_t n)
+{
+    fill_random(n, 0.0);
+    for (size_t t = 1; t < MANY; t++)
+        for (size_t i = 0; i < n * n; i++)
+            a[i + t * n * n] = in_tray(n, t, i);
 }
 
 /* The lower part of a, packed where it stands. */
@@ -185,6 +213,9 @@ static void prepare(which call, size_t n)
         break;
     case LBLT_FACTOR:
         fill_random(n, 0.0);
+        break;
+    case LBLT_TRAY:
+        fill_tray(n);
         break;
     case LBLT_SOLVE_ONE:
     case LBLT_SOLVE_MANY:
@@ -319,6 +350,10 @@ __attribute__((noinline)) static uint64_t called(which call, size_t n)
         break;
     case LBLT_SOLVE_BENCH:
         answer = urgyelpat_lblt_solve_bench(a, n * n, record, 2 * n + 2, b, n * MANY, benches, MANY, n, MANY, 1, RUN);
+        break;
+    case LBLT_TRAY:
+        answer = urgyelpat_lblt_tray(a, n * n * MANY, records, (2 * n + 2) * MANY, b, n * MANY, runs, MANY, answers, MANY,
+                                     n, MANY);
         break;
     case LBLT_DETERMINANT:
         answer = urgyelpat_lblt_determinant(a, n * n, record, 2 * n + 2, n, RUN).answer;
@@ -464,10 +499,17 @@ static size_t used(which call, size_t n)
     return t.used;
 }
 
-/* The teaching engine refuses larger orders than its own, and the handheld has order 3. */
+/* The teaching engine and the tray refuse larger orders than their own, and the handheld has order 3. */
 static int takes(which call, size_t n)
 {
-    return call == CHOLESKY_TEACHING ? n <= URGYELPAT_TEACHING_LARGEST : call < HANDHELD_FACTOR || n == 3;
+    switch (call) {
+    case CHOLESKY_TEACHING:
+        return n <= URGYELPAT_TEACHING_LARGEST;
+    case LBLT_TRAY:
+        return n <= URGYELPAT_TRAY_ORDER_LARGEST;
+    default:
+        return call < HANDHELD_FACTOR || n == 3;
+    }
 }
 
 int main(void)

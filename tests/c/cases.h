@@ -1,5 +1,6 @@
 /* The cases of each exported function, by factor. */
 void lblt_cases(void);
+void tray_cases(void);
 void list_cases(void);
 void cholesky_cases(void);
 void floored_cases(void);

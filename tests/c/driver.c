@@ -26,6 +26,7 @@ int main(void)
     watch_the_pages();
     answers_taken_apart();
     lblt_cases();
+    tray_cases();
     list_cases();
     cholesky_cases();
     floored_cases();

@@ -3,6 +3,7 @@
 
 const char *meaning(uint64_t answer);
 int is_taught(size_t n);
+int fits_a_tray(size_t n, size_t count);
 size_t refused_row(const uint32_t *record, size_t n, uint64_t answer);
 size_t numbers_behind(size_t n, size_t i, size_t j);
 size_t marked_row(urgyelpat_factored3 factored);
@@ -11,6 +12,11 @@ double unknown(urgyelpat_solved3 solved, size_t row);
 int is_taught(size_t n)
 {
     return n <= URGYELPAT_TEACHING_LARGEST;
+}
+
+int fits_a_tray(size_t n, size_t count)
+{
+    return n <= URGYELPAT_TRAY_ORDER_LARGEST && count <= URGYELPAT_TRAY_COUNT_LARGEST;
 }
 
 size_t refused_row(const uint32_t *record, size_t n, uint64_t answer)

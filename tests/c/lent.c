@@ -58,8 +58,9 @@ double as_left(double number)
     return number == number || to_bits(number) == to_bits(KEPT) ? number : NAN;
 }
 
-/* as many as are asked for: those of a packed matrix of order 1025 and one more, of a record of that order, of a list */
-enum { MOST_NUMBERS = 1025 * 1026 / 2 + 1, MOST_WORDS = 2 * 1025 + 2, MOST_WHOLES = 1025 };
+/* as many as are asked for: those of a packed matrix of order 1025 and one more, of the records of 1025 items of order 3, of a
+ * list, of the answers of 1025 items and one more */
+enum { MOST_NUMBERS = 1025 * 1026 / 2 + 1, MOST_WORDS = 1025 * 8, MOST_WHOLES = 1025, MOST_LONGS = 1026 };
 
 numbers old_numbers(size_t length)
 {
@@ -92,6 +93,17 @@ wholes old_wholes(size_t length)
         for (size_t i = 0; i < MOST_WHOLES; i++)
             old[i] = -0x5e5e0000 + (int32_t)i;
     return (wholes){length == 0 ? NULL : old, length};
+}
+
+longs old_longs(size_t length)
+{
+    static uint64_t old[MOST_LONGS];
+    if (length > MOST_LONGS)
+        abort();
+    if (old[0] == 0)
+        for (size_t i = 0; i < MOST_LONGS; i++)
+            old[i] = 0xe9e9e9e900000000u + i;
+    return (longs){length == 0 ? NULL : old, length};
 }
 
 static lent lend(const void *given, size_t length, size_t width, placement where)
@@ -133,6 +145,11 @@ lent lend_wholes(wholes given, placement where)
     return lend(given.at, given.length, sizeof(int32_t), where);
 }
 
+lent lend_longs(longs given, placement where)
+{
+    return lend(given.at, given.length, sizeof(uint64_t), where);
+}
+
 lent lend_bytes(const void *given, size_t bytes, placement where)
 {
     return lend(given, bytes, 1, where);
@@ -170,6 +187,11 @@ uint32_t *words_at(const lent *slice)
 int32_t *wholes_at(const lent *slice)
 {
     return slice->null ? NULL : (int32_t *)(void *)(slice->open + slice->start);
+}
+
+uint64_t *longs_at(const lent *slice)
+{
+    return slice->null ? NULL : (uint64_t *)(void *)(slice->open + slice->start);
 }
 
 void *bytes_at(const lent *slice)
@@ -296,6 +318,21 @@ void left_wholes(lent slice, const char *name, wholes wanted)
         if (got[i] != wanted.at[i]) {
             wrong();
             printf("%s[%lu] is %d, should be %d\n", name, (unsigned long)i, got[i], wanted.at[i]);
+        }
+    memcpy(slice.should + slice.start, got, slice.length * slice.width);
+    give_back(slice, name);
+}
+
+void left_longs(lent slice, const char *name, longs wanted)
+{
+    const uint64_t *got = (const uint64_t *)(const void *)(slice.open + slice.start);
+    if (wanted.length != slice.length)
+        abort();
+    for (size_t i = 0; i < slice.length; i++)
+        if (got[i] != wanted.at[i]) {
+            wrong();
+            printf("%s[%lu] is %lx, should be %lx\n", name, (unsigned long)i, (unsigned long)got[i],
+                   (unsigned long)wanted.at[i]);
         }
     memcpy(slice.should + slice.start, got, slice.length * slice.width);
     give_back(slice, name);

@@ -2,8 +2,9 @@
  *
  * Every call that is tested on slices is made three times, its slices placed three ways: between canaries, at the end of the
  * memory (the page behind the slice cannot be touched), and at its start (the page before cannot). What lies around a slice is
- * compared too. Where very many matrices are tried (floored.c, teaching.c, handheld.c), a call is made once, between canaries.
- * A call that only prepares a case or takes an answer apart is made once. */
+ * compared too. Where very many matrices are tried (floored.c, teaching.c, handheld.c), a call is made once, between canaries;
+ * where very many trays are tried, or large ones (tray.c), once in one of the three placements. A call that only prepares a case
+ * or takes an answer apart is made once. */
 #ifndef LENT_H
 #define LENT_H
 
@@ -26,13 +27,21 @@ typedef struct {
     size_t length;
 } wholes;
 
+/* whole numbers of 64 bits: answers */
+typedef struct {
+    const uint64_t *at;
+    size_t length;
+} longs;
+
 #define NUMBERS(...) ((numbers){(const double[]){__VA_ARGS__}, sizeof((const double[]){__VA_ARGS__}) / sizeof(double)})
 #define WORDS(...) ((words){(const uint32_t[]){__VA_ARGS__}, sizeof((const uint32_t[]){__VA_ARGS__}) / sizeof(uint32_t)})
 #define WHOLES(...) ((wholes){(const int32_t[]){__VA_ARGS__}, sizeof((const int32_t[]){__VA_ARGS__}) / sizeof(int32_t)})
+#define LONGS(...) ((longs){(const uint64_t[]){__VA_ARGS__}, sizeof((const uint64_t[]){__VA_ARGS__}) / sizeof(uint64_t)})
 /* A slice of length 0, lent as a null pointer. */
 #define NO_NUMBERS ((numbers){NULL, 0})
 #define NO_WORDS ((words){NULL, 0})
 #define NO_WHOLES ((wholes){NULL, 0})
+#define NO_LONGS ((longs){NULL, 0})
 
 #define COUNT(array) (sizeof(array) / sizeof *(array))
 
@@ -40,6 +49,7 @@ typedef struct {
 numbers old_numbers(size_t length);
 words old_words(size_t length);
 wholes old_wholes(size_t length);
+longs old_longs(size_t length);
 
 /* The double with these bits. */
 double from_bits(uint64_t bits);
@@ -73,6 +83,7 @@ typedef struct {
 lent lend_numbers(numbers given, placement where);
 lent lend_words(words given, placement where);
 lent lend_wholes(wholes given, placement where);
+lent lend_longs(longs given, placement where);
 /* What is no slice: the place of a result, or a stack with the arguments of a call at its end. */
 lent lend_bytes(const void *given, size_t bytes, placement where);
 
@@ -85,6 +96,7 @@ void left_framed(const double *wanted, size_t length);
 double *numbers_at(const lent *slice);
 uint32_t *words_at(const lent *slice);
 int32_t *wholes_at(const lent *slice);
+uint64_t *longs_at(const lent *slice);
 void *bytes_at(const lent *slice);
 
 /* From here on a touch of a page beside a slice is reported, with the call that did it. */
@@ -102,6 +114,7 @@ void kept(const char *name, const void *got, const void *given, size_t bytes);
 void left_numbers(lent slice, const char *name, numbers wanted);
 void left_words(lent slice, const char *name, words wanted);
 void left_wholes(lent slice, const char *name, wholes wanted);
+void left_longs(lent slice, const char *name, longs wanted);
 /* After the call all around the slice should be as it was, whatever it holds. Gives the memory back. */
 void left_around(lent slice, const char *name);
 

@@ -86,6 +86,20 @@ extern "C" {
         bench: u32,
         run: u32,
     ) -> u64;
+    pub fn urgyelpat_lblt_tray(
+        a: *mut f64,
+        a_length: usize,
+        records: *mut u32,
+        records_length: usize,
+        b: *mut f64,
+        b_length: usize,
+        runs: *const u32,
+        runs_length: usize,
+        answers: *mut u64,
+        answers_length: usize,
+        n: usize,
+        count: usize,
+    ) -> u64;
     pub fn urgyelpat_lblt_determinant(
         a: *const f64,
         a_length: usize,

@@ -14,10 +14,14 @@
 //! accepted, even if it is damaged or of another matrix: keep a factor and its record together, as [`LBLT`] does.
 //!
 //! The rows of the factor are not in the order in which they came: [`callers_row`] gives the way back.
+//!
+//! [`tray`] factors and solves many small systems in one call.
 
 use crate::record::{self, OWN};
 use crate::refusal::{done, value, Refusal};
 use crate::{ffi, whole_columns, LARGEST};
+
+pub use crate::tray::{tray, Item, Tray};
 
 /// Factors the lower part of `a` (n·n numbers) in place and writes its pivot record (2n + 2 words), with `run` at its end.
 ///
@@ -207,7 +211,7 @@ pub fn l_permuted(a: &[f64], record: &[u32], l: &mut [f64], n: usize, run: u32) 
 }
 
 /// The row of the given matrix that stands at a row of the factor: the exchanges of the record, taken back from the last to the
-/// first. `record` is one that [`factor`], [`from_lapack`](crate::pivots::from_lapack) or
+/// first. `record` is one that [`factor`], [`tray`], [`from_lapack`](crate::pivots::from_lapack) or
 /// [`packed::lblt_factor`](crate::packed::lblt_factor) wrote for order n. Panics where it has fewer than 2n words.
 ///
 /// ```

@@ -29,8 +29,9 @@
 //! A matrix stands column by column: entry (i, j) of an n-by-n matrix is at `i + j * n`. In a Cholesky room s it is at
 //! `i + j * s`, and what is outside the first n rows and columns is kept. Of a symmetric matrix LBLT, Cholesky and the search
 //! for twins look at the entries with i ≥ j alone, UDU at those with i ≤ j. Orders, rooms and column counts go up to
-//! [`LARGEST`], the order of the [teaching engine](cholesky::teaching) up to [`TEACHING_LARGEST`]. Every `f64` is a content,
-//! infinities and NaN too; which NaN a result holds is not promised.
+//! [`LARGEST`], the order of the [teaching engine](cholesky::teaching) up to [`TEACHING_LARGEST`], that of a [tray](lblt::tray) up
+//! to [`TRAY_ORDER_LARGEST`] and its items up to [`TRAY_COUNT_LARGEST`]. Every `f64` is a content, infinities and NaN too; which
+//! NaN a result holds is not promised.
 //!
 //! # Packed triangles
 //!
@@ -41,6 +42,12 @@
 //! batch of a Cholesky makes new buffers, and no `solve_bench`, `d`, `l_permuted` nor, for Cholesky, `determinant`: for these
 //! unpack the factor. UDU, a Cholesky with a [substitute](Cholesky#substitutes) and the [teaching engine](cholesky::teaching) are
 //! in the full layout alone.
+//!
+//! # A tray
+//!
+//! Many small systems of one order, each with one right-hand side, are factored and solved in one call by [`lblt::tray`], over
+//! slices in which they stand end to end. Item by item it leaves what [`lblt::factor`] and [`lblt::solve_mut`] leave (proved of the
+//! library's calls), and gives a `Result` for each: where one is refused, those beside it are solved.
 //!
 //! # Three unknowns
 //!
@@ -69,6 +76,7 @@ pub mod udu;
 
 mod packed_cholesky;
 mod packed_lblt;
+mod tray;
 mod twins;
 
 pub use cholesky::{BatchRefusal, Cholesky};
@@ -84,6 +92,12 @@ pub const LARGEST: usize = 1024;
 
 /// The largest order of the teaching engine, [`cholesky::teaching`].
 pub const TEACHING_LARGEST: usize = 64;
+
+/// The largest order of a tray, [`lblt::tray`].
+pub const TRAY_ORDER_LARGEST: usize = 64;
+
+/// The most items that a tray, [`lblt::tray`], can have.
+pub const TRAY_COUNT_LARGEST: usize = 1024;
 
 /// The order to take memory for: 0 above [`LARGEST`], where a call is refused before it looks at a length.
 fn kept(order: usize) -> usize {

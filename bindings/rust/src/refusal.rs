@@ -13,12 +13,14 @@ use crate::ffi::{Determined, Floored};
 #[derive(Clone, Copy, Debug, PartialEq, Eq, Hash)]
 #[non_exhaustive]
 pub enum Refusal {
-    /// Code 1: an order, room or column count is above [`LARGEST`](crate::LARGEST), UDU has order 0, or the
-    /// [teaching engine](crate::cholesky::teaching) an order above [`TEACHING_LARGEST`](crate::TEACHING_LARGEST).
+    /// Code 1: an order, room or column count is above [`LARGEST`](crate::LARGEST), UDU has order 0, the
+    /// [teaching engine](crate::cholesky::teaching) an order above [`TEACHING_LARGEST`](crate::TEACHING_LARGEST), or a
+    /// [tray](crate::lblt::tray) an order above [`TRAY_ORDER_LARGEST`](crate::TRAY_ORDER_LARGEST) or more than
+    /// [`TRAY_COUNT_LARGEST`](crate::TRAY_COUNT_LARGEST) items.
     OutOfRange,
     /// Code 2: an order is above its room, or the earlier order above the order.
     OrderAboveRoom,
-    /// Code 3: the first matrix has the wrong length.
+    /// Code 3: the first matrix, or those of a [tray](crate::lblt::tray), have the wrong length.
     MatrixLength,
     /// Code 4: another slice has the wrong length.
     SliceLength,
@@ -105,7 +107,7 @@ impl fmt::Display for Refusal {
         match *self {
             Refusal::OutOfRange => write!(
                 f,
-                "an order, a room or a column count is above 1,024 (for the teaching engine an order above 64), or a UDU of order 0 was asked for: check the sizes that were sent"
+                "an order, a room, a column count or the items of a tray are above 1,024 (for the teaching engine and a tray an order above 64), or a UDU of order 0 was asked for: check the sizes that were sent"
             ),
             Refusal::OrderAboveRoom => write!(
                 f,
@@ -113,11 +115,11 @@ impl fmt::Display for Refusal {
             ),
             Refusal::MatrixLength => write!(
                 f,
-                "the matrix does not have order times order numbers (for a Cholesky, room times room; packed, order times (order + 1) / 2): check that it arrived whole"
+                "the matrix does not have order times order numbers (for a Cholesky, room times room; packed, order times (order + 1) / 2; in a tray, as many for each item): check that it arrived whole"
             ),
             Refusal::SliceLength => write!(
                 f,
-                "the pivot record, the LAPACK pivot list, the right-hand sides, the bench numbers, the new rows or the matrix to fill do not have the length that the order and the columns ask for: check that they belong to this matrix"
+                "the pivot record, the LAPACK pivot list, the right-hand sides, the bench numbers, the new rows, the matrix to fill or the run numbers and answers of a tray do not have the length that the order, the columns and the items ask for: check that they belong to this matrix or tray"
             ),
             Refusal::BadRecord { row } => write!(
                 f,

@@ -16,5 +16,6 @@ mod refusals;
 mod runs;
 mod substitutes;
 mod teaching;
+mod tray;
 mod twins;
 mod udu;
