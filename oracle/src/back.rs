@@ -30,5 +30,5 @@ pub fn given(there: &Case, back: &Case) -> Outcome {
         Call::PivotsFromLapack => (Some(info_and_run(there.info, there.run)), &back.record, &there.list),
         _ => (None, &there.record, &back.list),
     };
-    Outcome { answer: 0, value, a: vec![], b: vec![], c: vec![], record: record.clone(), benches: vec![], list: list.clone() }
+    Outcome { answer: 0, value, record: record.clone(), list: list.clone(), ..Outcome::default() }
 }

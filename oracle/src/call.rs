@@ -20,6 +20,18 @@ pub trait Calls {
     fn lblt_determinant(&self, a: &[f64], record: &[u32], n: usize, run: u32) -> (u64, f64);
     fn lblt_d(&self, a: &[f64], record: &[u32], d: &mut [f64], n: usize, run: u32) -> u64;
     fn lblt_l_permuted(&self, a: &[f64], record: &[u32], l: &mut [f64], n: usize, run: u32) -> u64;
+    /// The items laid end to end; each gets its own answer.
+    #[allow(clippy::too_many_arguments)]
+    fn lblt_tray(
+        &self,
+        a: &mut [f64],
+        records: &mut [u32],
+        b: &mut [f64],
+        runs: &[u32],
+        answers: &mut [u64],
+        n: usize,
+        count: usize,
+    ) -> u64;
     fn cholesky_factor(&self, a: &mut [f64], room: usize, n: usize) -> u64;
     fn cholesky_extend(&self, a: &mut [f64], room: usize, earlier: usize, n: usize) -> u64;
     /// The answer, and how many columns used the floor.
@@ -83,6 +95,7 @@ pub enum Call {
     LbltDeterminant,
     LbltD,
     LbltLPermuted,
+    LbltTray,
     CholeskyFactor,
     CholeskyExtend,
     CholeskyFactorFloored,
@@ -125,7 +138,7 @@ pub struct Form {
 #[derive(Clone, Copy, Debug, PartialEq, Eq)]
 pub enum Number {
     N,
-    /// The columns of `lblt_solve`, `lblt_solve_bench` and the packed solves, the earlier order of the packed further batch, or room.
+    /// The columns of `lblt_solve`, `lblt_solve_bench` and the packed solves, the items of a tray, the earlier order of the packed further batch, or room.
     X,
     /// Earlier order, or the columns of `cholesky_solve`.
     Y,
@@ -144,16 +157,19 @@ pub enum Slice {
     A,
     B,
     C,
+    /// Of a tray its items' records.
     Record,
     Benches,
     List,
+    Runs,
+    Answers,
 }
 
 use Number::{Bench, Floor, Info, N, Run, X, Y};
-use Slice::{A, B, Benches, C, List, Record};
+use Slice::{A, Answers, B, Benches, C, List, Record, Runs};
 
 #[rustfmt::skip]
-pub const FORMS: [Form; 29] = [
+pub const FORMS: [Form; 30] = [
     Form { call: LbltFactor, name: "lblt_factor", number: 1, numbers: &[N, Run], slices: &[A, Record], valued: false },
     Form { call: LbltSolve, name: "lblt_solve", number: 2, numbers: &[N, X, Run], slices: &[A, Record, B], valued: false },
     Form { call: LbltDeterminant, name: "lblt_determinant", number: 3, numbers: &[N, Run], slices: &[A, Record], valued: true },
@@ -183,6 +199,7 @@ pub const FORMS: [Form; 29] = [
     Form { call: CholeskyTeaching, name: "cholesky_teaching", number: 27, numbers: &[X, N], slices: &[A], valued: false },
     Form { call: HandheldFactor, name: "handheld_factor", number: 28, numbers: &[], slices: &[A, Record], valued: false },
     Form { call: HandheldSolve, name: "handheld_solve", number: 29, numbers: &[], slices: &[A, Record, B], valued: false },
+    Form { call: LbltTray, name: "lblt_tray", number: 30, numbers: &[N, X], slices: &[A, Record, B, Runs, Answers], valued: false },
 ];
 
 impl Call {
@@ -225,7 +242,8 @@ pub struct Case {
     pub call: Call,
     /// The order.
     pub n: usize,
-    /// `lblt_solve`, `lblt_solve_bench`, the packed solves: columns; `packed_cholesky_extend`: earlier order; Cholesky and twin rows: room.
+    /// `lblt_solve`, `lblt_solve_bench`, the packed solves: columns; `lblt_tray`: items; `packed_cholesky_extend`: earlier order; Cholesky and twin rows:
+    /// room.
     pub x: usize,
     /// `cholesky_extend`, `cholesky_extend_floored`, `first_twin_since`: earlier order; `cholesky_solve`: columns.
     pub y: usize,
@@ -237,22 +255,26 @@ pub struct Case {
     pub info: i32,
     /// The floored calls: what stands in for a diagonal that fails.
     pub floor: f64,
-    /// The first matrix.
+    /// The first matrix, or those of a tray.
     pub a: Vec<f64>,
     /// Right-hand sides, `d`, `l`, `u`, or the rows of the packed further batch.
     pub b: Vec<f64>,
     /// UDU's `d`, or the fresh buffer of the packed further batch.
     pub c: Vec<f64>,
-    /// Of the handheld its pivots: three indexes, three sizes, the mark.
+    /// Of the handheld its pivots: three indexes, three sizes, the mark; of a tray its records.
     pub record: Vec<u32>,
     /// A bench number for each column.
     pub benches: Vec<u32>,
     /// LAPACK's pivots, a number for each row.
     pub list: Vec<i32>,
+    /// A tray's run numbers, one for each item.
+    pub runs: Vec<u32>,
+    /// A tray's answers, likewise.
+    pub answers: Vec<u64>,
 }
 
 /// What a call answers and what it leaves in everything lent, as words in which all NaNs are one.
-#[derive(Clone, Debug, PartialEq, Eq)]
+#[derive(Clone, Debug, Default, PartialEq, Eq)]
 pub struct Outcome {
     pub answer: u64,
     pub value: Option<u64>,
@@ -262,6 +284,8 @@ pub struct Outcome {
     pub record: Vec<u32>,
     pub benches: Vec<u32>,
     pub list: Vec<i32>,
+    pub runs: Vec<u32>,
+    pub answers: Vec<u64>,
 }
 
 pub const NAN: u64 = 0x7ff8_0000_0000_0000;
@@ -296,13 +320,13 @@ pub fn words(s: &[f64]) -> Vec<u64> {
 
 impl Case {
     pub fn new(call: Call, n: usize, a: Vec<f64>) -> Case {
-        let (b, c, record, benches, list) = (vec![], vec![], vec![], vec![], vec![]);
-        Case { call, n, x: 0, y: 0, bench: 0, run: 0, info: 0, floor: 0.0, a, b, c, record, benches, list }
+        let (b, c, record, benches, list, runs, answers) = (vec![], vec![], vec![], vec![], vec![], vec![], vec![]);
+        Case { call, n, x: 0, y: 0, bench: 0, run: 0, info: 0, floor: 0.0, a, b, c, record, benches, list, runs, answers }
     }
 
     /// Runs the call on what is lent, in place.
     pub fn run_in_place(&mut self, calls: &dyn Calls) -> (u64, Option<u64>) {
-        let Case { call, n, x, y, bench, run, info, floor, a, b, c, record, benches, list } = self;
+        let Case { call, n, x, y, bench, run, info, floor, a, b, c, record, benches, list, runs, answers } = self;
         let (n, x, y, bench, run, info, floor) = (*n, *x, *y, *bench, *run, *info, *floor);
         match call {
             LbltFactor => (calls.lblt_factor(a, record, n, run), None),
@@ -311,6 +335,7 @@ impl Case {
             LbltDeterminant => with_value(calls.lblt_determinant(a, record, n, run)),
             LbltD => (calls.lblt_d(a, record, b, n, run), None),
             LbltLPermuted => (calls.lblt_l_permuted(a, record, b, n, run), None),
+            LbltTray => (calls.lblt_tray(a, record, b, runs, answers, n, x), None),
             CholeskyFactor => (calls.cholesky_factor(a, x, n), None),
             CholeskyExtend => (calls.cholesky_extend(a, x, y, n), None),
             CholeskyFactorFloored => with_count(calls.cholesky_factor_floored(a, x, n, floor)),
@@ -353,7 +378,8 @@ impl Case {
         let mut after = self.clone();
         let (answer, value) = after.run_in_place(calls);
         let [a, b, c] = [&after.a, &after.b, &after.c].map(|s| words(s));
-        Outcome { answer, value, a, b, c, record: after.record, benches: after.benches, list: after.list }
+        let Case { record, benches, list, runs, answers, .. } = after;
+        Outcome { answer, value, a, b, c, record, benches, list, runs, answers }
     }
 
     /// The second number of its call in a stored list: of a list's reader INFO's 32 bits.
@@ -361,14 +387,22 @@ impl Case {
         if self.call.form().numbers.contains(&Info) { self.info as u32 as usize } else { self.x }
     }
 
-    /// The third one: of the calls that take a run number that number in the low half and the bench in the high one.
+    /// The third one: of the calls that take a run number that number in the low half and the bench in the high one, of a tray how many run numbers it has.
     pub fn third(&self) -> usize {
-        if self.call.form().numbers.contains(&Run) { (self.bench as usize) << 32 | self.run as usize } else { self.y }
+        let form = self.call.form();
+        if form.numbers.contains(&Run) {
+            (self.bench as usize) << 32 | self.run as usize
+        } else if form.slices.contains(&Runs) {
+            self.runs.len()
+        } else {
+            self.y
+        }
     }
 
     /// How much there is to read in it.
     pub fn size(&self) -> usize {
-        self.a.len() + self.b.len() + self.c.len() + self.record.len() + self.benches.len() + self.list.len()
+        let floats = self.a.len() + self.b.len() + self.c.len();
+        floats + self.record.len() + self.benches.len() + self.list.len() + self.runs.len() + self.answers.len()
     }
 }
 

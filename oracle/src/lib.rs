@@ -58,6 +58,7 @@ pub mod paper;
 pub mod tail;
 pub mod teaching;
 pub mod text;
+pub mod tray;
 
 /// The text.
 pub mod linalg {

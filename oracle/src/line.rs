@@ -31,6 +31,8 @@ pub fn case_line(case: &Case) -> String {
             Slice::Record => small(&mut out, &case.record),
             Slice::Benches => small(&mut out, &case.benches),
             Slice::List => signed(&mut out, &case.list),
+            Slice::Runs => small(&mut out, &case.runs),
+            Slice::Answers => big(&mut out, &case.answers),
         }
     }
     out
@@ -53,6 +55,8 @@ pub fn outcome_line(case: &Case, outcome: &Outcome) -> String {
             Slice::Record => small(&mut out, &outcome.record),
             Slice::Benches => small(&mut out, &outcome.benches),
             Slice::List => signed(&mut out, &outcome.list),
+            Slice::Runs => small(&mut out, &outcome.runs),
+            Slice::Answers => big(&mut out, &outcome.answers),
         }
     }
     out
@@ -110,6 +114,8 @@ pub fn parse_case(line: &str) -> Result<Case, String> {
             Slice::Record => case.record = halves()?,
             Slice::Benches => case.benches = halves()?,
             Slice::List => case.list = halves()?.iter().map(|&w| w as i32).collect(),
+            Slice::Runs => case.runs = halves()?,
+            Slice::Answers => case.answers = words,
         }
     }
     match parts.next() {

@@ -18,8 +18,8 @@ pub const SWEEP: u64 = 9;
 pub const REPEAT: u64 = 10;
 pub const PLACES: u64 = 11;
 
-/// The most that A, B and C have to hold as f64, C as bench numbers or as a list, and R.
-pub const MOST: [usize; 3] = [4096, 64, 130];
+/// The most that A, B and C have to hold as f64, C as bench numbers or as a list, and R. Of a tray C holds at most 1,025 run numbers and as many answers.
+pub const MOST: [usize; 3] = [4096, 64, 4096];
 
 pub fn step(mut x: u64) -> u64 {
     x ^= x << 13;
@@ -39,7 +39,7 @@ fn number(slice: Slice) -> u64 {
     match slice {
         Slice::A => 0,
         Slice::B => 1,
-        Slice::C | Slice::Benches | Slice::List => 2,
+        Slice::C | Slice::Benches | Slice::List | Slice::Runs | Slice::Answers => 2,
         Slice::Record => 3,
     }
 }
@@ -221,7 +221,7 @@ impl<'a> Machine<'a> {
         match slice {
             Slice::A => self.held.a = floats(),
             Slice::B => self.held.b = floats(),
-            Slice::C | Slice::Benches | Slice::List => self.held.c = floats(),
+            Slice::C | Slice::Benches | Slice::List | Slice::Runs | Slice::Answers => self.held.c = floats(),
             Slice::Record => self.held.record = words.iter().map(|&w| w as u32).collect(),
         }
     }
@@ -241,7 +241,7 @@ impl<'a> Machine<'a> {
         match slice {
             Slice::A => self.held.a.iter().map(|&x| word(x)).collect(),
             Slice::B => self.held.b.iter().map(|&x| word(x)).collect(),
-            Slice::C | Slice::Benches | Slice::List => self.held.c.iter().map(|&x| word(x)).collect(),
+            Slice::C | Slice::Benches | Slice::List | Slice::Runs | Slice::Answers => self.held.c.iter().map(|&x| word(x)).collect(),
             Slice::Record => self.held.record.iter().map(|&w| w as u64).collect(),
         }
     }
@@ -251,14 +251,21 @@ impl<'a> Machine<'a> {
         self.calls_made += 1;
         let form = form(call);
         let (y, bench, run) = if form.numbers.contains(&Number::Run) { (0, (y >> 32) as u32, y as u32) } else { (y, 0, 0) };
-        let benches: Vec<u32> = self.words(Slice::C).iter().map(|&w| w as u32).collect();
+        let held_by_c = self.words(Slice::C);
+        let benches: Vec<u32> = held_by_c.iter().map(|&w| w as u32).collect();
         let list = benches.iter().map(|&w| w as i32).collect();
+        let (runs, answers) =
+            if form.slices.contains(&Slice::Runs) { (benches[..y].to_vec(), held_by_c[y..].to_vec()) } else { (vec![], vec![]) };
         let held = std::mem::replace(&mut self.held, Case::new(form.call, 0, vec![]));
         let floor = if form.numbers.contains(&Number::Floor) { the_one(&held.c) } else { 0.0 };
-        self.held = Case { call: form.call, n, x, y, bench, run, info: x as i32, floor, benches, list, ..held };
+        self.held = Case { call: form.call, n, x, y, bench, run, info: x as i32, floor, benches, list, runs, answers, ..held };
         let (answer, value) = self.held.run_in_place(self.calls);
         if form.slices.contains(&Slice::List) && written(form.call, Slice::List) {
             self.held.c = self.held.list.iter().map(|&number| f64::from_bits(number as u32 as u64)).collect();
+        }
+        if form.slices.contains(&Slice::Answers) {
+            let runs = self.held.runs.iter().map(|&run| run as u64);
+            self.held.c = runs.chain(self.held.answers.iter().copied()).map(f64::from_bits).collect();
         }
         (answer, value.unwrap_or(0))
     }
@@ -460,6 +467,7 @@ impl<'a> Writer<'a> {
 fn written(call: Call, slice: Slice) -> bool {
     match call {
         Call::LbltFactor | Call::PackedLbltFactor | Call::HandheldFactor => true,
+        Call::LbltTray => slice != Slice::Runs,
         Call::CholeskyFactor | Call::CholeskyExtend | Call::CholeskyUnpack | Call::PackedCholeskyFactor => true,
         Call::CholeskyFactorFloored | Call::CholeskyExtendFloored | Call::CholeskyTeaching => true,
         Call::PivotsFromLapack => slice == Slice::Record,

@@ -46,7 +46,7 @@ fn print_family(seed: &str) -> Result<(), Box<dyn std::error::Error>> {
             writeln!(out, "{}", case_line(&case))?;
         }
     }
-    for case in cases::floored(seed).iter().chain(&cases::taught(seed)).chain(&cases::held(seed)) {
+    for case in cases::floored(seed).iter().chain(&cases::taught(seed)).chain(&cases::held(seed)).chain(&cases::trays(seed)) {
         writeln!(out, "{}", case_line(case))?;
     }
     let (chain, floor) = cases::floored_chain(seed);

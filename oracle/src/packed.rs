@@ -92,7 +92,7 @@ fn triangle(full: &Case, order: usize) -> Vec<f64> {
 pub fn kept(packed: &Case, full: &Case, left: &Outcome) -> Outcome {
     let [a, b, c] = [&packed.a, &packed.b, &packed.c].map(|s| words(s));
     let (answer, value, record) = (left.answer, left.value, left.record.clone());
-    let as_given = Outcome { answer, value, a, b, c, record, benches: vec![], list: vec![] };
+    let as_given = Outcome { answer, value, a, b, c, record, ..Outcome::default() };
     let worked = matches!(left.answer / 4096, 0 | 7 | 10 | 11);
     match packed.call {
         Call::PackedLbltFactor | Call::PackedCholeskyFactor if worked => Outcome { a: pack(&left.a, room(full), full.n), ..as_given },
@@ -152,5 +152,5 @@ pub fn by_the_whole(last: &Case, whole: &Case, left: &Outcome) -> Outcome {
     let handed_in = left.answer % 4096 < last.n as u64;
     let [a, b] = [&last.a, &last.b].map(|s| words(s));
     let c = leading(&left.a, whole.n, last.n);
-    Outcome { answer: if handed_in { left.answer } else { 0 }, value: None, a, b, c, record: vec![], benches: vec![], list: vec![] }
+    Outcome { answer: if handed_in { left.answer } else { 0 }, a, b, c, ..Outcome::default() }
 }

@@ -1,6 +1,6 @@
 //! The calls, written from document 01's steps and without the text: a matrix is read and written by `a[(i, j)]`, the loops run entry by entry.
 //! Cholesky's solve, the codes of a diagonal that is turned down, the floor and how many columns used it, the row that a mark may name, the run number,
-//! the bench's solve, LAPACK's lists and packed triangles are written from document 02. The packed calls take the same steps on the packed places;
+//! the bench's solve, the tray, LAPACK's lists and packed triangles are written from document 02. The packed calls take the same steps on the packed places;
 //! nothing is unpacked. The teaching call is worked out row by row, in `by_rows`, the handheld's calls entry by entry, in `handheld`.
 //! The calls for rows that came twice are written from what twin rows are: all pairs are compared, one after the other.
 
@@ -598,6 +598,36 @@ impl Calls for Paper {
             }
         }
         refused
+    }
+
+    fn lblt_tray(
+        &self,
+        a: &mut [f64],
+        records: &mut [u32],
+        b: &mut [f64],
+        runs: &[u32],
+        answers: &mut [u64],
+        n: usize,
+        count: usize,
+    ) -> u64 {
+        if count > 1024 || n > 64 {
+            return code(1, 0);
+        }
+        if a.len() != count * n * n {
+            return code(3, 0);
+        }
+        if records.len() != count * (2 * n + 2) || b.len() != count * n || runs.len() != count || answers.len() != count {
+            return code(4, 0);
+        }
+        let (mut matrices, mut records, mut sides) = (a, records, b);
+        for (run, answer) in runs.iter().zip(answers) {
+            let matrix = matrices.split_off_mut(..n * n).expect("a matrix for each item");
+            let record = records.split_off_mut(..2 * n + 2).expect("a record for each item");
+            let side = sides.split_off_mut(..n).expect("a side for each item");
+            lblt_factor(full(&mut *matrix, n), record, n, *run);
+            *answer = lblt_solve(&full(&*matrix, n), record, side, n, 1, *run);
+        }
+        0
     }
 
     fn cholesky_factor(&self, a: &mut [f64], room: usize, n: usize) -> u64 {

@@ -24,7 +24,7 @@ pub fn trailing<T: Copy>(a: &[T], n: usize, m: usize) -> Vec<T> {
 pub fn tail(block: &Case, m: usize, whole: &Outcome) -> Outcome {
     let u = trailing(&whole.b, m + block.n, m);
     let c = whole.c[m..].to_vec();
-    Outcome { answer: answer(m, whole.answer), value: None, a: words(&block.a), b: u, c, record: vec![], benches: vec![], list: vec![] }
+    Outcome { answer: answer(m, whole.answer), a: words(&block.a), b: u, c, ..Outcome::default() }
 }
 
 /// Refused at j − m if the whole is refused at j ≥ m, else done.

@@ -4,10 +4,11 @@
 //! `determinant` and `UDU::new`. What follows document 01 because the text says nothing of it is marked "document 01": the checks before a call, the
 //! room, the further batch, and what stays in the buffers after a refusal. Marked "document 02" are the codes of a diagonal that is turned down, the
 //! floor of a further batch and how many columns used it, the orders of the teaching call and the rows that it reaches, the row that a mark may name, the
-//! run number, which columns are a bench's, LAPACK's lists: each number of a list is a pair of a record, and the record's rule is the list's; and packed
-//! triangles: they are unpacked, answered in the full layout and packed again. The text has no call for rows that came twice, and its Cholesky solve rests
-//! on triangular solves that it does not contain: the steps answer these calls here too, in the full layout. The handheld's calls are the text's own at order
-//! 3; the rule of its pivots is document 01's with document 02's of a mark.
+//! run number, which columns are a bench's, a tray's sizes and its items' answers (each item has a factor and a solve of the text's own), LAPACK's lists:
+//! each number of a list is a pair of a record, and the record's rule is the list's; and packed triangles: they are unpacked, answered in the full layout
+//! and packed again. The text has no call for rows that came twice, and its Cholesky solve rests on triangular solves that it does not contain: the steps
+//! answer these calls here too, in the full layout. The handheld's calls are the text's own at order 3; the rule of its pivots is document 01's with document
+//! 02's of a mark.
 
 use crate::call::{Calls, Matrix3, Pivots3, mark, pairs, record_length, three_columns};
 use crate::linalg::cholesky::Cholesky;
@@ -116,6 +117,20 @@ pub fn lblt_of(a: &[f64], record: &[u32], n: usize) -> LBLT<f64, Dyn> {
     let pairs = (0..n).map(|k| (record[2 * k] as usize, record[2 * k + 1] as usize)).collect();
     let mark = (record[2 * n] as usize).checked_sub(1);
     parts::together((square(n, a.to_vec()), OMatrix::from_vec(Dyn(n), crate::U1, pairs), mark))
+}
+
+/// The text's factor goes into a matrix and a record of its order. The row that it marks.
+fn lend_back(factor: LBLT<f64, Dyn>, a: &mut [f64], record: &mut [u32], run: u32) -> Option<usize> {
+    let (matrix, pivots, zero_pivot) = parts::apart(factor);
+    a.copy_from_slice(matrix.as_slice());
+    let pivots = pivots.as_slice();
+    for (k, &(index, size)) in pivots.iter().enumerate() {
+        record[2 * k] = index as u32;
+        record[2 * k + 1] = size as u32;
+    }
+    record[2 * pivots.len()] = zero_pivot.map_or(0, |k| k as u32 + 1);
+    record[2 * pivots.len() + 1] = run; // document 02
+    zero_pivot
 }
 
 /// Document 01: the first n rows and columns of a room.
@@ -265,14 +280,7 @@ impl Calls for Text {
         if let Some(refused) = checks::factored(a, record, n) {
             return refused;
         }
-        let (matrix, pivots, zero_pivot) = parts::apart(LBLT::new(square(n, a.to_vec())));
-        a.copy_from_slice(matrix.as_slice());
-        for (k, &(index, size)) in pivots.as_slice().iter().enumerate() {
-            record[2 * k] = index as u32;
-            record[2 * k + 1] = size as u32;
-        }
-        record[2 * n] = zero_pivot.map_or(0, |k| k as u32 + 1);
-        record[2 * n + 1] = run; // document 02
+        lend_back(LBLT::new(square(n, a.to_vec())), a, record, run);
         DONE
     }
 
@@ -341,6 +349,41 @@ impl Calls for Text {
             l.copy_from_slice(lblt_of(a, record, n).l_permuted().as_slice());
         }
         refused.unwrap_or(DONE)
+    }
+
+    /// Document 02: the text factors each item, and solves its side by what it has just made.
+    fn lblt_tray(
+        &self,
+        a: &mut [f64],
+        records: &mut [u32],
+        b: &mut [f64],
+        runs: &[u32],
+        answers: &mut [u64],
+        n: usize,
+        count: usize,
+    ) -> u64 {
+        let refused = checks::counts(&[count])
+            .or_else(|| (n > 64).then(|| refusal(1, 0)))
+            .or_else(|| checks::first(a.len(), count * n * n))
+            .or_else(|| checks::another(records.len(), count * record_length(n)))
+            .or_else(|| checks::another(b.len(), count * n))
+            .or_else(|| checks::another(runs.len(), count))
+            .or_else(|| checks::another(answers.len(), count));
+        if let Some(refused) = refused {
+            return refused;
+        }
+        for item in 0..count {
+            let numbers = &mut a[item * n * n..][..n * n];
+            let side = &mut b[item * n..][..n];
+            let factor = LBLT::new(square(n, numbers.to_vec()));
+            let mut solution = OMatrix::from_vec(Dyn(n), Dyn(1), side.to_vec());
+            let solved = factor.solve_mut(&mut solution);
+            side.copy_from_slice(solution.as_slice());
+            let record = &mut records[item * record_length(n)..][..record_length(n)];
+            let mark = lend_back(factor, numbers, record, runs[item]);
+            answers[item] = if solved { DONE } else { refusal(6, mark.expect("the text solves where there is none")) };
+        }
+        DONE
     }
 
     fn cholesky_factor(&self, a: &mut [f64], room: usize, n: usize) -> u64 {

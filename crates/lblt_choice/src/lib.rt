@@ -1,9 +1,13 @@
 // Which pivot step k takes.
+ghost use mathlib.Core.Bool.{not};
 ghost use mathlib.Core.Path.{_≡_};
 ghost use Prim.Native.Nat.{_+_, _≤_, _<_};
 ghost use Rattle.matrix.specs.Grid.{load};
 ghost use Rattle.matrix.specs.Layouts.{lower, Laid};
+ghost use lib.Dec.{T};
+ghost use lib.Ieee.{isNan};
 ghost use Rattle.leaf.specs.Abs.{absOf};
+ghost use Rattle.leaf.specs.Maximum.{maximumOf};
 ghost use Rattle.lblt_choice.specs.Choice.{greater, columnMax, alongRow, downColumn, rowMax, contest, choose};
 use leaf::abs;
 use leaf::maximum;
@@ -65,22 +69,38 @@ fn column_max(y: Layout, a: &[f64], k: usize) -> Largest
     top
 }
 
+// The larger of a number that is no NaN and any other.
+fn larger(most: f64, x: f64) -> f64
+    requires { ⌜ T (not (isNan most)) ⌝ }
+    ensures { λ r. ⌜ r ≡ maximumOf most x ⌝ }
+    ensures { λ r. ⌜ T (not (isNan r)) ⌝ }
+{
+    if most < x {
+        return x;
+    }
+    most
+}
+
 fn along_row(y: Layout, a: &[f64], i: usize, j: usize, rowmax: f64) -> f64
     requires { ⌜ Laid y (now a) ⌝ }
     requires { ⌜ j ≤ i ⌝ }
     requires { ⌜ i < y .order ⌝ }
+    requires { ⌜ T (not (isNan rowmax)) ⌝ }
     ensures { λ r. ⌜ r ≡ alongRow (load (lower y) (now (a .entry))) i j rowmax ⌝ }
+    ensures { λ r. ⌜ T (not (isNan r)) ⌝ }
 {
-    maximum(rowmax, abs(get(y, a, i, j)))
+    larger(rowmax, abs(get(y, a, i, j)))
 }
 
 fn down_column(y: Layout, a: &[f64], i: usize, j: usize, rowmax: f64) -> f64
     requires { ⌜ Laid y (now a) ⌝ }
     requires { ⌜ i ≤ j ⌝ }
     requires { ⌜ j < y .order ⌝ }
+    requires { ⌜ T (not (isNan rowmax)) ⌝ }
     ensures { λ r. ⌜ r ≡ downColumn (load (lower y) (now (a .entry))) i j rowmax ⌝ }
+    ensures { λ r. ⌜ T (not (isNan r)) ⌝ }
 {
-    maximum(rowmax, abs(get(y, a, j, i)))
+    larger(rowmax, abs(get(y, a, j, i)))
 }
 
 fn row_max(y: Layout, a: &[f64], k: usize, i: usize) -> f64

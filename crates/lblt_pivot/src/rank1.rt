@@ -77,15 +77,7 @@ fn rank1_pair_first(
     row
 }
 
-fn rank1_pair_columns(
-    y: Layout,
-    a: &mut [f64],
-    k: usize,
-    j: usize,
-    inv: f64,
-    ajk: f64,
-    aj1k: f64,
-)
+fn rank1_pair_columns(y: Layout, a: &mut [f64], k: usize, j: usize, inv: f64, ajk: f64, aj1k: f64)
     requires { ⌜ Laid y (now a) ⌝ }
     requires { ⌜ k < j ⌝ }
     requires { ⌜ j + 1 < y .order ⌝ }

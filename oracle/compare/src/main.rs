@@ -5,12 +5,14 @@
 //! or a record against what comes back of it. Beside every full call that has one its packed call is made and held against it, and packed batches are held
 //! against one packed call on the whole and against the batches of the full layout. Beside every plain factor and further batch of Cholesky floored calls
 //! are made and held against it, and floored batches against one floored call. Beside every plain factor of Cholesky the teaching call is made and held
-//! against it. Beside every lent factor and solve of order 3 the handheld's calls are made and held against the lent ones. What is packed or floored, the
-//! teaching call and the handheld's calls are counted by themselves.
+//! against it. Beside every lent factor and solve of order 3 the handheld's calls are made and held against the lent ones. Trays are held against a factor
+//! and a solve of each item, and against trays with another item in one place. What is packed or floored, the teaching call, the handheld's calls and trays
+//! are counted by themselves.
 
 mod floored;
 mod handheld;
 mod teaching;
+mod tray;
 
 use std::collections::BTreeMap;
 use std::process::ExitCode;
@@ -25,6 +27,7 @@ use oracle::{back, packed, pair, tail};
 use floored::Floored;
 use handheld::Held;
 use teaching::Taught;
+use tray::Trays;
 
 fn main() -> ExitCode {
     let words: Vec<String> = std::env::args().skip(1).collect();
@@ -85,10 +88,14 @@ fn main() -> ExitCode {
     cases::held_few().chain(cases::held_special()).for_each(|case| tally.hold_held(&case));
     cases::held_pivots().chain(cases::held_sides()).for_each(|case| tally.hold_held(&case));
     println!("handheld beside these, and of their own: {} calls", tally.held.calls());
+    let trays = [cases::trays_small(), cases::trays_of_all_orders(), cases::tray_refusals(), cases::largest_trays()];
+    trays.iter().flatten().for_each(|case| tally.hold_tray(case));
+    cases::trays_of_many().for_each(|case| tally.hold_tray(&case));
+    println!("trays: {} calls", tally.trays.calls());
     let before = tally.calls();
     let (packed_calls, packed_chains) = (tally.packed.calls(), tally.packed.chains());
     let (floored_calls, floored_chains) = (tally.floored.calls(), tally.floored.chains());
-    let (taught_calls, held_calls) = (tally.taught.calls(), tally.held.calls());
+    let (taught_calls, held_calls, tray_calls) = (tally.taught.calls(), tally.held.calls(), tally.trays.calls());
     for seed in first..first + seeds {
         let family = cases::family(seed);
         family.cases.iter().for_each(|case| tally.hold(case));
@@ -106,6 +113,7 @@ fn main() -> ExitCode {
         tally.hold_floored_chain(&chain, floor);
         cases::taught(seed).iter().for_each(|case| tally.hold_taught(case));
         cases::held(seed).iter().for_each(|case| tally.hold_held(case));
+        cases::trays(seed).iter().for_each(|case| tally.hold_tray(case));
     }
     println!("seeds {first} to {}: {} calls", (first + seeds).saturating_sub(1), tally.calls() - before);
     let (calls, chains) = (tally.packed.calls() - packed_calls, tally.packed.chains() - packed_chains);
@@ -114,6 +122,7 @@ fn main() -> ExitCode {
     println!("floored beside these, and of their own: {calls} calls, {chains} chains");
     println!("teaching beside these, and of their own: {} calls", tally.taught.calls() - taught_calls);
     println!("handheld beside these, and of their own: {} calls", tally.held.calls() - held_calls);
+    println!("trays: {} calls", tally.trays.calls() - tray_calls);
     tally.print(against);
     if tally.differences == 0 { ExitCode::SUCCESS } else { ExitCode::FAILURE }
 }
@@ -135,6 +144,7 @@ struct Tally<'a> {
     floored: Floored,
     taught: Taught,
     held: Held,
+    trays: Trays,
     differences: u64,
     smallest: Option<(usize, String)>,
 }
@@ -206,6 +216,7 @@ impl<'a> Tally<'a> {
             floored: Floored::default(),
             taught: Taught::default(),
             held: Held::default(),
+            trays: Trays::default(),
             differences: 0,
             smallest: None,
         }
@@ -460,9 +471,10 @@ impl<'a> Tally<'a> {
         self.floored.print();
         self.taught.print();
         self.held.print();
+        self.trays.print();
         println!(
             "text against {against}: {} calls, {} chains, {} blocks, {} pairs, {} there and back, {} packed calls, {} packed chains, \
-             {} floored calls, {} floored chains, {} teaching calls, {} handheld calls, {} differ",
+             {} floored calls, {} floored chains, {} teaching calls, {} handheld calls, {} trays, {} differ",
             self.calls(),
             self.chains,
             self.tails.accepted + self.tails.before + self.tails.within,
@@ -474,6 +486,7 @@ impl<'a> Tally<'a> {
             self.floored.chains(),
             self.taught.calls(),
             self.held.calls(),
+            self.trays.calls(),
             self.differences
         );
         if let Some((_, said)) = &self.smallest {

@@ -98,6 +98,20 @@ unsafe extern "C" {
         n: usize,
         run: u32,
     ) -> u64;
+    fn urgyelpat_lblt_tray(
+        a: *mut f64,
+        a_len: usize,
+        records: *mut u32,
+        records_len: usize,
+        b: *mut f64,
+        b_len: usize,
+        runs: *const u32,
+        runs_len: usize,
+        answers: *mut u64,
+        answers_len: usize,
+        n: usize,
+        count: usize,
+    ) -> u64;
     fn urgyelpat_cholesky_factor(a: *mut f64, a_len: usize, room: usize, n: usize) -> u64;
     fn urgyelpat_cholesky_extend(a: *mut f64, a_len: usize, room: usize, earlier: usize, n: usize) -> u64;
     fn urgyelpat_cholesky_factor_floored(a: *mut f64, a_len: usize, room: usize, n: usize, floor: f64) -> Floored;
@@ -215,6 +229,35 @@ impl Calls for Port {
     #[inline]
     fn lblt_l_permuted(&self, a: &[f64], record: &[u32], l: &mut [f64], n: usize, run: u32) -> u64 {
         unsafe { urgyelpat_lblt_l_permuted(a.as_ptr(), a.len(), record.as_ptr(), record.len(), l.as_mut_ptr(), l.len(), n, run) }
+    }
+
+    #[inline]
+    fn lblt_tray(
+        &self,
+        a: &mut [f64],
+        records: &mut [u32],
+        b: &mut [f64],
+        runs: &[u32],
+        answers: &mut [u64],
+        n: usize,
+        count: usize,
+    ) -> u64 {
+        unsafe {
+            urgyelpat_lblt_tray(
+                a.as_mut_ptr(),
+                a.len(),
+                records.as_mut_ptr(),
+                records.len(),
+                b.as_mut_ptr(),
+                b.len(),
+                runs.as_ptr(),
+                runs.len(),
+                answers.as_mut_ptr(),
+                answers.len(),
+                n,
+                count,
+            )
+        }
     }
 
     #[inline]

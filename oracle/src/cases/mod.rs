@@ -11,6 +11,7 @@ mod packed;
 mod rng;
 mod solves;
 mod teaching;
+mod trays;
 mod twins;
 
 pub use benches::{bench_lists, benches, benches_of_all_orders, largest_benches};
@@ -27,4 +28,5 @@ pub use packed::{chains_of_all_cuts, full_calls_on_triangles, largest_chains, la
 pub use rng::Rng;
 pub use solves::{largest_solves, solves, solves_of_all_orders};
 pub use teaching::{largest_taught, taught, taught_orders, taught_refusals, taught_small};
+pub use trays::{largest_trays, tray_refusals, trays, trays_of_all_orders, trays_of_many, trays_small};
 pub use twins::{largest_twins, twins};

@@ -14,7 +14,7 @@ const ABOVE: f64 = f64::from_bits(ALPHA.to_bits() + 1);
 const BELOW: f64 = f64::from_bits(ALPHA.to_bits() - 1);
 
 /// Numbers from seeds side by side are alike: these are far apart.
-const SPREAD: u64 = 0x9e37_79b9_7f4a_7c15;
+pub const SPREAD: u64 = 0x9e37_79b9_7f4a_7c15;
 
 pub fn lblt(w: &mut Writer) {
     by_hand(w);

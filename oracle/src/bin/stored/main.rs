@@ -4,6 +4,7 @@
 mod floored;
 mod handheld;
 mod teaching;
+mod tray;
 
 use std::path::Path;
 use std::process::ExitCode;
@@ -77,6 +78,9 @@ fn emit(w: &mut Writer, case: &Case) -> u64 {
             Slice::Record => halves(&case.record),
             Slice::Benches => halves(&case.benches),
             Slice::List => signed(&case.list),
+            Slice::Runs => [halves(&case.runs), case.answers.clone()].concat(),
+            // behind the run numbers
+            Slice::Answers => continue,
         };
         set_unless_there(w, slice, &words);
     }
@@ -266,6 +270,7 @@ fn lblt(w: &mut Writer) {
     lists(w);
     packed_lblt(w);
     handheld::lblt(w);
+    tray::lblt(w);
 }
 
 /// A bench's call on what the registers hold.
@@ -621,7 +626,7 @@ fn cholesky_solves(w: &mut Writer) {
         (2, &[1.0, 0.0, 1.0], &[-0.0, -1.0]),
     ];
     for (n, lower, b) in first {
-        let columns = if n == 0 { 3 } else { b.len() / n };
+        let columns = b.len().checked_div(n).unwrap_or(3);
         emit_all(w, [&Case { x: n, y: columns, b: b.to_vec(), ..Case::new(Call::CholeskySolve, n, matrix(n, lower)) }]);
     }
     refusals(w, &[Call::CholeskySolve]);
