@@ -36,7 +36,7 @@ trayTable =
     (lbltTray 2 3 (7 ∷ 8 ∷ 9 ∷ []) pairs pairSides 0
     ⇒ done ∷ (0 ∷ []) ∷ (0 ∷ 1 ∷ 1 ∷ 1 ∷ 0 ∷ 7 ∷ []) ∷ (bits.four ∷ bits.half ∷ stray ∷ bits.two ∷ []) ∷ (bits.one ∷ bits.two ∷ []) ∷ [])
     ∷ (lbltTray 2 3 (7 ∷ 8 ∷ 9 ∷ []) pairs pairSides 1
-    ⇒ done ∷ (6 * 4096 + 1 ∷ []) ∷ (0 ∷ 1 ∷ 1 ∷ 1 ∷ 2 ∷ 8 ∷ []) ∷ (bits.one ∷ bits.one ∷ stray ∷ bits.zero ∷ []) ∷ (bits.three ∷ bits.five ∷ []) ∷ [])
+    ⇒ done ∷ ((6 * 4096 + 1) ∷ []) ∷ (0 ∷ 1 ∷ 1 ∷ 1 ∷ 2 ∷ 8 ∷ []) ∷ (bits.one ∷ bits.one ∷ stray ∷ bits.zero ∷ []) ∷ (bits.three ∷ bits.five ∷ []) ∷ [])
     ∷ (lbltTray 2 3 (7 ∷ 8 ∷ 9 ∷ []) pairs pairSides 2
     ⇒ done ∷ (0 ∷ []) ∷ (1 ∷ 1 ∷ 1 ∷ 1 ∷ 0 ∷ 9 ∷ []) ∷ (bits.four ∷ bits.quarter ∷ stray ∷ bits.minusQuarter ∷ []) ∷ (bits.one ∷ bits.one ∷ []) ∷ [])
     -- three blocks of one row; a block of two, then one of one; and the other way round; a mark at row 2
@@ -47,7 +47,7 @@ trayTable =
     ∷ (lbltTray 3 4 (7 ∷ 7 ∷ 8 ∷ 8 ∷ []) threes threeSides 2
     ⇒ done ∷ (0 ∷ []) ∷ (0 ∷ 1 ∷ 2 ∷ 2 ∷ 2 ∷ 2 ∷ 0 ∷ 8 ∷ []) ∷ (bits.two ∷ bits.zero ∷ bits.zero ∷ stray ∷ bits.zero ∷ bits.one ∷ stray ∷ stray ∷ bits.zero ∷ []) ∷ (bits.two ∷ bits.two ∷ bits.five ∷ []) ∷ [])
     ∷ (lbltTray 3 4 (7 ∷ 7 ∷ 8 ∷ 8 ∷ []) threes threeSides 3
-    ⇒ done ∷ (6 * 4096 + 2 ∷ []) ∷ (1 ∷ 2 ∷ 1 ∷ 2 ∷ 2 ∷ 1 ∷ 3 ∷ 8 ∷ []) ∷ (bits.zero ∷ bits.three ∷ bits.zero ∷ stray ∷ bits.zero ∷ bits.minusOne ∷ stray ∷ stray ∷ bits.zero ∷ []) ∷ (bits.four ∷ bits.five ∷ bits.two ∷ []) ∷ [])
+    ⇒ done ∷ ((6 * 4096 + 2) ∷ []) ∷ (1 ∷ 2 ∷ 1 ∷ 2 ∷ 2 ∷ 1 ∷ 3 ∷ 8 ∷ []) ∷ (bits.zero ∷ bits.three ∷ bits.zero ∷ stray ∷ bits.zero ∷ bits.minusOne ∷ stray ∷ stray ∷ bits.zero ∷ []) ∷ (bits.four ∷ bits.five ∷ bits.two ∷ []) ∷ [])
     -- order 0: no numbers, no rows
     ∷ (lbltTray 0 2 (7 ∷ 8 ∷ []) [] [] 1 ⇒ done ∷ (0 ∷ []) ∷ (0 ∷ 8 ∷ []) ∷ [] ∷ [] ∷ [])
     -- refused whole, whatever else is wrong: a count above 1,024, an order above 64; then a matrix too few; then a side, then a run number too many

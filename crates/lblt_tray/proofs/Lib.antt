@@ -2,4 +2,4 @@ pub mod Sizes
 pub mod Items
 pub mod Own
 pub mod ThreeRows
-pub mod Alike
+pub mod Unfelt

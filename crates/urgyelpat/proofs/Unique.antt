@@ -14,7 +14,7 @@ use Rattle.lblt.proofs.Done as lblt
 use Rattle.lblt_read.proofs.Once.{determined-once, filled-once}
 use Rattle.lblt_solve.proofs.Once.{solved-once}
 use Rattle.lblt_bench.proofs.Once.{bench-once}
-use Rattle.lblt_tray.proofs.Alike.{tray-once}
+use Rattle.lblt_tray.proofs.Unfelt.{tray-once}
 use Rattle.cholesky.proofs.Promises.{extended-unique}
 use Rattle.cholesky.proofs.FlooredPromises.{floored-unique}
 use Rattle.cholesky.proofs.SolvePromises.{solved-unique}
