@@ -13,7 +13,7 @@ use lib.Ieee.{Float}
 use lib.ListN.{length, getD, set, take, drop, length-set}
 use lib.Seq.{getD-set-same, getD-set-other}
 use Rattle.answer.specs.declared.Answer.the-variants.{Done}
-use Rattle.matrix.specs.Columns.{column, Lined, ButColumn}
+use Rattle.matrix.specs.Columns.{Lined, ButColumn}
 use Rattle.matrix.specs.Layouts.{full, Laid}
 use Rattle.matrix.specs.Sizes.{Fits}
 use Rattle.matrix.proofs.ColumnsLent.{part-is, column-long, put-part}
@@ -22,7 +22,7 @@ use Rattle.pivots.specs.Words.{wordsOf, Sized}
 use Rattle.lblt.specs.Factor.{Factored}
 use Rattle.lblt.specs.inner.Engine.{Filled}
 use Rattle.lblt.proofs.Done.{done}
-use Rattle.lblt_tray.specs.Tray.{ItemSolved, ItemAt, matrixAt, recordAt, sideAt, numberAt, EachSolved}
+use Rattle.lblt_tray.specs.Tray.{ItemSolved, ItemAt, matrixAt, recordAt, sideAt, EachSolved}
 use Rattle.lblt_tray.specs.inner.Engine.{Item, Trayed, OneSolved, SolvedBefore}
 
 -- ---- one item

@@ -3,12 +3,11 @@
 --     item-unmarked               no mark: the item is solved
 --     item-marked                 a mark: 6 at its row, the side as it was
 use mathlib.Core.List.{List}
-use mathlib.Core.Path.{_≡_, refl, sym, ap, _∙_}
+use mathlib.Core.Path.{_≡_, refl, sym, _∙_}
 use Prim.Native.Nat.{ℕ, _-_, _*_}
 use native.Mathlib.Omega.{arith}
 use lib.Ieee.{Float}
 use lib.ListN.{length}
-use Rattle.answer.specs.declared.Answer.{Answer}
 use Rattle.answer.specs.declared.Answer.the-variants.{Done, ZeroMark}
 use Rattle.answer.specs.Number.{numberOf}
 use Rattle.answer.specs.Refusals.{tested}
@@ -26,7 +25,6 @@ use Rattle.lblt_read.proofs.Runs.{columns-expected}
 use Rattle.substitution_one.specs.inner.Sides.{Sides}
 use Rattle.lblt_solve_one.specs.Column.{solveColumn}
 use Rattle.lblt_solve_one.specs.inner.Engine.{Readable}
-use Rattle.lblt_solve.specs.Solve.{solveTests}
 use Rattle.lblt_solve.proofs.Marked.{solve-answers, unmarked, marked}
 use Rattle.lblt_tray.specs.Tray.{ItemSolved}
 

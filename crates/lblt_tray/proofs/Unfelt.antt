@@ -4,7 +4,7 @@
 --     item-alone    an item of one tray beside an item of another, whatever their neighbours hold
 --     item-as-calls a factor call and a solve call on an item's parts
 --     marked-item, unmarked-item   6 at its row and its side as it was; or done and solved
-use mathlib.Core.Bool.{true, false}
+use mathlib.Core.Bool.{true}
 use mathlib.Core.List.{List}
 use mathlib.Core.Path.{_≡_, refl, sym, ap, _∙_}
 use Prim.Native.Nat.{ℕ, _+_, _-_, _*_, _<_}

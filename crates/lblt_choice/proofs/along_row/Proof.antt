@@ -1,5 +1,4 @@
 -- `along_row` meets its contract. Assumes nothing.
-use native.Mathlib.Omega.{arith}
 use Rattle.lblt_choice.specs.Choice.{alongRow}
 use borrow.Author.Needs.{needs}
 use Rattle.lblt_choice.proofs.along_row.Statement.{statement}

@@ -1,5 +1,4 @@
 -- `down_column` meets its contract. Assumes nothing.
-use native.Mathlib.Omega.{arith}
 use Rattle.lblt_choice.specs.Choice.{downColumn}
 use borrow.Author.Needs.{needs}
 use Rattle.lblt_choice.proofs.down_column.Statement.{statement}
