@@ -5,7 +5,7 @@ ghost use Rattle.answer.specs.Number.{codeOf, placeOf, numberOf};
 pub enum Answer {
     // The result stands in the lent slices.
     Done,
-    // An order, room or column count above 1,024, an order above 64 for the teaching engine, or UDU of order 0.
+    // An order, room, column or item count above 1,024, an order above 64 for the teaching engine or a tray, or UDU of order 0.
     OutOfRange,
     // Cholesky: an order above the room, or an earlier order above the order.
     OrderAboveRoom,
