@@ -49,6 +49,7 @@ tested_all (t ∷ tests) r h = rw h.0 (tested_all tests r h.1)
 
 pub tested_at : {a : Answer} (tests : List Test) (r : Answer) → Fails a tests → tested tests r ≡ a
 unfolding tested
+tested_at {a = a} [] r x' = elim x' [ ]
 tested_at (t ∷ tests) r (here fails is) = rw fails is
 tested_at (t ∷ tests) r (later holds f) = rw holds (tested_at tests r f)
 

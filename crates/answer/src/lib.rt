@@ -1,8 +1,10 @@
 // What a call answers: done, or one of the numbered refusals.
+#![tactic(auto)]
+
 ghost use Rattle.std.specs.Prelude.{◌≡◌};
 ghost use Rattle.answer.specs.Number.{code_of, place_of, number_of};
 
-#[derive(Drop)]
+#[derive(Clone, Copy)]
 pub enum Answer {
     // The result stands in the lent slices.
     Done,
@@ -35,7 +37,7 @@ pub enum Answer {
 }
 
 // An answer with a number beside it: a determinant, +0 where refused.
-#[derive(Drop)]
+#[derive(Clone, Copy)]
 pub struct Valued {
     pub answer: Answer,
     pub value: f64,

@@ -1,4 +1,6 @@
 // `leaf::root` under a C name, for bench/root alone.
+#![tactic(auto)]
+
 ghost use Rattle.std.specs.Prelude.{◌≡◌};
 ghost use Rattle.leaf.specs.Root.{root_of};
 

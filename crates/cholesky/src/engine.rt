@@ -16,7 +16,7 @@ use matrix::Layout;
 use strips::Source;
 
 // What is answered to a diagonal, `Done` if it passes, and then its root; 1 if the floor stood in for it, else 0.
-#[derive(Drop)]
+#[derive(Clone, Copy)]
 pub struct Verdict {
     pub answer: Answer,
     pub root: f64,
@@ -24,7 +24,7 @@ pub struct Verdict {
 }
 
 // What came of some columns, the column after them, and how many of them used the floor.
-#[derive(Drop)]
+#[derive(Clone, Copy)]
 pub struct Step {
     pub answer: Answer,
     pub next: usize,

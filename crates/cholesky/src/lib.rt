@@ -1,4 +1,6 @@
 // Cholesky of a lent matrix, whole or in batches of rows: the lower triangle of the first n rows in a room of room·room numbers.
+#![tactic(auto)]
+
 ghost use Rattle.matrix.specs.Layouts.{in_room};
 ghost use Rattle.cholesky.specs.Promise.{Extended};
 ghost use Rattle.cholesky.specs.Floored.{ExtendedFloored};
@@ -13,7 +15,7 @@ pub use engine::answer_to;
 use matrix::Layout;
 
 // What came of a call with a floor, and how many columns used it.
-#[derive(Drop)]
+#[derive(Clone, Copy)]
 pub struct Floored {
     pub answer: Answer,
     pub used: usize,

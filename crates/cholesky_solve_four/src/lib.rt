@@ -1,4 +1,6 @@
 // `solve_mut` by a Cholesky factor: four columns at a time, so that each entry of the factor is read once for the four, and then those that are left.
+#![tactic(auto)]
+
 ghost use Rattle.std.specs.Prelude.{◌≡◌, ◌+◌, ◌<◌, ◌≤◌};
 ghost use Rattle.matrix.specs.Grid.{load};
 ghost use Rattle.matrix.specs.Layouts.{lower, Laid};

@@ -1,4 +1,6 @@
 // LBLT of three unknowns, by value: what a probe without buffers to lend calls.
+#![tactic(auto)]
+
 pub mod choice;
 mod lent;
 pub mod numbers;
@@ -21,14 +23,14 @@ use steps::Stepped;
 
 // Three numbers: a column, or a right-hand side.
 #[repr(C)]
-#[derive(Drop)]
+#[derive(Clone, Copy)]
 pub struct Column3 {
     pub row: [f64; 3],
 }
 
 // The pivots of three rows, and the mark: 0, or the marked row + 1.
 #[repr(C)]
-#[derive(Drop)]
+#[derive(Clone, Copy)]
 pub struct Pivots3 {
     pub index: [u32; 3],
     pub size: [u32; 3],
@@ -36,21 +38,21 @@ pub struct Pivots3 {
 }
 
 // A factor, and its pivots.
-#[derive(Drop)]
+#[derive(Clone, Copy)]
 pub struct Factored {
     pub matrix: [Column3; 3],
     pub pivots: Pivots3,
 }
 
 // A solution, or the side as it was where the answer is a refusal.
-#[derive(Drop)]
+#[derive(Clone, Copy)]
 pub struct Solved {
     pub answer: Answer,
     pub side: Column3,
 }
 
 // The lower triangle of three rows.
-#[derive(Drop)]
+#[derive(Clone, Copy)]
 pub struct Triangle {
     pub a00: f64,
     pub a10: f64,

@@ -5,7 +5,7 @@ ghost use Rattle.handheld.specs.inner.Numbers.{three_of, nine_of, lower_of};
 
 use crate::{Column3, Triangle};
 
-#[derive(Drop)]
+#[derive(Clone, Copy)]
 pub struct Three {
     pub x: f64,
     pub y: f64,
@@ -13,7 +13,7 @@ pub struct Three {
 }
 
 // Column by column.
-#[derive(Drop)]
+#[derive(Clone, Copy)]
 pub struct Nine {
     pub first: Three,
     pub second: Three,

@@ -12,14 +12,14 @@ use lblt::first_mark;
 use lblt_choice::Choice;
 use leaf::{abs, maximum};
 
-#[derive(Drop)]
+#[derive(Clone, Copy)]
 pub struct Stepped {
     pub lower: Triangle,
     pub pivots: Pivots3,
 }
 
 // The pairs of rows 0 and 1.
-#[derive(Drop)]
+#[derive(Clone, Copy)]
 struct Pairs {
     index0: u32,
     size0: u32,

@@ -1,4 +1,6 @@
 // The Bunch–Kaufman factor of a symmetric matrix, in its lower triangle.
+#![tactic(auto)]
+
 ghost use Rattle.std.specs.Prelude.{◌+◌, ◌<◌};
 ghost use Rattle.matrix.specs.Grid.{load};
 ghost use Rattle.matrix.specs.Layouts.{full, lower, Laid};
@@ -16,7 +18,7 @@ mod notes;
 pub use notes::first_mark;
 
 // The row reached, and the first mark: 0, or the marked row + 1.
-#[derive(Drop)]
+#[derive(Clone, Copy)]
 struct Reached {
     row: usize,
     mark: u32,

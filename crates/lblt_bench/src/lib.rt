@@ -1,4 +1,6 @@
 // `solve_bench`: of the columns of right-hand sides in one buffer, those of one bench are solved.
+#![tactic(auto)]
+
 mod own;
 
 ghost use Rattle.std.specs.Prelude.{cond, ◌≡◌};

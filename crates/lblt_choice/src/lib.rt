@@ -1,4 +1,6 @@
 // Which pivot step k takes.
+#![tactic(auto)]
+
 ghost use Rattle.std.specs.Prelude.{not, ◌≡◌, ◌+◌, ◌≤◌, ◌<◌, T};
 ghost use Rattle.matrix.specs.Grid.{load};
 ghost use Rattle.matrix.specs.Layouts.{lower, Laid};
@@ -13,13 +15,13 @@ use matrix::{Layout, get};
 const ALPHA: f64 = 0.6403882032022076;
 
 // The largest entry met in a column, and its row.
-#[derive(Drop)]
+#[derive(Clone, Copy)]
 pub struct Largest {
     pub imax: usize,
     pub colmax: f64,
 }
 
-#[derive(Drop)]
+#[derive(Clone, Copy)]
 pub enum Choice {
     // The largest entry of the column is zero: no pivot.
     ZeroColumn,

@@ -1,4 +1,6 @@
 // What a pivot does to the lower triangle of a matrix: the two-sided interchange that brings it to its place, and the update of the rows below.
+#![tactic(auto)]
+
 ghost use Rattle.std.specs.Prelude.{◌≤◌, ◌<◌};
 ghost use Rattle.matrix.specs.Grid.{Holds, load};
 ghost use Rattle.matrix.specs.Layouts.{lower, Laid};

@@ -10,7 +10,7 @@ use leaf::abs;
 use matrix::{Layout, get, put};
 
 // The four scaled numbers of a pivot of size 2.
-#[derive(Drop)]
+#[derive(Clone, Copy)]
 pub struct Block {
     pub d: f64,
     pub d11: f64,
@@ -19,7 +19,7 @@ pub struct Block {
 }
 
 // What a row takes from the two columns of a pivot of size 2.
-#[derive(Drop)]
+#[derive(Clone, Copy)]
 pub struct Work {
     pub w1: f64,
     pub w2: f64,

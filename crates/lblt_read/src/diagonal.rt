@@ -12,7 +12,7 @@ ghost use Rattle.lblt_read.specs.inner.Engine.{Counted, Squared, Placed};
 use crate::square;
 use matrix::Layout;
 
-#[derive(Drop)]
+#[derive(Clone, Copy)]
 pub struct Partial {
     pub row: usize,
     pub value: f64,

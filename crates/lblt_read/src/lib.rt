@@ -1,4 +1,6 @@
 // What is read from an LBLT factor: `determinant`, `d` and `l_permuted`; and what every reader refuses.
+#![tactic(auto)]
+
 mod diagonal;
 mod permuted;
 mod square;

@@ -1,4 +1,6 @@
 // `solve_mut` by an LBLT factor.
+#![tactic(auto)]
+
 pub mod sides;
 
 ghost use Rattle.std.specs.Prelude.{true, cond, ◌≡◌};

@@ -1,4 +1,6 @@
 // `tray`: many small systems of one order, each factored and solved.
+#![tactic(auto)]
+
 mod general;
 mod three;
 

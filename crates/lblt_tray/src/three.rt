@@ -159,7 +159,7 @@ fn two_one(
 // ---- the steps
 
 // Of column 0 the largest magnitude below the diagonal, its row, and the diagonal there.
-#[derive(Drop)]
+#[derive(Clone, Copy)]
 struct Top {
     row: usize,
     largest: f64,

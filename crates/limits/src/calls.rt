@@ -4,7 +4,7 @@ use cholesky::Floored;
 use pivots_lapack::Listed;
 use twins::Twin;
 
-#[derive(Drop)]
+#[derive(Clone, Copy)]
 pub enum Call {
     LbltFactor,
     LbltSolve,

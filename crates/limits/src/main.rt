@@ -1,6 +1,8 @@
 // 1,024 is accepted and 1,025 refused, in every order, room and column count of every call and in the count of a tray; of the orders of a tray and of the teaching call 64 and 65. An accepted
 // order or room is seen by the next refusal, code 3 or for a pivot list 4, since nothing of such a length is lent here, but for the teaching call;
 // oracle/longrun has whole runs at order 1,024.
+#![tactic(auto)]
+
 mod calls;
 mod unit_matrix;
 

@@ -1,4 +1,6 @@
 // Matrices in lent slices, column by column.
+#![tactic(auto)]
+
 ghost use Rattle.std.specs.Prelude.{◌≡◌, ◌≤◌, ◌<◌};
 ghost use Rattle.matrix.specs.Matrix.{entry, exchange};
 ghost use Rattle.matrix.specs.Grid.{Holds, load};
@@ -11,7 +13,7 @@ ghost use Rattle.answer.specs.declared.Answer.TheVariants.{Done};
 use answer::Answer;
 
 // Where the lower triangle of a matrix stands: `order` rows and columns in a room of room·room numbers, or, packed, of room·(room + 1)/2.
-#[derive(Drop)]
+#[derive(Clone, Copy)]
 pub struct Layout {
     pub order: usize,
     pub room: usize,

@@ -1,4 +1,6 @@
 // The mender as one function, from the bytes of a damaged sheet to the bytes of a clean one and of a report.
+#![tactic(auto)]
+
 mod clean;
 mod mending;
 mod report;
@@ -18,7 +20,7 @@ use sheet_text::{Number, number_line};
 pub const MOST_BYTES: usize = 65536;
 
 // The answer, where the text ends and where the report ends.
-#[derive(Drop)]
+#[derive(Clone, Copy)]
 pub struct Mended {
     pub answer: Mending,
     pub end: usize,

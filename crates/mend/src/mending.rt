@@ -2,7 +2,7 @@
 ghost use Rattle.std.specs.Prelude.{◌≡◌};
 ghost use Rattle.mend.specs.Mending.{code_of, place_of};
 
-#[derive(Drop)]
+#[derive(Clone, Copy)]
 pub enum Mending {
     // A clean sheet.
     Clean,

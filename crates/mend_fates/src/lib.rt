@@ -1,11 +1,13 @@
 // What becomes of each line of a damaged sheet: a table of the places that have been read, and the walk over the lines.
+#![tactic(auto)]
+
 ghost use Rattle.std.specs.Prelude.{◌≡◌};
 ghost use Rattle.mend_fates.specs.inner.Parts.{code_of, Room, AskedJudge, Entered, Judged, AskedWalk, Walks};
 
 use mend_lines::{Item, line_at};
 use sheet_text::Place;
 
-#[derive(Drop)]
+#[derive(Clone, Copy)]
 pub enum Fate {
     // The first line for its place.
     Kept,
@@ -81,7 +83,7 @@ fn judge(marks: &mut [u8], bits: &mut [u64], n: usize, item: Item, last: bool) -
 }
 
 // How many lines agree with those before them, up to the first that does not; whether all do.
-#[derive(Drop)]
+#[derive(Clone, Copy)]
 pub struct Walked {
     pub lines: usize,
     pub whole: bool,

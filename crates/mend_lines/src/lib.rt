@@ -1,4 +1,6 @@
 // The lines of a damaged sheet: where each ends, and what it is.
+#![tactic(auto)]
+
 ghost use Rattle.std.specs.Prelude.{◌≡◌, ◌<◌, ◌≤◌, length};
 ghost use Rattle.mend_lines.specs.Items.{lower_place, entries_of};
 ghost use Rattle.mend_lines.specs.inner.ItemOf.{entry_item};
@@ -7,7 +9,7 @@ ghost use Rattle.mend_lines.specs.inner.Parts.{LineEnd, AskedAt, LineAt, NoEntry
 use sheet_text::{Entry, EntryLine, Number, Place, entry_line, number_line};
 
 // What a line after the first is.
-#[derive(Drop)]
+#[derive(Clone, Copy)]
 pub enum Item {
     // An entry: its place, on or below the diagonal, and its bits.
     Entry { place: Place, bits: u64 },
@@ -18,7 +20,7 @@ pub enum Item {
 }
 
 // What the line is, and where the next one begins.
-#[derive(Drop)]
+#[derive(Clone, Copy)]
 pub struct Line {
     pub item: Item,
     pub next: usize,

@@ -1,4 +1,6 @@
 // LBLT, Cholesky and the search for twins on packed lower triangles: entry (i, j) of order n at i + j·(2n − j − 1)/2, n·(n + 1)/2 numbers.
+#![tactic(auto)]
+
 ghost use Rattle.matrix.specs.Layouts.{packed};
 ghost use Rattle.lblt.specs.Factor.{Factored};
 ghost use Rattle.lblt_read.specs.Calls.{LbltDetermined};

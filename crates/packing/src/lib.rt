@@ -1,4 +1,6 @@
 // The matrix of a further batch, in a packed buffer of its own: the rows of a packed triangle, and new rows laid end to end.
+#![tactic(auto)]
+
 ghost use Rattle.std.specs.Prelude.{◌≡◌, ◌≤◌, ◌<◌};
 ghost use Rattle.matrix.specs.Grid.{Holds, mask};
 ghost use Rattle.matrix.specs.Layouts.{packed, start_of, lower};

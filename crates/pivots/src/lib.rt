@@ -1,4 +1,6 @@
 // The pivot record: for each row the index and size of its pivot, then the mark, then the run number; its check, readers and writers.
+#![tactic(auto)]
+
 ghost use Rattle.std.specs.Prelude.{◌≡◌, ◌<◌, ◌≤◌, length};
 ghost use Rattle.pivots.specs.Words.{index_word, size_word, mark_word, run_word, words_of};
 ghost use Rattle.pivots.specs.Words.{Sized, index_at, size_at, mark_at, run_at, paired, marked, stamped};

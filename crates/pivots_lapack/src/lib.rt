@@ -1,4 +1,6 @@
 // LAPACK pivot lists, as `dsytrf` writes them for the lower triangle: read to a pivot record, and written from one.
+#![tactic(auto)]
+
 mod number;
 mod read;
 mod write;
@@ -11,7 +13,7 @@ ghost use Rattle.pivots_lapack.specs.Calls.{slice_tests, write_tests, ListRead, 
 use answer::Answer;
 
 // What is handed back beside a list: INFO and the run number, 0 where refused.
-#[derive(Drop)]
+#[derive(Clone, Copy)]
 pub struct Listed {
     pub answer: Answer,
     pub info: i32,

@@ -2,7 +2,7 @@
 ghost use Rattle.std.specs.Prelude.{◌≡◌, ◌+◌, ◌<◌, ◌≤◌, pos, neg_ℤ};
 ghost use Rattle.pivots_lapack.specs.Numbers.{index_meant, size_meant, mark_meant};
 
-#[derive(Drop)]
+#[derive(Clone, Copy)]
 pub struct Pair {
     pub index: u32,
     pub size: u32,

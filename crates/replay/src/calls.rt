@@ -7,7 +7,7 @@ use cholesky::Floored;
 use twins::Twin;
 
 // The answer, and the word of the value or 0.
-#[derive(Drop)]
+#[derive(Clone, Copy)]
 pub struct Outcome {
     pub answer: u64,
     pub value: u64,

@@ -1,4 +1,6 @@
 // Replays a stored list of answers: oracle/README.md has the format.
+#![tactic(auto)]
+
 mod calls;
 mod handheld_calls;
 mod list;

@@ -7,7 +7,7 @@ use crate::state::{A, State};
 const FIRST_TWIN_SINCE: u64 = 12;
 
 // A matrix of order n in a room, whose entries follow from their places.
-#[derive(Drop)]
+#[derive(Clone, Copy)]
 struct Pattern {
     n: usize,
     room: usize,
@@ -22,7 +22,7 @@ struct Pattern {
 }
 
 // Row and column q are those of p, and entry (i, j) is changed.
-#[derive(Drop)]
+#[derive(Clone, Copy)]
 struct Spot {
     p: usize,
     q: usize,

@@ -10,7 +10,7 @@ pub const C: u64 = 2;
 
 pub const R: u64 = 3;
 
-#[derive(Drop)]
+#[derive(Clone, Copy)]
 pub struct State {
     // Cases begun, calls made, and words that differ.
     pub cases: u64,

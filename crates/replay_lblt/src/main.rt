@@ -1,4 +1,6 @@
 // Replays the stored list of lblt.
+#![tactic(auto)]
+
 fn main() {
     replay::run();
 }

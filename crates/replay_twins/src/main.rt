@@ -1,4 +1,6 @@
 // Replays the stored list of twins.
+#![tactic(auto)]
+
 fn main() {
     replay::run();
 }

@@ -1,4 +1,6 @@
 // Replays the stored list of udu.
+#![tactic(auto)]
+
 fn main() {
     replay::run();
 }

@@ -1,4 +1,6 @@
 // Stored roots, replayed: prints how many there are, and how many differ in a bit.
+#![tactic(auto)]
+
 ghost use Rattle.std.specs.Prelude.{◌≤◌};
 
 mod stored;

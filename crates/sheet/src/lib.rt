@@ -1,4 +1,6 @@
 // The sheet program as two functions, from the bytes of its input to the bytes of its output and of its warning.
+#![tactic(auto)]
+
 ghost use Rattle.std.specs.Prelude.{◌≡◌};
 ghost use Rattle.sheet.specs.Respond.{Responds, empty_room};
 ghost use Rattle.sheet.specs.Warn.{Warns};
@@ -23,7 +25,7 @@ fn factor_and_write(a: &mut [f64], words: &mut [u32], n: usize, out: &mut [u8]) 
 }
 
 // Done, or the sheet's first wrong line; and where the response ends.
-#[derive(Drop)]
+#[derive(Clone, Copy)]
 pub struct Responded {
     pub answer: Answer,
     pub end: usize,

@@ -1,4 +1,6 @@
 // Runs the sheet program's functions on each file that an argument names, and prints the name, the response and the warning.
+#![tactic(auto)]
+
 use libc::STDOUT_FILENO;
 
 fn respond_to(fd: i32) {

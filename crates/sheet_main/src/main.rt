@@ -1,6 +1,8 @@
 // The sheet program: standard input in, the warning to standard error, the response to standard output.
 // The first 65,536 bytes decide, since every sheet is shorter.
 // A program cannot set its exit status: this one writes it, one digit, to descriptor 3, and ./sheet ends with it.
+#![tactic(auto)]
+
 ghost use Rattle.std.specs.Prelude.{◌≡◌, cond};
 ghost use Rattle.answer.specs.Number.{is_done};
 ghost use Rattle.io.specs.Counts.{IsPrefixLen};
@@ -12,7 +14,7 @@ use libc::{STDERR_FILENO, STDIN_FILENO, STDOUT_FILENO};
 const STATUS_FILENO: i32 = 3;
 
 // How many bytes were read, and whether a read failed.
-#[derive(Drop)]
+#[derive(Clone, Copy)]
 struct Input {
     length: usize,
     failed: bool,

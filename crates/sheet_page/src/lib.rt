@@ -1,4 +1,6 @@
 // The page and the warning that the program writes, into a lent slice of bytes.
+#![tactic(auto)]
+
 mod page;
 mod put;
 

@@ -62,7 +62,7 @@ pub fn put_entry(out: &mut [u8], at: usize, p: Place, bits: u64) -> usize
 }
 
 // How many lines were written, and where they end.
-#[derive(Drop)]
+#[derive(Clone, Copy)]
 pub struct Written {
     pub count: usize,
     pub next: usize,

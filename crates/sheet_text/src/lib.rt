@@ -1,4 +1,6 @@
 // The text of a sheet: digits, numbers, lines, and the reader of a whole sheet.
+#![tactic(auto)]
+
 mod digit;
 mod line;
 mod place;

@@ -6,14 +6,14 @@ ghost use Rattle.sheet_text.specs.inner.Line.{number_in, bits_in, entry_in};
 use crate::digit::digit_value;
 
 // A number below 10,000 and where the reading goes on.
-#[derive(Drop)]
+#[derive(Clone, Copy)]
 pub enum Number {
     Is { value: usize, next: usize },
     Not,
 }
 
 // A pattern of 64 bits and where the reading goes on.
-#[derive(Drop)]
+#[derive(Clone, Copy)]
 pub enum Bits {
     Is { bits: u64, next: usize },
     Not,
@@ -131,7 +131,7 @@ pub fn number_line(s: &[u8], at: usize, word: &[u8]) -> Number
 }
 
 // What an entry line holds.
-#[derive(Drop)]
+#[derive(Clone, Copy)]
 pub struct Entry {
     pub row: usize,
     pub column: usize,
@@ -139,7 +139,7 @@ pub struct Entry {
 }
 
 // An entry line and where the reading goes on.
-#[derive(Drop)]
+#[derive(Clone, Copy)]
 pub enum EntryLine {
     Is { entry: Entry, next: usize },
     Not,

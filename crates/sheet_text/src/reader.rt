@@ -12,7 +12,7 @@ use crate::place::Place;
 use answer::Answer;
 
 // How far the entries went: all of them or not, how many, and where the reading goes on.
-#[derive(Drop)]
+#[derive(Clone, Copy)]
 pub struct Progress {
     pub whole: bool,
     pub count: usize,
@@ -82,7 +82,7 @@ fn entries(s: &[u8], at: usize, n: usize, a: &mut [f64]) -> Progress
 }
 
 // What the reader answers: done with the order, or the first wrong line, where the order is 0.
-#[derive(Drop)]
+#[derive(Clone, Copy)]
 pub struct Sheet {
     pub answer: Answer,
     pub order: usize,

@@ -1,9 +1,11 @@
 // Loops over rows of one column, on plain places: row i of a column that starts at s stands at i + s.
+#![tactic(auto)]
+
 ghost use Rattle.std.specs.Prelude.{◌+◌, ◌≤◌, length};
 ghost use Rattle.strips.specs.inner.Strip.{Strip, Elsewhere, axpy_of, axpy4_of, ratio_of, zero_at, row_at};
 
 // A column that starts at `start`, and what it is multiplied by.
-#[derive(Drop)]
+#[derive(Clone, Copy)]
 pub struct Source {
     pub start: usize,
     pub scale: f64,

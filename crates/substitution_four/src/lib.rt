@@ -1,4 +1,6 @@
 // The steps that every solve by a lower triangle has, on four columns of right-hand sides at a time: each entry of the factor is read once for the four.
+#![tactic(auto)]
+
 ghost use Rattle.std.specs.Prelude.{◌≡◌, ◌+◌, ◌*◌, ◌<◌, ◌≤◌, length};
 ghost use Rattle.matrix.specs.Grid.{load};
 ghost use Rattle.matrix.specs.Layouts.{lower};
@@ -9,7 +11,7 @@ ghost use Rattle.substitution_four.specs.inner.Fours.{row_of, put_row, less_four
 use matrix::Layout;
 
 // One number of each of four columns.
-#[derive(Drop)]
+#[derive(Clone, Copy)]
 pub struct Four {
     first: f64,
     second: f64,

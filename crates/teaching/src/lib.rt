@@ -1,4 +1,6 @@
 // Cholesky for the board: Cholesky of order n is Cholesky of order n − 1, then the last row, found from left to right.
+#![tactic(auto)]
+
 ghost use Rattle.std.specs.Prelude.{◌≡◌, ◌≤◌, ◌<◌};
 ghost use Rattle.matrix.specs.Grid.{load};
 ghost use Rattle.matrix.specs.Layouts.{lower, Laid};

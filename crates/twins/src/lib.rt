@@ -1,4 +1,6 @@
 // Finds rows of a symmetric matrix that came twice.
+#![tactic(auto)]
+
 ghost use Rattle.std.specs.Prelude.{◌≡◌, ◌+◌, ◌<◌, ◌≤◌, true, false, length, to_bits};
 ghost use Rattle.std.specs.Float.{binary64};
 ghost use Rattle.matrix.specs.Grid.{load};
@@ -12,7 +14,7 @@ ghost use Rattle.twins.specs.inner.Fingerprints.{mixed, Fingerprinted, Brought, 
 use answer::Answer;
 use matrix::Layout;
 
-#[derive(Drop)]
+#[derive(Clone, Copy)]
 pub enum Twin {
     Nothing,
     // Rows first < second are twins.

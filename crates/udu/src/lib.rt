@@ -1,4 +1,6 @@
 // UDU: u upper triangular and a diagonal d with p = u·d·uᵀ, column by column from the last.
+#![tactic(auto)]
+
 ghost use Rattle.udu.specs.Columns.{nothing};
 ghost use Rattle.udu.specs.Promise.{UduSized, UduFactored, Holding, udu_of};
 ghost use Rattle.udu.specs.inner.Contracts.{Columned};

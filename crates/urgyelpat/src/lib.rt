@@ -1,4 +1,6 @@
 // The calls through the C convention: a slice is a pointer and then a length, an answer is one number, code·4,096 + place.
+#![tactic(auto)]
+
 ghost use Rattle.std.specs.Prelude.{◌≡◌};
 ghost use Rattle.urgyelpat.specs.Passed.{determined_of, listed_of, floored_of};
 ghost use Rattle.urgyelpat.specs.Calls.{LbltFactor, LbltSolve, LbltSolveBench, LbltTray, LbltDeterminant, LbltD, LbltLPermuted};
@@ -12,7 +14,7 @@ use handheld::{Column3, Pivots3};
 
 // A determinant, +0 where refused, and the number of its answer.
 #[repr(C)]
-#[derive(Drop)]
+#[derive(Clone, Copy)]
 pub struct Determined {
     pub answer: u64,
     pub value: f64,
@@ -30,7 +32,7 @@ fn numbered(valued: Valued) -> Determined
 
 // INFO and the run number of a list, 0 where refused, and the number of its answer.
 #[repr(C)]
-#[derive(Drop)]
+#[derive(Clone, Copy)]
 pub struct Listed {
     pub answer: u64,
     pub info: i32,
@@ -50,7 +52,7 @@ fn list_numbered(list: pivots_lapack::Listed) -> Listed
 
 // How many columns used a floor, and the number of the call's answer.
 #[repr(C)]
-#[derive(Drop)]
+#[derive(Clone, Copy)]
 pub struct Floored {
     pub answer: u64,
     pub used: u64,
@@ -165,14 +167,14 @@ pub extern "C" fn urgyelpat_lblt_l_permuted(
 
 // Three columns of three numbers.
 #[repr(C)]
-#[derive(Drop)]
+#[derive(Clone, Copy)]
 pub struct Matrix3 {
     pub column: [Column3; 3],
 }
 
 // A factor of order 3, and its pivots.
 #[repr(C)]
-#[derive(Drop)]
+#[derive(Clone, Copy)]
 pub struct Factored3 {
     pub matrix: Matrix3,
     pub pivots: Pivots3,
@@ -180,7 +182,7 @@ pub struct Factored3 {
 
 // A solution of order 3, or the side as it was where the answer is a refusal.
 #[repr(C)]
-#[derive(Drop)]
+#[derive(Clone, Copy)]
 pub struct Solved3 {
     pub answer: u64,
     pub side: Column3,

@@ -4,21 +4,14 @@ use native.Mathlib.Nat.{mul-le-mul}
 use native.Mathlib.Omega.{arith}
 use borrow.Author.Rules.{rules}
 use Rattle.matrix.specs.Layouts.{entries_of}
-use Rattle.matrix.proofs.entries.Statement.{statement}
-use Rattle.matrix.proofs.entries.Tie as tie
+use Rattle.matrix.proofs.entries.Goals as goal
 
-add-result : tie.Need-overflow-add-result
-add-result c = search rules
-
-mul-result : tie.Need-overflow-mul-result
-mul-result c =
+pub overflow_mul-result : goal.overflow_mul-result
+overflow_mul-result c =
     let n = c.args.n in
     let small : n * (n + 1) ≤ 1024 * 1025 = mul-le-mul {n₁ = n} {m₁ = n + 1} {n₂ = 1024} {m₂ = 1025} (omega arith) (omega arith) in
     omega arith
 
-returns : tie.Need-returns
+pub returns : goal.returns
 unfolding entries_of
 returns c = search rules
-
-pub entries-spec : {M : Type 1} → statement M
-entries-spec = tie.close (tie.spec add-result mul-result returns)

@@ -1,0 +1,32 @@
+-- `subnormal_root` meets its contract.
+use mathlib.Core.Path.{sym, ap, ◌∙◌, subst}
+use Prim.Native.Nat.{ℕ, ◌+◌, ◌-◌, ◌*◌, ◌^◌}
+use native.Mathlib.Omega.{arith}
+use lib.Count.{count_leading_zeros}
+use Rattle.leaf.specs.Root.{rounded}
+use Rattle.leaf.specs.inner.Scaled.{Scaled}
+use Rattle.leaf.proofs.Fields.{root_rounded, shifted, shift_exact, subnormal_scaled, subnormal_root}
+use Rattle.leaf.proofs.subnormal_root.Goals as goal
+
+pub overflow_cast-zeros : goal.overflow_cast-zeros
+overflow_cast-zeros c = omega (arith, (shifted c.args.bits c.requires).zeros, (shifted c.args.bits c.requires).all)
+
+pub overflow_sub-zeros : goal.overflow_sub-zeros
+overflow_sub-zeros c = omega (arith, (shifted c.args.bits c.requires).zeros)
+
+pub overflow_shl-bits : goal.overflow_shl-bits
+overflow_shl-bits c = omega (arith, (shifted c.args.bits c.requires).all)
+
+pub overflow_sub-zeros-2 : goal.overflow_sub-zeros-2
+overflow_sub-zeros-2 c = omega (arith, (shifted c.args.bits c.requires).all)
+
+pub scaled_root-requires : goal.scaled_root-requires
+scaled_root-requires c =
+    subst (λ (m : ℕ). Scaled m (1022 - (count_leading_zeros 64 c.args.bits - 11))) (sym (shift_exact c.args.bits c.requires (shifted c.args.bits c.requires)))
+    (subnormal_scaled c.args.bits c.requires (shifted c.args.bits c.requires))
+
+pub returns : goal.returns
+returns c =
+    c.scaled_root.ensures
+    ∙ ap (λ (m : ℕ). rounded (m * 2 ^ (1022 - (count_leading_zeros 64 c.args.bits - 11) + 52))) (shift_exact c.args.bits c.requires (shifted c.args.bits c.requires))
+    ∙ root_rounded (subnormal_root c.args.bits c.requires (shifted c.args.bits c.requires))
