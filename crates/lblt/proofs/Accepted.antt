@@ -19,7 +19,7 @@ use Rattle.answer.proofs.Tests.{either, eq_or_ne}
 use Rattle.pivots.specs.Words.{mark_at, run_at, Sized, paired}
 use Rattle.pivots.specs.Rule.{Accepted}
 use Rattle.pivots.proofs.Boundaries.{Marks, mark_row}
-use Rattle.pivots.proofs.Written.{Written, written_none, IsWritten_one, written_two_law, written_zero, written_all, written_run}
+use Rattle.pivots.proofs.Written.{Written, written_none, written_one, written_two_law, written_zero, written_all, written_run}
 use Rattle.lblt_choice.specs.Choice.{choose}
 use Rattle.lblt.specs.Step.{State, first_mark, take, step, stepped}
 use Rattle.lblt.specs.Factor.{first_state, final_state, recorded, Factored}
@@ -32,12 +32,12 @@ use Rattle.lblt.proofs.Done.{done_sized}
 module _ (n : ℕ) where
   written_zero_column : {words : List ℕ} {k m : ℕ} (b : Bool) → eqb m 0 ≡ b → Written n words k m → k < n → Written n (paired words k k 1) (k + 1) (cond (eqb m 0) (k + 1) m)
   written_zero_column {words} {k} {m} true e w h = rw e (written_zero (subst (λ (m : ℕ). Written n words k m) (eqb-true m 0 e) w) h)
-  written_zero_column {words} {k} {m} false e w h = rw e (IsWritten_one k w (omega arith) h)
+  written_zero_column {words} {k} {m} false e w h = rw e (written_one k w (omega arith) h)
 
   written_take : (S : State) (c : Choice) → Written n S.words S.row S.mark → S.row < n → Within n S.row c → Written n (take n S c).words (take n S c).row (take n S c).mark
   unfolding take Within first_mark
   written_take S ZeroColumn w h range = written_zero_column (eqb S.mark 0) refl w h
-  written_take S (One p) w h range = IsWritten_one p w range.0 range.1
+  written_take S (One p) w h range = written_one p w range.0 range.1
   written_take S (Two p) w h range = written_two_law p w (omega (arith, range.0)) range.1
 
   written_step : (S : State) → Written n S.words S.row S.mark → S.row < n → Written n (step n S).words (step n S).row (step n S).mark

@@ -1,6 +1,6 @@
 -- The search for the first row that breaks the rule, block by block.
 --     Going           k blocks' rows passed, the answer is still the answer from k on
---     going_none, Going_more     at row 0, and after one more sound block
+--     going_none, going_more     at row 0, and after one more sound block
 --     going_all, going_stop      at the end, and at a block that breaks the rule
 use mathlib.Core.List.{List}
 use mathlib.Core.Path.{◌≡◌, refl, sym, ap, ◌∙◌}
@@ -57,11 +57,11 @@ more (suc fuel) n words k rows h enough same e found =
       same = same ∙ from_next fuel n words k h (λ z. found (e ∙ z)) ∙ ap (λ r. fault_from fuel n words (k + r)) (sym e);
     }
 
-pub Going_more
+pub going_more
     : {n : ℕ} {words : List ℕ} {k rows : ℕ}
     → Going n words k → k < n → rows ≡ block_of n words k → (rows ≡ 0 → ⊥)
     → Going n words (k + rows)
-Going_more {n} {words} {k} {rows} g h e found = more g.fuel n words k rows h g.enough g.same e found
+going_more {n} {words} {k} {rows} g h e found = more g.fuel n words k rows h g.enough g.same e found
 
 pub going_all : {n : ℕ} {words : List ℕ} {k : ℕ} → Going n words k → n ≤ k → n ≡ fault_of n words
 going_all {n} {words} {k} g h = sym (g.same ∙ from_end g.fuel n words k h)

@@ -1,6 +1,6 @@
 -- The laws of going through the blocks of an accepted record.
 --     Along    going forwards, s is reached at row k:    along_none, along_more, along_all
---     Back     going backwards, s is reached at row k:   back_none, Back_more, back_all
+--     Back     going backwards, s is reached at row k:   back_none, back_more, back_all
 --     block_at, block_before      what the step at a row may ask of the record
 --     boundary_next               where the block at a boundary ends
 --     one_is, two_is, reads_one, reads_two     by the size as it is read
@@ -170,11 +170,11 @@ less n words f (suc fuel) k s₀ s b below enough same =
       same = same ∙ simp (lt-ltb 0 k below);
     }
 
-pub Back_more
+pub back_more
     : {S : Type 0} {n : ℕ} {words : List ℕ} {f : ℕ → S → S} {s₀ : S} {k r : ℕ} {s s' : S}
     → Back n words f s₀ k s → 0 < k → r ≡ k - rows_of words (k - 1) → s' ≡ f k s
     → Back n words f s₀ r s'
-Back_more {n = n} {words} {f} {s₀} {k} {r} {s} {s'} w below next step =
+back_more {n = n} {words} {f} {s₀} {k} {r} {s} {s'} w below next step =
     subst (λ q. Back n words f s₀ q s') (sym next)
     (subst (Back n words f s₀ (k - rows_of words (k - 1))) (sym step)
     (less n words f w.fuel k s₀ s w.boundary below w.enough w.same))

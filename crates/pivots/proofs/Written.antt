@@ -1,7 +1,7 @@
 -- A record that is written block by block, as the factor does, is accepted.
 --     Written n words k m     the blocks up to row k are written and sound; m is the first mark: 0, or a row before k, of size 1 and with its own index, plus 1
 --     written_none            nothing written
---     IsWritten_one, written_two_law, written_zero     one more block: of size 1, of size 2, and a zero column that sets the mark
+--     written_one, written_two_law, written_zero     one more block: of size 1, of size 2, and a zero column that sets the mark
 --     paired_kept, paired_index, paired_size     what a pair leaves, and itself
 --     ended_kept, ended_length, ended_mark, ended_run     what the mark and a run number leave, and themselves
 --     stamped_other, stamped_length, stamped_own     what the run number leaves; its own leaves all
@@ -144,11 +144,11 @@ mark_kept h s (inr mk) = inr (more_marks h (kept_marks s mk))
 pub written_none : {n : ℕ} {words : List ℕ} → Sized n words → Written n words 0 0
 written_none s = record { sized = s; within = omega arith; blocks = start refl; mark = inl refl }
 
-pub IsWritten_one
+pub written_one
     : {n : ℕ} {words : List ℕ} {k m : ℕ} (p : ℕ)
     → Written n words k m → k ≤ p → p < n
     → Written n (paired words k p 1) (k + 1) m
-IsWritten_one {n} {words} {k} {m} p w low high =
+written_one {n} {words} {k} {m} p w low high =
     let room : size_word k < length words = omega (arith, w.sized.total) in
     let i = paired_index words k p 1 room in
     record {
@@ -164,7 +164,7 @@ pub written_zero : {n : ℕ} {words : List ℕ} {k : ℕ} → Written n words k 
 written_zero {n} {words} {k} w high =
     let room : size_word k < length words = omega (arith, w.sized.total) in
     let back : k + 1 - 1 ≡ k = omega arith in
-    let next = IsWritten_one k w (omega arith) high in
+    let next = written_one k w (omega arith) high in
     record {
       sized = next.sized;
       within = next.within;

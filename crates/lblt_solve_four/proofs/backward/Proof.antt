@@ -1,5 +1,5 @@
 -- `backward` goes through the blocks from the last row back.
-use Rattle.pivots.proofs.Walks.{Back, back_none, Back_more, back_all, block_before, rows_positive}
+use Rattle.pivots.proofs.Walks.{Back, back_none, back_more, back_all, block_before, rows_positive}
 use Rattle.lblt_solve_one.specs.Column.{backward_block}
 use Rattle.matrix.specs.Columns.{each_column}
 use Rattle.lblt_solve_one.proofs.ColumnBlocks.{columns_backed}
@@ -40,7 +40,7 @@ loop-again c =
     let loop = c.before.before.before.before.before.loop in
     let loop-test = c.before.before.before.before.loop-test in
     let backward-block = c.before.before.backward-block in
-    (Back_more loop.invariant.0 loop-test.true backward-block.ensures.row backward-block.ensures.column, backward-block.auto.1.1.1.0 ∙ loop.invariant.1)
+    (back_more loop.invariant.0 loop-test.true backward-block.ensures.row backward-block.ensures.column, backward-block.auto.1.1.1.0 ∙ loop.invariant.1)
 
 same_length : tie.Need-same-length invariant-loop decreases-loop
 same_length c = c.before.loop.invariant.1

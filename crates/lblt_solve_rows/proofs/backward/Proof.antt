@@ -1,5 +1,5 @@
 -- `backward` goes through the blocks from the last row back.
-use Rattle.pivots.proofs.Walks.{Back, back_none, Back_more, back_all, block_before, rows_positive}
+use Rattle.pivots.proofs.Walks.{Back, back_none, back_more, back_all, block_before, rows_positive}
 use Rattle.lblt_solve_one.specs.Column.{backward_block}
 use Rattle.lblt_solve_one.proofs.ColumnBlocks.{columns_backed}
 use Prim.Native.Nat.{◌-◌}
@@ -38,7 +38,7 @@ loop-again : tie.Need-loop-preserved invariant-loop decreases-loop
 loop-again c =
     let loop = c.before.before.before.before.before.loop in
     let loop-test = c.before.before.before.before.loop-test in
-    (Back_more loop.invariant.0 loop-test.true c.before.before.backward-block.ensures.row c.before.before.backward-block.ensures.column, c.before.before.backward-block.auto.1.1.1.0 ∙ loop.invariant.1)
+    (back_more loop.invariant.0 loop-test.true c.before.before.backward-block.ensures.row c.before.before.backward-block.ensures.column, c.before.before.backward-block.auto.1.1.1.0 ∙ loop.invariant.1)
 
 same_length : tie.Need-same-length invariant-loop decreases-loop
 same_length c = c.before.loop.invariant.1

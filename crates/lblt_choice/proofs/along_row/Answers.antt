@@ -1,0 +1,23 @@
+-- `along_row` meets its contract. Assumes nothing.
+use Rattle.lblt_choice.specs.Choice.{along_row}
+use Rattle.lblt_choice.proofs.along_row.Goals as goal
+
+pub get-requires-clause-laid : goal.get-requires-clause-laid
+get-requires-clause-laid c = c.requires.laid
+
+pub get-requires-clause-j_le_i : goal.get-requires-clause-j_le_i
+get-requires-clause-j_le_i c = c.requires.j_le_i
+
+pub get-requires-clause-i_lt_order : goal.get-requires-clause-i_lt_order
+get-requires-clause-i_lt_order c = c.requires.i_lt_order
+
+pub larger-requires : goal.larger-requires
+larger-requires c = c.requires.t
+
+pub returns-clause-value : goal.returns-clause-value
+unfolding along_row
+returns-clause-value c = rw (c.abs.ensures, c.get.ensures) at c.larger.ensures.value
+
+pub returns-clause-t_2 : goal.returns-clause-t_2
+unfolding along_row
+returns-clause-t_2 c = c.larger.ensures.t

@@ -1,0 +1,23 @@
+-- `rank1_pair_at` meets its contract. Assumes nothing.
+use Rattle.matrix.proofs.Sizes.{laid_after}
+use Rattle.lblt_pivot.proofs.Pairs.{pairs1_at}
+use Rattle.lblt_pivot.proofs.rank1.rank1_pair_at.Goals as goal
+
+pub get-requires-clause-laid : goal.get-requires-clause-laid
+get-requires-clause-laid c = c.requires.laid
+
+pub get-requires-2-clause-laid : goal.get-requires-2-clause-laid
+get-requires-2-clause-laid c = c.requires.laid
+
+pub put-requires-clause-laid : goal.put-requires-clause-laid
+put-requires-clause-laid c = c.requires.laid
+
+pub get-requires-3-clause-laid : goal.get-requires-3-clause-laid
+get-requires-3-clause-laid c = laid_after c.requires.laid c.put.ensures
+
+pub put-requires-2-clause-laid : goal.put-requires-2-clause-laid
+put-requires-2-clause-laid c = laid_after c.requires.laid c.put.ensures
+
+pub returns : goal.returns
+returns c =
+    pairs1_at _ _ _ _ _ _ c.requires.k_lt_j c.get.ensures c.get-2.ensures c.put.ensures c.get-3.ensures c.put-2.ensures
