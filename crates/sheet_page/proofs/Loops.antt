@@ -4,6 +4,7 @@ use mathlib.Core.List.{List, [], ◌∷◌, ◌++◌, map}
 use Prim.Native.Nat.{ℕ, suc, ◌+◌, ◌-◌, ◌<◌, ◌≤◌}
 use native.Mathlib.Numerals.{add-one}
 use native.Mathlib.Omega.{arith}
+use lib.Ieee.{Float}
 use lib.ListN.{length}
 use Rattle.pivots.specs.Words.{index_at, size_at}
 use Rattle.sheet_text.specs.declared.place.Place.{Place}
@@ -13,7 +14,7 @@ use Rattle.sheet_text.specs.inner.Next.{next_place}
 use Rattle.sheet_text.specs.Sheet.{entry_lines, join}
 use Rattle.sheet_text.proofs.PlaceLaws.{at as place, Inside, rest_from, rest_all, rest_none, rest_more, next_inside}
 use Rattle.sheet_page.specs.Put.{Put}
-use Rattle.sheet_page.specs.Page.{pivot_line, pivot_lines}
+use Rattle.sheet_page.specs.Page.{pivot_line, pivot_lines, matrix_in, bits_at, lower_bits}
 use Rattle.sheet_page.specs.inner.Parts.{EntriesPut}
 use Rattle.sheet_page.proofs.ToGo.{ToGo, to_go_all, to_go_more, to_go_none}
 
@@ -47,28 +48,28 @@ module _ {o₀ : List ℕ} {at : ℕ} {words : List ℕ} {n : ℕ} {o : List ℕ
   pub pivots_all : n ≤ row → Put o₀ at (join (pivot_lines words 0 n)) next o
   pivots_all h = to_go_none so.to_go (pivot_text_none words n row h)
 
--- ---- entry lines, with the bits that f gives a place
-abbrev entry_text : (Place → ℕ) → List Place → List ℕ
-entry_text f ps = join (entry_lines ps (map f ps))
+-- ---- entry lines
+abbrev entry_text : ℕ → List Float → List Place → List ℕ
+entry_text n a ps = join (entry_lines ps (map (bits_at (matrix_in n a)) ps))
 
-pub record EntriesSoFar (o₀ : List ℕ) (at n : ℕ) (f : Place → ℕ) (o : List ℕ) (p : Place) (count next : ℕ) : Type 0 where
+pub record EntriesSoFar (o₀ : List ℕ) (at n : ℕ) (a : List Float) (o : List ℕ) (p : Place) (count next : ℕ) : Type 0 where
   pub inside : Inside n p
   pub counted : count + length (rest_from n p) ≡ length (places n)
-  pub to_go : ToGo o₀ at (entry_text f (places n)) o next (entry_text f (rest_from n p))
+  pub to_go : ToGo o₀ at (entry_text n a (places n)) o next (entry_text n a (rest_from n p))
 
-pub entries_start : (o : List ℕ) (at n : ℕ) (f : Place → ℕ) → at ≤ length o → EntriesSoFar o at n f o (place 0 0) 0 at
-entries_start o at n f h = record {
+pub entries_start : (o : List ℕ) (at n : ℕ) (a : List Float) → at ≤ length o → EntriesSoFar o at n a o (place 0 0) 0 at
+entries_start o at n a h = record {
   inside = record { below = omega arith; within = λ d. d; closed = omega arith };
   counted = omega (arith, ap length (rest_all n));
-  to_go = rw (← rest_all n) (to_go_all o at (entry_text f (places n)) h);
+  to_go = rw (← rest_all n) (to_go_all o at (entry_text n a (places n)) h);
 }
 
-entry_text_more : (f : Place → ℕ) (p : Place) (ps : List Place) → entry_text f (p ∷ ps) ≡ entry_line p.row p.column (f p) ++ entry_text f ps
+entry_text_more : (n : ℕ) (a : List Float) (p : Place) (ps : List Place) → entry_text n a (p ∷ ps) ≡ entry_line p.row p.column (bits_at (matrix_in n a) p) ++ entry_text n a ps
 unfolding entry_lines join
-entry_text_more f p ps = refl
+entry_text_more n a p ps = refl
 
-module _ {o₀ : List ℕ} {at n : ℕ} {f : Place → ℕ} {o : List ℕ} {p : Place} {count next : ℕ} (so : EntriesSoFar o₀ at n f o p count next) where
-  pub entries_more : {q : Place} {next' : ℕ} {o' : List ℕ} → p.column < n → q ≡ next_place n p → Put o next (entry_line p.row p.column (f p)) next' o' → EntriesSoFar o₀ at n f o' q (count + 1) next'
+module _ {o₀ : List ℕ} {at n : ℕ} {a : List Float} {o : List ℕ} {p : Place} {count next : ℕ} (so : EntriesSoFar o₀ at n a o p count next) where
+  pub entries_more : {q : Place} {next' : ℕ} {o' : List ℕ} → p.column < n → q ≡ next_place n p → Put o next (entry_line p.row p.column (bits_at (matrix_in n a) p)) next' o' → EntriesSoFar o₀ at n a o' q (count + 1) next'
   entries_more {q} c step put =
       let row = so.inside.within c in
       let counted = so.counted in
@@ -76,12 +77,12 @@ module _ {o₀ : List ℕ} {at n : ℕ} {f : Place → ℕ} {o : List ℕ} {p : 
       rw step record {
         inside = next_inside n p so.inside c;
         counted = omega arith;
-        to_go = to_go_more so.to_go (ap (entry_text f) (rest_more n p row) ∙ entry_text_more f p (rest_from n (next_place n p))) put;
+        to_go = to_go_more so.to_go (ap (entry_text n a) (rest_more n p row) ∙ entry_text_more n a p (rest_from n (next_place n p))) put;
       }
 
-  pub entries_all : n ≤ p.column → EntriesPut o₀ at n f (record { count = count; next = next }) o
-  unfolding entry_lines join
+  pub entries_all : n ≤ p.column → EntriesPut o₀ at n a (record { count = count; next = next }) o
+  unfolding lower_bits entry_lines join
   entries_all h =
       let none = rest_none n p so.inside h in
       let counted = so.counted in
-      record { put = to_go_none so.to_go (ap (entry_text f) none); count = omega (arith, ap length none) }
+      record { put = to_go_none so.to_go (ap (entry_text n a) none); count = omega (arith, ap length none) }

@@ -15,7 +15,7 @@ use Rattle.sheet_text.specs.Text.{bytes, tab, lf, field, number_line}
 use Rattle.sheet_text.specs.Place.{places}
 use Rattle.sheet_text.specs.Sheet.{entry_lines, join}
 use Rattle.sheet_text.proofs.Lengths.{short_field, long_field, bits_length, line_length, few_places, entry_lines_length}
-use Rattle.sheet_page.specs.Page.{pivot_line, pivot_lines, zero_line, lower_bits, det_line, page_of, refusal_line, refusal_of, twin_line}
+use Rattle.sheet_page.specs.Page.{pivot_line, pivot_lines, zero_line, lower_bits, det_line, page_of, refusal_of, twin_line}
 use Rattle.sheet_page.proofs.PageText.{end_line, page_text}
 
 -- the words of a row have at most two digits
@@ -79,7 +79,7 @@ page_length n words M det small rows mark =
     omega (arith, ap length (page_text n words M det count refl))
 
 pub refusal_length : (r : Answer) → code_of r < 100 → place_of r < 10000 → length (refusal_of r) ≤ 65536
-unfolding refusal_line
+unfolding refusal_of
 refusal_length r h k =
     let code = short_field (code_of r) tab h in
     let place = long_field (place_of r) lf k in

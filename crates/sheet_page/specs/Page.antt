@@ -49,12 +49,8 @@ page_lines n words M det =
 unfoldable pub page_of : ℕ → List ℕ → (ℕ → ℕ → Float) → Float → List ℕ
 page_of n words M det = join (page_lines n words M det)
 
--- the one line of a refusal: its code and its place
-unfoldable pub refusal_line : ℕ → ℕ → List ℕ
-refusal_line code place = bytes "refused\t" ++ (field code tab ++ field place lf)
-
-abbrev pub refusal_of : Answer → List ℕ
-refusal_of r = refusal_line (code_of r) (place_of r)
+unfoldable pub refusal_of : Answer → List ℕ
+refusal_of r = bytes "refused\t" ++ (field (code_of r) tab ++ field (place_of r) lf)
 
 -- rows p and q are twins
 unfoldable pub twin_line : ℕ → ℕ → List ℕ

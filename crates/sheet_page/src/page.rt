@@ -1,11 +1,13 @@
 // The lines of the page.
 ghost use Rattle.std.specs.Prelude.{◌≤◌, length};
+ghost use Rattle.std.specs.Float.{binary64};
+ghost use Rattle.std.specs.Float.Ieee.{to_bits};
 ghost use Rattle.sheet_text.specs.Text.{entry_line};
 ghost use Rattle.sheet_text.specs.Sheet.{join};
 ghost use Rattle.sheet_page.specs.Put.{Put};
 ghost use Rattle.sheet_page.specs.Asked.{PutPage};
 ghost use Rattle.sheet_page.specs.inner.Parts.{PutPivots, PutEntries, EntriesPut};
-ghost use Rattle.sheet_page.specs.Page.{pivot_line, pivot_lines, zero_line, det_line, matrix_in, bits_at, page_of, refusal_of, twin_line};
+ghost use Rattle.sheet_page.specs.Page.{pivot_line, pivot_lines, zero_line, det_line, matrix_in, page_of, refusal_of, twin_line};
 
 use crate::put::{put_bits, put_field, put_number_line, put_pair_line, put_word};
 use answer::Answer;
@@ -50,15 +52,14 @@ fn put_zero(out: &mut [u8], at: usize, mark: usize) -> usize
     put_number_line(out, at, b"zero\t", mark - 1)
 }
 
-// The entry line of a place.
-pub fn put_entry(out: &mut [u8], at: usize, p: Place, bits: u64) -> usize
+fn put_entry(out: &mut [u8], at: usize, p: Place, x: f64) -> usize
     requires { at ≤ length out.old }
-    ensures { Put out.old at (entry_line p.row p.column bits) result out.new }
+    ensures { Put out.old at (entry_line p.row p.column (to_bits binary64 x)) result out.new }
 {
     let next = put_word(out, at, b"entry\t");
     let next = put_field(out, next, p.row, b'\t');
     let next = put_field(out, next, p.column, b'\t');
-    put_bits(out, next, bits)
+    put_bits(out, next, leaf::to_bits(x))
 }
 
 // How many lines were written, and where they end.
@@ -70,13 +71,13 @@ pub struct Written {
 
 fn put_entries(out: &mut [u8], at: usize, n: usize, a: &[f64]) -> Written
     requires { PutEntries out.old at n a.now }
-    ensures { EntriesPut out.old at n (bits_at (matrix_in n a.now)) result out.new }
+    ensures { EntriesPut out.old at n a.now result out.new }
 {
     let mut p = Place { row: 0, column: 0 };
     let mut count: usize = 0;
     let mut next = at;
     while p.column < n {
-        next = put_entry(out, next, p, leaf::to_bits(a[p.row + p.column * n]));
+        next = put_entry(out, next, p, a[p.row + p.column * n]);
         count += 1;
         p = p.next(n);
     }

@@ -1,11 +1,11 @@
 -- What the writers of a digit, of the pivots and of the entries ask, and what the last of them promises.
-use Rattle.std.specs.Prelude.{◌≡◌, List, map, ℕ, ◌*◌, ◌<◌, ◌≤◌, Float, length}
+use Rattle.std.specs.Prelude.{◌≡◌, List, ℕ, ◌*◌, ◌<◌, ◌≤◌, Float, length}
 use Rattle.pivots.specs.Words.{words_of}
-use Rattle.sheet_text.specs.declared.place.Place.{Place}
 use Rattle.sheet_text.specs.Place.{places}
 use Rattle.sheet_text.specs.Sheet.{entry_lines, join}
 use Rattle.sheet_page.specs.declared.page.Written.{Written}
 use Rattle.sheet_page.specs.Put.{Put}
+use Rattle.sheet_page.specs.Page.{matrix_in, lower_bits}
 
 pub record PutDigit (o : List ℕ) (at d : ℕ) : Type 0 where
   pub room : at ≤ length o
@@ -20,7 +20,6 @@ pub record PutEntries (o : List ℕ) (at n : ℕ) (a : List Float) : Type 0 wher
   pub small : n ≤ 64
   pub whole : n * n ≤ length a
 
--- with the bits that f gives a place
-pub record EntriesPut (o : List ℕ) (at n : ℕ) (f : Place → ℕ) (r : Written) (o' : List ℕ) : Type 0 where
-  pub put : Put o at (join (entry_lines (places n) (map f (places n)))) r.next o'
+pub record EntriesPut (o : List ℕ) (at n : ℕ) (a : List Float) (r : Written) (o' : List ℕ) : Type 0 where
+  pub put : Put o at (join (entry_lines (places n) (lower_bits n (matrix_in n a)))) r.next o'
   pub count : r.count ≡ length (places n)

@@ -1,20 +1,16 @@
 -- The lines of the places from p on are still to come.
-use borrow.Author.Rules.{rules}
-use mathlib.Core.Path.{sym, ap, subst}
+use mathlib.Core.Path.{sym, subst}
 use native.Mathlib.Omega.{arith}
-use Prim.Native.Nat.{ℕ, ◌<◌}
+use Prim.Native.Nat.{◌<◌}
 use lib.ListN.{length}
 use Rattle.sheet_text.specs.declared.place.Place.{Place}
-use Rattle.sheet_text.specs.Text.{entry_line}
 use Rattle.sheet_text.proofs.PlaceLaws.{rest_from, rest_falls, column_fits, cell_inside, length_places}
-use Rattle.sheet_page.specs.Page.{matrix_in, bits_at}
-use Rattle.sheet_page.proofs.PutLaws.{put_same}
 use Rattle.sheet_page.proofs.Loops.{EntriesSoFar, entries_start, entries_more, entries_all}
 use Rattle.sheet_page.proofs.page.put_entries.Statement.{statement}
 use Rattle.sheet_page.proofs.page.put_entries.Tie as tie
 
 abbrev invariant-loop : tie.invariant-loop
-invariant-loop out₀ at n a p₀ count₀ next₀ out p count next = EntriesSoFar out₀ at n (bits_at (matrix_in n a)) out p count next
+invariant-loop out₀ at n a p₀ count₀ next₀ out p count next = EntriesSoFar out₀ at n a out p count next
 
 abbrev decreases-loop : tie.decreases-loop
 decreases-loop out₀ at n a p₀ count₀ next₀ out p count next = length (rest_from n p)
@@ -22,40 +18,60 @@ decreases-loop out₀ at n a p₀ count₀ next₀ out p count next = length (re
 loop-holds : tie.Need-loop-init invariant-loop decreases-loop
 loop-holds c = entries_start _ _ _ _ c.before.before.requires.room
 
-mul-to-bits : tie.Need-overflow-mul-to-bits invariant-loop decreases-loop
-mul-to-bits c = omega (arith, column_fits c.before.before.before.before.before.before.before.args.n c.before.before.before.before.loop.p c.before.before.before.before.before.before.before.requires.small c.before.before.if1.true)
+mul-put-entry : tie.Need-overflow-mul-put-entry invariant-loop decreases-loop
+mul-put-entry c =
+    let given = c.before.before.before.before.before.before.before in
+    let loop = c.before.before.before.before.loop in
+    omega (arith, column_fits given.args.n loop.p given.requires.small c.before.before.if1.true)
 
-add-to-bits : tie.Need-overflow-add-to-bits invariant-loop decreases-loop
-add-to-bits c = omega (arith, column_fits c.before.before.before.before.before.before.before.before.args.n c.before.before.before.before.before.loop.p c.before.before.before.before.before.before.before.before.requires.small c.before.before.before.if1.true, c.before.before.before.before.before.loop.invariant.inside.within c.before.before.before.if1.true, c.before.before.before.before.before.before.before.before.requires.small)
+add-put-entry : tie.Need-overflow-add-put-entry invariant-loop decreases-loop
+add-put-entry c =
+    let given = c.before.before.before.before.before.before.before.before in
+    let loop = c.before.before.before.before.before.loop in
+    omega (arith, column_fits given.args.n loop.p given.requires.small c.before.before.before.if1.true, (loop.invariant.inside.within c.before.before.before.if1.true), given.requires.small)
 
-mul-to-bits-2 : tie.Need-overflow-mul-to-bits-2 invariant-loop decreases-loop
-mul-to-bits-2 c = omega (arith, column_fits c.before.before.before.before.before.before.before.before.args.n c.before.before.before.before.before.loop.p c.before.before.before.before.before.before.before.before.requires.small c.before.before.before.if1.true, c.before.before.before.before.before.loop.invariant.inside.within c.before.before.before.if1.true, c.before.before.before.before.before.before.before.before.requires.small)
+mul-put-entry-2 : tie.Need-overflow-mul-put-entry-2 invariant-loop decreases-loop
+mul-put-entry-2 c =
+    let given = c.before.before.before.before.before.before.before.before in
+    let loop = c.before.before.before.before.before.loop in
+    omega (arith, column_fits given.args.n loop.p given.requires.small c.before.before.before.if1.true, (loop.invariant.inside.within c.before.before.before.if1.true), given.requires.small)
 
-shared-slice-read-to-bits : tie.Need-shared-slice-read-to-bits invariant-loop decreases-loop
-shared-slice-read-to-bits c = omega (arith, cell_inside c.before.before.before.before.before.before.before.before.before.args.n c.before.before.before.before.before.before.loop.p (c.before.before.before.before.before.before.loop.invariant.inside.within c.before.before.before.before.if1.true) c.before.before.before.before.if1.true, c.before.before.before.before.before.before.before.before.before.requires.whole)
-
-to-bits-requires : tie.Need-to-bits-requires invariant-loop decreases-loop
-to-bits-requires c κs = search rules
+shared-slice-read-put-entry : tie.Need-shared-slice-read-put-entry invariant-loop decreases-loop
+shared-slice-read-put-entry c =
+    let given = c.before.before.before.before.before.before.before.before.before in
+    let loop = c.before.before.before.before.before.before.loop in
+    let if1 = c.before.before.before.before.if1 in
+    omega (arith, cell_inside given.args.n loop.p (loop.invariant.inside.within if1.true) if1.true, given.requires.whole)
 
 put-entry-requires : tie.Need-put-entry-requires invariant-loop decreases-loop
-put-entry-requires c κs = c.before.before.before.before.before.before.before.loop.invariant.to-go.room
+put-entry-requires c κs =
+    let loop = c.before.before.before.before.before.before.loop in
+    loop.invariant.to-go.room
 
 add-count : tie.Need-overflow-add-count invariant-loop decreases-loop
-add-count c = omega (arith, c.before.before.before.before.before.before.before.before.before.before.loop.invariant.counted, length_places c.before.before.before.before.before.before.before.before.before.before.before.before.before.args.n c.before.before.before.before.before.before.before.before.before.before.before.before.before.requires.small)
+add-count c =
+    let given = c.before.before.before.before.before.before.before.before.before.before.before.before in
+    let loop = c.before.before.before.before.before.before.before.before.before.loop in
+    omega (arith, loop.invariant.counted, length_places given.args.n given.requires.small)
 
 next-requires : tie.Need-next-requires invariant-loop decreases-loop
-next-requires c κs = (c.before.before.before.before.before.before.before.before.before.before.loop.invariant.inside.within c.before.before.before.before.before.before.before.before.if1.true, c.before.before.before.before.before.before.before.before.if1.true)
+next-requires c κs =
+    let loop = c.before.before.before.before.before.before.before.before.before.loop in
+    let if1 = c.before.before.before.before.before.before.before.if1 in
+    ((loop.invariant.inside.within if1.true), if1.true)
 
 loop-less : tie.Need-loop-smaller invariant-loop decreases-loop
 loop-less c =
-    let n = c.before.before.before.before.before.before.before.before.before.before.before.before.before.before.args.n in
-    let p = c.before.before.before.before.before.before.before.before.before.before.before.loop.p in
-    subst (λ (q : Place). length (rest_from n q) < length (rest_from n p)) (sym c.next.ensures) (rest_falls n p (c.before.before.before.before.before.before.before.before.before.before.before.loop.invariant.inside.within c.before.before.before.before.before.before.before.before.before.if1.true))
+    let given = c.before.before.before.before.before.before.before.before.before.before.before.before.before in
+    let loop = c.before.before.before.before.before.before.before.before.before.before.loop in
+    let if1 = c.before.before.before.before.before.before.before.before.if1 in
+    subst (λ (q : Place). length (rest_from given.args.n q) < length (rest_from given.args.n loop.p)) (sym c.next.ensures) (rest_falls given.args.n loop.p (loop.invariant.inside.within if1.true))
 
 loop-again : tie.Need-loop-preserved invariant-loop decreases-loop
 loop-again c =
-    let p = c.before.before.before.before.before.before.before.before.before.before.before.loop.p in
-    entries_more c.before.before.before.before.before.before.before.before.before.before.before.loop.invariant c.before.before.before.before.before.before.before.before.before.if1.true c.next.ensures (put_same (ap (entry_line p.row p.column) c.before.before.before.before.to-bits.ensures) c.before.before.before.put-entry.ensures)
+    let loop = c.before.before.before.before.before.before.before.before.before.before.loop in
+    let if1 = c.before.before.before.before.before.before.before.before.if1 in
+    entries_more loop.invariant if1.true c.next.ensures c.before.before.before.put-entry.ensures
 
 same_length : tie.Need-same-length invariant-loop decreases-loop
 same_length c = c.before.before.loop.invariant.to-go.long
@@ -70,11 +86,10 @@ put-entries-spec =
     invariant-loop
     decreases-loop
     loop-holds
-    mul-to-bits
-    add-to-bits
-    mul-to-bits-2
-    shared-slice-read-to-bits
-    to-bits-requires
+    mul-put-entry
+    add-put-entry
+    mul-put-entry-2
+    shared-slice-read-put-entry
     put-entry-requires
     add-count
     next-requires

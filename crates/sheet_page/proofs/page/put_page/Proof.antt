@@ -3,7 +3,7 @@ use mathlib.Core.Path.{refl, ap}
 use native.Mathlib.Omega.{arith}
 use Prim.Native.Nat.{ℕ, ◌+◌, zero-le}
 use Rattle.sheet_text.proofs.PlaceLaws.{length_places}
-use Rattle.sheet_page.specs.Page.{zero_line, matrix_in, lower_bits}
+use Rattle.sheet_page.specs.Page.{zero_line, matrix_in}
 use Rattle.sheet_page.proofs.PutLaws.{put_then, put_ends, put_same}
 use Rattle.sheet_page.proofs.PageText.{page_text}
 use Rattle.sheet_page.proofs.page.put_page.Statement.{statement}
@@ -63,7 +63,6 @@ same_length c =
     (put_then put-number-line.ensures (put_then put-pivots.ensures (put_then (put_same (ap zero_line mark.ensures) put-zero.ensures) (put_then put_entries.ensures.put (put_then put-det.ensures c.before.before.put-number-line2.ensures))))).long
 
 returns : tie.Need-returns
-unfolding lower_bits
 returns c =
     let given = c.before.before.before.before.before.before.before.before.before.before.before.before.before.before.before.before.before.before.before.before.before.before.before.before.before.before.before.before.before.before.before in
     let put-number-line = c.before.before.before.before.before.before.before.before.before.before.before.before.before.before.before.before.before.before.before.before.before.before.before.before.before.put-number-line in

@@ -3,7 +3,7 @@ use mathlib.Core.List.{◌++◌}
 use mathlib.Core.Path.{refl, ap₂}
 use Prim.Native.Nat.{ℕ, zero-le}
 use Rattle.sheet_text.specs.Text.{bytes, field, tab, lf}
-use Rattle.sheet_page.specs.Page.{refusal_line}
+use Rattle.sheet_page.specs.Page.{refusal_of}
 use Rattle.sheet_page.proofs.PutLaws.{put_same}
 use Rattle.sheet_page.proofs.page.put_refusal.Statement.{statement}
 use Rattle.sheet_page.proofs.page.put_refusal.Tie as tie
@@ -30,7 +30,7 @@ same_length : tie.Need-same-length
 same_length c = c.before.before.put-pair-line.ensures.long
 
 returns : tie.Need-returns
-unfolding refusal_line
+unfolding refusal_of
 returns c =
     let code_step = c.before.before.before.before.before.before.code in
     let place-step = c.before.before.before.before.before.place in
