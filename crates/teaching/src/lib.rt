@@ -42,7 +42,7 @@ fn diagonal(y: Layout, a: &mut [f64], r: usize) -> Answer
 }
 
 // Row r, from left to right, and then its diagonal.
-fn last_row_law(y: Layout, a: &mut [f64], r: usize) -> Answer
+fn last_row(y: Layout, a: &mut [f64], r: usize) -> Answer
     requires laid { Laid y a.old }
     requires r_lt_order { r < y.order }
     ensures { Does y (last_row crate_rule r) a.old a.new result }
@@ -66,7 +66,7 @@ fn of_order(y: Layout, a: &mut [f64], n: usize) -> Answer
     if answer.code() != 0 {
         return answer;
     }
-    last_row_law(y, a, n - 1)
+    last_row(y, a, n - 1)
 }
 
 // Cholesky of the first n rows, 64 at most, in a room of room·room numbers.

@@ -1,4 +1,4 @@
--- `last_row_law` meets its contract. Assumes nothing.
+-- `last_row` meets its contract. Assumes nothing.
 use Prim.Native.Nat.{◌-◌}
 use native.Mathlib.Omega.{arith}
 use Rattle.matrix.specs.Layouts.{lower}
