@@ -8,9 +8,6 @@ use Rattle.sheet_text.proofs.EntrySteps.{entry_row, entry_no_row, entry_no_word}
 use Rattle.sheet_text.proofs.NextLaws.{number_next, number_not}
 use Rattle.sheet_text.proofs.line.entry_line.Goals as goal
 
--- TODO need slice-aggregate-word-stands : tie.Need-slice-aggregate-word-stands
--- slice-aggregate-word-stands c = search rules
-
 pub overflow_add-at : goal.overflow_add-at
 overflow_add-at c =
     omega (arith, word_fits (bytes "entry\t") c.args.s.now c.args.at (sym c.word_stands.ensures ∙ c.if-word_stands.true))

@@ -3,9 +3,6 @@ use Rattle.sheet_text.proofs.ReadSteps.{end_line_law, no_end_line, not_whole}
 use Rattle.sheet_text.proofs.NextLaws.{line_next, number_not}
 use Rattle.sheet_text.proofs.reader.last_line.Goals as goal
 
--- TODO need slice-aggregate-number-line : tie.Need-slice-aggregate-number-line
--- slice-aggregate-number-line c = search rules
-
 pub returns-in-Is : goal.returns-in-Is
 returns-in-Is c =
     c.closing.ensures ∙ sym (end_line_law _ _ _ _ _ _ c.if-e.true (line_next c.args.s.now c.args.e.next _ (sym c.in-Is.is ∙ c.number_line.ensures)).read)

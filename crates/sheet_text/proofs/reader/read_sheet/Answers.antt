@@ -6,9 +6,6 @@ use Rattle.sheet_text.proofs.NextLaws.{line_next, number_not}
 use Rattle.sheet_text.proofs.SheetSound.{reads_by}
 use Rattle.sheet_text.proofs.reader.read_sheet.Goals as goal
 
--- TODO need slice-aggregate-number-line : tie.Need-slice-aggregate-number-line
--- slice-aggregate-number-line c = search rules
-
 pub returns-in-Is : goal.returns-in-Is
 returns-in-Is c =
     reads_by _ _ _ _ (c.after_order.ensures ∙ sym (read_order c.args.s.now c.args.a.now _ _ (line_next c.args.s.now 0 _ (sym c.in-Is.is ∙ c.number_line.ensures)).read))

@@ -1,0 +1,34 @@
+-- `backward` goes through the blocks from the last row back.
+use Rattle.pivots.proofs.Walks.{back_none, back_more, back_all, block_before, rows_positive}
+use Rattle.lblt_solve_one.proofs.ColumnBlocks.{columns_backed}
+use Prim.Native.Nat.{◌-◌}
+use native.Mathlib.Omega.{arith}
+use mathlib.Core.Path.{refl, ◌∙◌}
+use Rattle.lblt_solve_rows.proofs.backward.Goals as goal
+
+pub loop-k-init : goal.loop-k-init
+loop-k-init c = (back_none c.requires.readable.accepted, refl)
+
+pub backward_block-k-requires-clause-laid : goal.backward_block-k-requires-clause-laid
+backward_block-k-requires-clause-laid c = c.requires.readable.factor
+
+pub backward_block-k-requires-clause-lined : goal.backward_block-k-requires-clause-lined
+backward_block-k-requires-clause-lined c = record { few = c.requires.lined.few; long = c.loop-k.invariant.1 ∙ c.requires.lined.long }
+
+pub backward_block-k-requires-clause-block_before : goal.backward_block-k-requires-clause-block_before
+backward_block-k-requires-clause-block_before c = block_before c.requires.readable.accepted c.loop-k.invariant.0.boundary c.loop-k-test.true
+
+pub loop-k-smaller : goal.loop-k-smaller
+loop-k-smaller c =
+    omega (arith, c.loop-k-test.true, c.backward_block-k.ensures.row, rows_positive c.args.words.now (c.loop-k.k - 1))
+
+pub loop-k-preserved : goal.loop-k-preserved
+loop-k-preserved c =
+    (back_more c.loop-k.invariant.0 c.loop-k-test.true c.backward_block-k.ensures.row c.backward_block-k.ensures.column, c.backward_block-k.auto.b ∙ c.loop-k.invariant.1)
+
+pub shape_of-b : goal.shape_of-b
+shape_of-b c = c.loop-k.invariant.1
+
+pub returns : goal.returns
+returns c =
+    columns_backed _ _ _ c.requires.lined.long _ _ (back_all c.loop-k.invariant.0 c.loop-k-test.false)

@@ -1,0 +1,53 @@
+-- `gather_row` takes the later rows, times the factor, from one row.
+use Rattle.matrix.proofs.Turning.{turning_none, turning_more, turning_all}
+use native.Mathlib.Omega.{arith}
+use mathlib.Core.Path.{◌∙◌}
+use Rattle.substitution_one.proofs.Offsets.{offset_small, offset_within}
+use Rattle.lblt_solve_rows.proofs.Across.{gathered}
+use Rattle.lblt_solve_rows.proofs.gather_row.Goals as goal
+
+pub loop-i-init : goal.loop-i-init
+loop-i-init c = turning_none (omega (arith, c.requires.from_le_order))
+
+pub overflow_add-i : goal.overflow_add-i
+overflow_add-i c =
+    omega (arith, c.requires.laid.roomy, offset_small _ _ _ _ c.start-start.ensures (omega (arith, c.requires.row_lt_from, c.requires.from_le_order)) c.requires.laid)
+
+pub offset_bounds-a-i : goal.offset_bounds-a-i
+offset_bounds-a-i c =
+    omega (arith, c.requires.laid.roomy, offset_small _ _ _ _ c.start-start.ensures (omega (arith, c.requires.row_lt_from, c.requires.from_le_order)) c.requires.laid)
+
+pub bounds-a-i : goal.bounds-a-i
+bounds-a-i c =
+    offset_within _ _ _ _ _ c.start-start.ensures (omega (arith, c.loop-i.invariant.ran.from, c.requires.row_lt_from)) c.loop-i-test.true c.requires.laid
+
+pub less_row-requires-clause-n_bound : goal.less_row-requires-clause-n_bound
+less_row-requires-clause-n_bound c = omega (arith, c.requires.laid.roomy)
+
+pub less_row-requires-clause-lined : goal.less_row-requires-clause-lined
+less_row-requires-clause-lined c = record { few = c.requires.lined.few; long = c.loop-i.invariant.long ∙ c.requires.lined.long }
+
+pub less_row-requires-clause-i_lt_n : goal.less_row-requires-clause-i_lt_n
+less_row-requires-clause-i_lt_n c = omega (arith, c.requires.row_lt_from, c.requires.from_le_order)
+
+pub less_row-requires-clause-k_lt_n : goal.less_row-requires-clause-k_lt_n
+less_row-requires-clause-k_lt_n c = c.loop-i-test.true
+
+pub overflow_add-i-in-loop-i : goal.overflow_add-i-in-loop-i
+overflow_add-i-in-loop-i c =
+    omega (arith, c.requires.laid.roomy, c.loop-i-test.true)
+
+pub loop-i-smaller : goal.loop-i-smaller
+loop-i-smaller c =
+    omega (arith, c.loop-i-test.true)
+
+pub loop-i-preserved : goal.loop-i-preserved
+loop-i-preserved c =
+    turning_more c.loop-i.invariant c.loop-i-test.true c.less_row.ensures c.less_row.auto.b
+
+pub shape_of-b : goal.shape_of-b
+shape_of-b c = c.loop-i.invariant.long
+
+pub returns : goal.returns
+returns c =
+    turning_all c.loop-i.invariant c.loop-i-test.false ∙ gathered _ _ _ _ c.requires.lined.long _ _ c.start-start.ensures _ c.requires.row_lt_from c.requires.from_le_order

@@ -1,0 +1,12 @@
+-- `swap_rows` exchanges two rows, one column after the other.
+use Rattle.matrix.proofs.Turning.{Turning}
+use Prim.Native.Nat.{◌-◌}
+use Rattle.matrix.specs.Columns.{at_column}
+use Rattle.lblt_solve_one.specs.Column.{swap_rows}
+use Rattle.lblt_solve_rows.proofs.swap_rows.Given as goal
+
+abbrev pub invariant-loop-j : goal.invariant-loop-j
+invariant-loop-j l = Turning 0 l.columns (at_column l.n (λ l'. swap_rows l' l.p l.q)) l.initial.b l.j l.b
+
+abbrev pub decreases-loop-j : goal.decreases-loop-j
+decreases-loop-j l = l.columns - l.j
