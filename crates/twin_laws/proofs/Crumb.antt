@@ -9,7 +9,7 @@ use native.Mathlib.Omega.{arith}
 use lib.IntN.{pos}
 use lib.Dec.{T, ltb, lit<, lit≤}
 use lib.Pow.{pow-add, pow_pos, pow_mono}
-use lib.Ieee.{Float, nan, inf, fin, binary64, low, up, down, minus, size, units, round, neg, le, fits}
+use lib.Ieee.{Float, nan, inf, fin, binary64, low, up, down, minus, size, round, neg, le, fits}
 use lib.Ieee.Digits.{size-lt, size_reaches}
 use lib.Ieee.Exact.{HasValue, units_val}
 use lib.Ieee.Order.{drop, round_mono}
