@@ -1,3 +1,2 @@
 // Worked cases: document 01's starred ones, Cholesky's solve, twin rows.
 #![tactic(auto)]
-

@@ -9,7 +9,11 @@ ghost use Rattle.io.specs.Counts.{IsPrefixLen};
 ghost use Rattle.sheet_main.specs.Status.{Status};
 
 use answer::Answer;
-use libc::{STDERR_FILENO, STDIN_FILENO, STDOUT_FILENO};
+use std::io::Read;
+
+const STDOUT_FILENO: i32 = 1;
+
+const STDERR_FILENO: i32 = 2;
 
 const STATUS_FILENO: i32 = 3;
 
@@ -21,39 +25,34 @@ struct Input {
 }
 
 // Reads until the buffer is full, the input ends or a read fails.
-fn read_input(buf: &mut [u8]) -> Input
+fn read_input(rt: &HostRuntime, buf: &mut [u8]) -> Input
     ensures { IsPrefixLen result.length buf.new }
 {
+    let mut stdin = rt.stdin();
     let mut length = 0;
     while length < buf.len() {
-        let got = libc::read(STDIN_FILENO, &mut buf[length..]);
-        if got < 0 {
-            return Input {
-                length: length,
-                failed: true,
-            };
+        match stdin.read(&mut buf[length..]) {
+            Ok(0) => {
+                return Input {
+                    length: length,
+                    failed: false,
+                };
+            }
+            Ok(more) => {
+                length += more;
+            }
+            Err(_) => {
+                return Input {
+                    length: length,
+                    failed: true,
+                };
+            }
         }
-        let more = io::count(got, &buf[length..]);
-        if more == 0 {
-            return Input {
-                length: length,
-                failed: false,
-            };
-        }
-        length += more;
     }
     Input {
         length: length,
         failed: false,
     }
-}
-
-// Writes the response and closes standard output, at which a full disk may first show.
-fn write_out(response: &[u8]) -> bool {
-    if io::write_all(STDOUT_FILENO, response) {
-        return libc::close(STDOUT_FILENO) == 0;
-    }
-    false
 }
 
 // The digit of the status: 0 for a page, 1 for a refused sheet, 2 where the warning or the response was not written.
@@ -78,7 +77,7 @@ fn answer_to(s: &[u8]) -> u8
     let warned = io::write_all(STDERR_FILENO, &output[..end]);
     let responded = sheet::respond(s, &mut output);
     let end = responded.end;
-    let written = write_out(&output[..end]);
+    let written = io::write_all(STDOUT_FILENO, &output[..end]);
     if !written {
         io::write_all(STDERR_FILENO, b"sheet: the output cannot be written\n");
     }
@@ -86,9 +85,9 @@ fn answer_to(s: &[u8]) -> u8
     status(answer, warned && written)
 }
 
-fn main() {
+fn main(rt: HostRuntime) {
     let mut buffer = io::large_buffer();
-    let input = read_input(&mut buffer);
+    let input = read_input(&rt, &mut buffer);
     if input.failed {
         io::write_all(STDERR_FILENO, b"sheet: the input cannot be read\n");
         io::write_all(STATUS_FILENO, b"2");
