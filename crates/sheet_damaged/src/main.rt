@@ -1,9 +1,13 @@
 // Runs the sheet program's functions on each file that an argument names, and prints the name, the response and the warning.
 #![tactic(auto)]
 
-use libc::STDOUT_FILENO;
+use std::env;
+use std::fs::File;
+use std::os::fd::{AsRawFd, RawFd};
 
-fn respond_to(fd: i32) {
+const STDOUT_FILENO: i32 = 1;
+
+fn respond_to(fd: RawFd) {
     let mut input = io::large_buffer();
     let length = io::read_full(fd, &mut input);
     let mut output = io::large_buffer();
@@ -14,25 +18,20 @@ fn respond_to(fd: i32) {
     io::write_all(STDOUT_FILENO, &output[..end]);
 }
 
-fn show(argument: usize) {
-    let mut name = io::buffer();
-    let length = os::arg(argument, &mut name);
-    io::write_all(STDOUT_FILENO, &name[..length]);
+fn show(rt: &HostRuntime, name: &str) {
+    io::write_all(STDOUT_FILENO, name.as_bytes());
     io::write_all(STDOUT_FILENO, b"\t");
-    let fd = os::open_read(&name[..length]);
-    if fd < 0 {
-        os::fail(&name[..length]);
-        return;
+    match File::open(rt, name) {
+        Ok(file) => respond_to(file.as_raw_fd()),
+        Err(error) => {
+            let _ = eprintln!(rt; "{name}: {error}");
+        }
     }
-    respond_to(fd);
-    libc::close(fd);
 }
 
-fn main() {
-    let count = os::arg_count();
-    let mut argument = 1;
-    while argument < count {
-        show(argument);
-        argument += 1;
+fn main(rt: HostRuntime) -> std::io::Result<()> {
+    for name in env::args(&rt)?.skip(1) {
+        show(&rt, name.as_str());
     }
+    Ok(())
 }
