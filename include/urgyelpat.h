@@ -1,6 +1,6 @@
 /* urgyelpat.h: LBLT, Cholesky and UDU factors of symmetric matrices of doubles, from C and C++.
  *
- * The functions stand in liburgyelpat.a (`rt staticlib urgyelpat`), for x86-64 Linux. Each is proved, on every input, to give
+ * The functions stand in liburgyelpat.a (`./staticlib urgyelpat`), for x86-64 Linux. Each is proved, on every input, to give
  * the answer and to leave the buffers that this page and docs/PROMISES.md say. What is said to hold "on paper" holds for exact
  * numbers: that a factor multiplies back, or that a solution solves, up to rounding, is not proved, and is not true of every
  * matrix. The small functions that stand here in C are tested and not proved.

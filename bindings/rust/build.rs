@@ -31,7 +31,7 @@ fn main() {
     println!("cargo:rerun-if-changed={}", archive.display());
     if !archive.is_file() {
         eprintln!("There is no {}.", archive.display());
-        eprintln!("Run `rt staticlib urgyelpat` in the repository, which proves the library and writes target/staticlib/{ARCHIVE},");
+        eprintln!("Run `./staticlib urgyelpat` in the repository, which proves the library and writes target/staticlib/{ARCHIVE},");
         eprintln!("or set {VARIABLE} to the folder that has {ARCHIVE}.");
         process::exit(1);
     }

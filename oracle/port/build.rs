@@ -14,7 +14,7 @@ fn main() {
     if !file.is_file() {
         let missing = format!("there is no {}", file.display());
         println!(
-            "cargo::error=the port is not at hand: {missing}; `rt staticlib urgyelpat` writes the archive, and URGYELPAT_PORT can name another"
+            "cargo::error=the port is not at hand: {missing}; `./staticlib urgyelpat` writes the archive, and URGYELPAT_PORT can name another"
         );
         return;
     }

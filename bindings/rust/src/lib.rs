@@ -58,7 +58,7 @@
 //! # Where it runs
 //!
 //! The library is compiled for x86-64 Linux. The build takes it from the folder that `URGYELPAT_LIB_DIR` names, or from
-//! target/staticlib of the repository, where `rt staticlib urgyelpat` writes it.
+//! target/staticlib of the repository, where `./staticlib urgyelpat` writes it.
 
 #![warn(missing_docs)]
 
