@@ -17,7 +17,7 @@ use matrix::Layout;
 fn stretch_end(benches: &[u32], number: u32, from: usize) -> usize
     requires { from ≤ length benches.now }
     ensures stretch { Stretch benches.now number from result }
-    ensures fact { result < length benches.now → get_or benches.now result 0 ≡ number → ⊥ }
+    ensures other_number { result < length benches.now → get_or benches.now result 0 ≡ number → ⊥ }
 {
     let mut j = from;
     while 4 <= benches.len() - j {

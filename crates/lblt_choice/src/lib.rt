@@ -73,7 +73,7 @@ fn column_max(y: Layout, a: &[f64], k: usize) -> Largest
 fn larger(most: f64, x: f64) -> f64
     requires { T (not (is_nan most)) }
     ensures value { result ≡ maximum_of most x }
-    ensures t { T (not (is_nan result)) }
+    ensures no_nan { T (not (is_nan result)) }
 {
     if most < x {
         return x;
@@ -85,9 +85,9 @@ fn along_row(y: Layout, a: &[f64], i: usize, j: usize, rowmax: f64) -> f64
     requires laid { Laid y a.now }
     requires j_le_i { j ≤ i }
     requires i_lt_order { i < y.order }
-    requires t { T (not (is_nan rowmax)) }
+    requires begun_no_nan { T (not (is_nan rowmax)) }
     ensures value { result ≡ along_row (load (lower y) a.now) i j rowmax }
-    ensures t_2 { T (not (is_nan result)) }
+    ensures no_nan { T (not (is_nan result)) }
 {
     larger(rowmax, abs(get(y, a, i, j)))
 }
@@ -96,9 +96,9 @@ fn down_column(y: Layout, a: &[f64], i: usize, j: usize, rowmax: f64) -> f64
     requires laid { Laid y a.now }
     requires i_le_j { i ≤ j }
     requires j_lt_order { j < y.order }
-    requires t { T (not (is_nan rowmax)) }
+    requires begun_no_nan { T (not (is_nan rowmax)) }
     ensures value { result ≡ down_column (load (lower y) a.now) i j rowmax }
-    ensures t_2 { T (not (is_nan result)) }
+    ensures no_nan { T (not (is_nan result)) }
 {
     larger(rowmax, abs(get(y, a, j, i)))
 }

@@ -39,10 +39,10 @@ pub fn axpy4(
 )
     requires lo_le_hi { lo ≤ hi }
     requires to_in_bounds { hi + to ≤ length a.old }
-    requires elsewhere { Elsewhere lo hi to a.old s }
-    requires elsewhere_2 { Elsewhere lo hi to a.old t }
-    requires elsewhere_3 { Elsewhere lo hi to a.old u }
-    requires elsewhere_4 { Elsewhere lo hi to a.old v }
+    requires s_elsewhere { Elsewhere lo hi to a.old s }
+    requires t_elsewhere { Elsewhere lo hi to a.old t }
+    requires u_elsewhere { Elsewhere lo hi to a.old u }
+    requires v_elsewhere { Elsewhere lo hi to a.old v }
     ensures { Strip to lo hi (axpy4_of a.old to s t u v) a.old a.new }
 {
     let at_s = s.start;

@@ -12,12 +12,12 @@ pub get-requires-clause-i_lt_order : goal.get-requires-clause-i_lt_order
 get-requires-clause-i_lt_order c = c.requires.j_lt_order
 
 pub larger-requires : goal.larger-requires
-larger-requires c = c.requires.t
+larger-requires c = c.requires.begun_no_nan
 
 pub returns-clause-value : goal.returns-clause-value
 unfolding down_column
 returns-clause-value c = rw (c.abs.ensures, c.get.ensures) at c.larger.ensures.value
 
-pub returns-clause-t_2 : goal.returns-clause-t_2
+pub returns-clause-no_nan : goal.returns-clause-no_nan
 unfolding down_column
-returns-clause-t_2 c = c.larger.ensures.t
+returns-clause-no_nan c = c.larger.ensures.no_nan

@@ -10,7 +10,7 @@ pub loop-i-preserved : goal.loop-i-preserved
 loop-i-preserved c =
     strip_more _ c.loop-i.invariant
     c.loop-i-test.true c.requires.to_in_bounds
-    (axpy4_row c.args.s c.args.t c.args.u c.args.v c.loop-i.invariant c.loop-i-test.true c.requires.elsewhere c.requires.elsewhere_2 c.requires.elsewhere_3 c.requires.elsewhere_4)
+    (axpy4_row c.args.s c.args.t c.args.u c.args.v c.loop-i.invariant c.loop-i-test.true c.requires.s_elsewhere c.requires.t_elsewhere c.requires.u_elsewhere c.requires.v_elsewhere)
 
 pub returns : goal.returns
 returns c = strip_all c.loop-i.invariant c.loop-i-test.false

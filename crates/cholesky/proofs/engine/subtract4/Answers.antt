@@ -26,23 +26,23 @@ axpy4-requires-clause-to_in_bounds c =
     let column = c.start.ensures in
     column_inside c.requires.laid c.requires.reach.column column
 
-pub axpy4-requires-clause-elsewhere : goal.axpy4-requires-clause-elsewhere
-axpy4-requires-clause-elsewhere c =
+pub axpy4-requires-clause-s_elsewhere : goal.axpy4-requires-clause-s_elsewhere
+axpy4-requires-clause-s_elsewhere c =
     let column = c.start.ensures in
     source_elsewhere c.requires.laid c.requires.reach (omega arith) c.source-s.ensures column
 
-pub axpy4-requires-clause-elsewhere_2 : goal.axpy4-requires-clause-elsewhere_2
-axpy4-requires-clause-elsewhere_2 c =
+pub axpy4-requires-clause-t_elsewhere : goal.axpy4-requires-clause-t_elsewhere
+axpy4-requires-clause-t_elsewhere c =
     let column = c.start.ensures in
     source_elsewhere c.requires.laid c.requires.reach (omega arith) c.source-t.ensures column
 
-pub axpy4-requires-clause-elsewhere_3 : goal.axpy4-requires-clause-elsewhere_3
-axpy4-requires-clause-elsewhere_3 c =
+pub axpy4-requires-clause-u_elsewhere : goal.axpy4-requires-clause-u_elsewhere
+axpy4-requires-clause-u_elsewhere c =
     let column = c.start.ensures in
     source_elsewhere c.requires.laid c.requires.reach (omega arith) c.source-u.ensures column
 
-pub axpy4-requires-clause-elsewhere_4 : goal.axpy4-requires-clause-elsewhere_4
-axpy4-requires-clause-elsewhere_4 c =
+pub axpy4-requires-clause-v_elsewhere : goal.axpy4-requires-clause-v_elsewhere
+axpy4-requires-clause-v_elsewhere c =
     let column = c.start.ensures in
     source_elsewhere c.requires.laid c.requires.reach (omega arith) c.source-v.ensures column
 

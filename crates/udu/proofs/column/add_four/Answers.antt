@@ -130,23 +130,23 @@ axpy4-requires-clause-to_in_bounds c =
     let below : c.args.j < c.args.n = omega (arith, c.requires.j_lt_k, c.requires.k_bound) in
     omega (arith, c.requires.u_len, digits_within c.args.n c.args.n c.args.j c.args.j below below)
 
-pub axpy4-requires-clause-elsewhere : goal.axpy4-requires-clause-elsewhere
-axpy4-requires-clause-elsewhere c =
+pub axpy4-requires-clause-s_elsewhere : goal.axpy4-requires-clause-s_elsewhere
+axpy4-requires-clause-s_elsewhere c =
     let below : c.args.j < c.args.n = omega (arith, c.requires.j_lt_k, c.requires.k_bound) in
     source_elsewhere c.args.n c.args.j _ c.args.u.now c.args.d.now c.source-s.ensures c.requires.u_len (omega (arith, c.requires.j_lt_k)) (omega (arith, c.requires.k_bound))
 
-pub axpy4-requires-clause-elsewhere_2 : goal.axpy4-requires-clause-elsewhere_2
-axpy4-requires-clause-elsewhere_2 c =
+pub axpy4-requires-clause-t_elsewhere : goal.axpy4-requires-clause-t_elsewhere
+axpy4-requires-clause-t_elsewhere c =
     let below : c.args.j < c.args.n = omega (arith, c.requires.j_lt_k, c.requires.k_bound) in
     source_elsewhere c.args.n c.args.j _ c.args.u.now c.args.d.now c.source-t.ensures c.requires.u_len (omega (arith, c.requires.j_lt_k)) (omega (arith, c.requires.k_bound))
 
-pub axpy4-requires-clause-elsewhere_3 : goal.axpy4-requires-clause-elsewhere_3
-axpy4-requires-clause-elsewhere_3 c =
+pub axpy4-requires-clause-u_elsewhere : goal.axpy4-requires-clause-u_elsewhere
+axpy4-requires-clause-u_elsewhere c =
     let below : c.args.j < c.args.n = omega (arith, c.requires.j_lt_k, c.requires.k_bound) in
     source_elsewhere c.args.n c.args.j _ c.args.u.now c.args.d.now c.source-v.ensures c.requires.u_len (omega (arith, c.requires.j_lt_k)) (omega (arith, c.requires.k_bound))
 
-pub axpy4-requires-clause-elsewhere_4 : goal.axpy4-requires-clause-elsewhere_4
-axpy4-requires-clause-elsewhere_4 c =
+pub axpy4-requires-clause-v_elsewhere : goal.axpy4-requires-clause-v_elsewhere
+axpy4-requires-clause-v_elsewhere c =
     let below : c.args.j < c.args.n = omega (arith, c.requires.j_lt_k, c.requires.k_bound) in
     source_elsewhere c.args.n c.args.j _ c.args.u.now c.args.d.now c.source-w.ensures c.requires.u_len (omega (arith, c.requires.j_lt_k)) (omega (arith, c.requires.k_bound))
 
