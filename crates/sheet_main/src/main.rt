@@ -1,6 +1,6 @@
 // The sheet program: standard input in, the warning to standard error, the response to standard output.
 // The first 65,536 bytes decide, since every sheet is shorter.
-// A program cannot set its exit status: this one writes it, one digit, to descriptor 3, and ./sheet ends with it.
+// The status goes to descriptor 3, one digit, and ./sheet ends with it.
 #![tactic(auto)]
 
 ghost use Rattle.std.specs.Prelude.{◌≡◌, cond};
