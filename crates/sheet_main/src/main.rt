@@ -9,6 +9,8 @@ ghost use Rattle.io.specs.Counts.{IsPrefixLen};
 ghost use Rattle.sheet_main.specs.Status.{Status};
 
 use answer::Answer;
+use std::fs;
+use std::fs::{OpenFile, OpenOptions};
 use std::io::Read;
 
 const STDOUT_FILENO: i32 = 1;
@@ -55,6 +57,25 @@ fn read_input(rt: &HostRuntime, buf: &mut [u8]) -> Input
     }
 }
 
+// Whether a file that was written to takes what it got: a full disk may first show here.
+fn is_synced(rt: &HostRuntime, path: &str) -> bool {
+    match OpenOptions::new().write(true).open(rt, path) {
+        Ok(file) => file.sync_all().is_ok(),
+        Err(_) => true,
+    }
+}
+
+// Writes the response, and waits for the disk where standard output is a file.
+fn write_out(rt: &HostRuntime, response: &[u8]) -> bool {
+    if !io::write_all(STDOUT_FILENO, response) {
+        return false;
+    }
+    match fs::metadata(rt, "/dev/stdout") {
+        Ok(found) => !found.is_file() || is_synced(rt, "/dev/stdout"),
+        Err(_) => true,
+    }
+}
+
 // The digit of the status: 0 for a page, 1 for a refused sheet, 2 where the warning or the response was not written.
 fn status(answer: Answer, written: bool) -> u8
     ensures { result ≡ cond written (cond (is_done answer) 48 49) 50 }
@@ -69,7 +90,7 @@ fn status(answer: Answer, written: bool) -> u8
 }
 
 // Writes the warning and the response of s, and answers the digit of the status.
-fn answer_to(s: &[u8]) -> u8
+fn answer_to(rt: &HostRuntime, s: &[u8]) -> u8
     ensures { Status s.now result }
 {
     let mut output = io::large_buffer();
@@ -77,7 +98,7 @@ fn answer_to(s: &[u8]) -> u8
     let warned = io::write_all(STDERR_FILENO, &output[..end]);
     let responded = sheet::respond(s, &mut output);
     let end = responded.end;
-    let written = io::write_all(STDOUT_FILENO, &output[..end]);
+    let written = write_out(rt, &output[..end]);
     if !written {
         io::write_all(STDERR_FILENO, b"sheet: the output cannot be written\n");
     }
@@ -94,6 +115,6 @@ fn main(rt: HostRuntime) {
         return;
     }
     let length = input.length;
-    let digit = answer_to(&buffer[..length]);
+    let digit = answer_to(&rt, &buffer[..length]);
     io::write_all(STATUS_FILENO, &[digit]);
 }
