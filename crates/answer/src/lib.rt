@@ -2,12 +2,10 @@
 #![tactic(auto)]
 
 ghost use Rattle.std.specs.Prelude.{◌≡◌};
-ghost use Rattle.answer.specs.Number.{code_of, place_of, number_of};
+ghost use Rattle.answer.specs.Number.{refusal_code, refusal_place, refusal_number, number_of};
 
-#[derive(Clone, Copy)]
-pub enum Answer {
-    // The result stands in the lent slices.
-    Done,
+#[derive(Clone, Copy, Debug, PartialEq, Eq)]
+pub enum Refusal {
     // An order, room, column or item count above 1,024, an order above 64 for the teaching engine or a tray, or UDU of order 0.
     OutOfRange,
     // Cholesky: an order above the room, or an earlier order above the order.
@@ -36,60 +34,65 @@ pub enum Answer {
     BadLine(u32),
 }
 
-// An answer with a number beside it: a determinant, +0 where refused.
-#[derive(Clone, Copy)]
-pub struct Valued {
-    pub answer: Answer,
-    pub value: f64,
-}
+// Of a call that leaves its result in the lent slices.
+pub type Answer = Result<(), Refusal>;
 
-impl Answer {
+impl Refusal {
     pub fn code(self) -> u8
-        ensures { result ≡ code_of self }
+        ensures { result ≡ refusal_code self }
     {
         match self {
-            Answer::Done => 0,
-            Answer::OutOfRange => 1,
-            Answer::OrderAboveRoom => 2,
-            Answer::MatrixLength => 3,
-            Answer::SliceLength => 4,
-            Answer::BadRecord(_) => 5,
-            Answer::ZeroMark(_) => 6,
-            Answer::CholeskyZero(_) => 7,
-            Answer::ZeroDiagonal(_) => 8,
-            Answer::CholeskyBelowZero(_) => 10,
-            Answer::CholeskyNan(_) => 11,
-            Answer::BadList(_) => 12,
-            Answer::OtherRun => 13,
-            Answer::BadLine(_) => 20,
+            Refusal::OutOfRange => 1,
+            Refusal::OrderAboveRoom => 2,
+            Refusal::MatrixLength => 3,
+            Refusal::SliceLength => 4,
+            Refusal::BadRecord(_) => 5,
+            Refusal::ZeroMark(_) => 6,
+            Refusal::CholeskyZero(_) => 7,
+            Refusal::ZeroDiagonal(_) => 8,
+            Refusal::CholeskyBelowZero(_) => 10,
+            Refusal::CholeskyNan(_) => 11,
+            Refusal::BadList(_) => 12,
+            Refusal::OtherRun => 13,
+            Refusal::BadLine(_) => 20,
         }
     }
 
+    // 0 where the refusal names no row, column or line.
     pub fn place(self) -> u32
-        ensures { result ≡ place_of self }
+        ensures { result ≡ refusal_place self }
     {
         match self {
-            Answer::Done => 0,
-            Answer::OutOfRange => 0,
-            Answer::OrderAboveRoom => 0,
-            Answer::MatrixLength => 0,
-            Answer::SliceLength => 0,
-            Answer::BadRecord(row) => row,
-            Answer::ZeroMark(row) => row,
-            Answer::CholeskyZero(column) => column,
-            Answer::ZeroDiagonal(column) => column,
-            Answer::CholeskyBelowZero(column) => column,
-            Answer::CholeskyNan(column) => column,
-            Answer::BadList(row) => row,
-            Answer::OtherRun => 0,
-            Answer::BadLine(line) => line,
+            Refusal::OutOfRange => 0,
+            Refusal::OrderAboveRoom => 0,
+            Refusal::MatrixLength => 0,
+            Refusal::SliceLength => 0,
+            Refusal::BadRecord(row) => row,
+            Refusal::ZeroMark(row) => row,
+            Refusal::CholeskyZero(column) => column,
+            Refusal::ZeroDiagonal(column) => column,
+            Refusal::CholeskyBelowZero(column) => column,
+            Refusal::CholeskyNan(column) => column,
+            Refusal::BadList(row) => row,
+            Refusal::OtherRun => 0,
+            Refusal::BadLine(line) => line,
         }
     }
 
-    // The one number of an answer, code·4,096 + place.
+    // The one number of a refusal, code·4,096 + place.
     pub fn number(self) -> u64
-        ensures { result ≡ number_of self }
+        ensures { result ≡ refusal_number self }
     {
         (self.code() as u64) * 4096 + (self.place() as u64)
+    }
+}
+
+// The one number of an answer: 0 where all is done.
+pub fn number(answer: Answer) -> u64
+    ensures { result ≡ number_of answer }
+{
+    match answer {
+        Ok(()) => 0,
+        Err(refusal) => refusal.number(),
     }
 }

@@ -1,19 +1,12 @@
 -- What each call gives, written out: any answer and memory that meet its promise are that. Assumes nothing.
-use mathlib.Core.Path.{◌≡◌, refl, sym, ap, subst, ◌∙◌}
-use mathlib.Core.Bool.{Bool, true, false, cond}
-use mathlib.Core.List.{List, [], ◌∷◌}
-use Prim.Native.Nat.{ℕ, ◌*◌, ◌%◌, ◌/◌, ◌<◌}
-use lib.ListN.{length, replicate, length-replicate}
-use lib.IntN.{ℤ, pos}
-use lib.Ieee.{Float, binary64, of_bits, to_bits}
-use mir.Syntax.{w32}
-use mir.Val.{of_z}
-use Rattle.pivots.specs.Words.{words_of, mark_at, run_at}
-use Rattle.answer.specs.declared.Answer.{Answer}
-use Rattle.answer.specs.declared.Answer.TheVariants.{Done}
-use Rattle.answer.specs.declared.Valued.{Valued}
-use Rattle.answer.specs.Number.{is_done, number_of}
-use Rattle.answer.specs.Refusals.{tested}
+use Rattle.std.proofs.Common.{Result, Ok, Err, ◌≡◌, refl, sym, ap, subst, ◌∙◌, Bool, true, false, cond, List, [], ◌∷◌, ℕ, ◌*◌, ◌%◌, ◌/◌, ◌<◌, length, replicate, ℤ, Float}
+use lib.ListN.{length-replicate}
+use lib.Ieee.{binary64, of_bits, to_bits}
+use Rattle.pivots.specs.Words.{words_of}
+use Rattle.answer.specs.Answer.{Answer, Done, answer_of, is_done}
+use Rattle.answer.specs.Number.{number_of}
+use Rattle.answer.specs.declared.Refusal.{Refusal}
+use Rattle.answer.specs.Refusals.{Test, tested}
 use Rattle.answer.proofs.Done.{done_or_refused}
 use Rattle.answer.proofs.Tested.{tested_fixed, tested_join}
 use Rattle.leaf.specs.Root.{root_of}
@@ -24,10 +17,10 @@ use Rattle.matrix.specs.Sizes.{size_tests, sizes_of, Fits}
 use Rattle.matrix.proofs.Sizes.{done_fits, laid_fits}
 use Rattle.packed.specs.Growing.{grow_tests, grown, Grown}
 use Rattle.packed.proofs.Growing.{grown_fits}
-use Rattle.pivots_lapack.specs.declared.Listed.{Listed}
+use Rattle.pivots_lapack.specs.declared.Stamp.{Stamp}
 use Rattle.pivots_lapack.specs.Numbers.{mark_meant}
 use Rattle.pivots_lapack.specs.Lists.{record_of, list_of}
-use Rattle.pivots_lapack.specs.Calls.{read_tests, write_tests, ListRead, ListWritten}
+use Rattle.pivots_lapack.specs.Calls.{read_tests, write_tests, stamp_of, ListRead, ListWritten}
 use Rattle.lblt_choice.specs.Choice.{column_max}
 use Rattle.lblt.specs.Factor.{factor_tests, final_state, recorded, Factored}
 use Rattle.lblt.proofs.Done.{Same}
@@ -48,15 +41,14 @@ use Rattle.cholesky.specs.Solve.{sides_tests, solve_sides, CholeskySolved}
 use Rattle.pivots.specs.Rule.{checked}
 use Rattle.handheld.specs.declared.Factored.{Factored as Factored3}
 use Rattle.handheld.specs.Shapes as handheld
-use Rattle.handheld.specs.Promise.{FactoredByValue}
+use Rattle.handheld.specs.Promise.{FactoredByValue, left_by}
 use Rattle.handheld.proofs.Promises.{solve_answer_law}
 use Rattle.teaching.specs.Promise.{teaching_tests, reached, Taught}
 use Rattle.teaching.proofs.Promises.{taught_fits}
 use Rattle.udu.specs.Promise.{udu_tests, udu_of, udu_answer, factors_of, UduFactored}
-use Rattle.cases.specs.Calls.{stray, floats, bits_of, signed_bits, answered, lent_words, lent_list, lent_floats, Call, lblt_factor, lblt_determinant, lblt_solve, lblt_solve_bench, lblt_tray, lblt_readers, lblt_largest, handheld_factor, handheld_solve, handheld_pivots, columns_in, pivots_from_lapack, pivots_to_lapack, cholesky_factor, cholesky_extend_floored, cholesky_teaching, cholesky_solve, cholesky_solve_sizes, packed_lblt_factor, packed_lblt_determinant, packed_lblt_solve, packed_cholesky_factor, packed_cholesky_extend, packed_cholesky_solve, packed_extend_sizes, udu_factor, root, Gives}
+use Rattle.cases.specs.Calls.{stray, floats, bits_of, signed_bits, answered, value_bits, stamp_words, column_in, lent_words, lent_list, lent_floats, Call, lblt_factor, lblt_determinant, lblt_solve, lblt_solve_bench, lblt_tray, lblt_readers, lblt_largest, handheld_factor, handheld_solve, handheld_pivots, columns_in, pivots_from_lapack, pivots_to_lapack, cholesky_factor, cholesky_extend_floored, cholesky_teaching, cholesky_solve, cholesky_solve_sizes, packed_lblt_factor, packed_lblt_determinant, packed_lblt_solve, packed_cholesky_factor, packed_cholesky_extend, packed_cholesky_solve, packed_extend_sizes, udu_factor, root, Gives}
 use Rattle.matrix.proofs.Places.{lower_low, lower_left}
 use Rattle.matrix.proofs.Slices.{listed, is_listed, overlaid, holds_overlaid, lower_overlaid, fills_listed}
-use Rattle.matrix.specs.Rounded.{plus_zero}
 
 -- ---- LBLT's factor
 
@@ -90,15 +82,26 @@ module _ (y : Layout) (run : ℕ) (a : List Float) (words : List ℕ) where
 
 -- ---- LBLT's readers
 
+-- a refusal's code and place do not hang on what a done call gives
+answered_done : {A : Type 0} (tests : List Test) (x : A) → answered (tested tests (Ok x)) ≡ answered (tested tests Done)
+unfolding tested
+answered_done [] x = refl
+answered_done {A} (t ∷ tests) x = by t.holds (answered_done tests x)
+  where
+    by : (b : Bool) → answered (tested tests (Ok x)) ≡ answered (tested tests Done)
+        → answered (cond b (tested tests (Ok x)) (Err t.refusal)) ≡ answered (cond b (tested tests Done) (Err t.refusal))
+    by true rest = rest
+    by false rest = refl
+
 module _ (y : Layout) (run : ℕ) (a : List Float) (words : List ℕ) where
   unfoldable pub determinant_numbers : List (List ℕ)
   determinant_numbers =
-      let r = tested (reader_tests y run a words) Done in
-      answered r ∷ (to_bits binary64 (cond (is_done r) (determinant_of y.order (load (lower y) a) words) plus_zero) ∷ []) ∷ []
+      let v = tested (reader_tests y run a words) (Ok (determinant_of y.order (load (lower y) a) words)) in
+      answered v ∷ (value_bits v ∷ []) ∷ []
 
-  pub determines : {v : Valued} → LbltDetermined y run a words v → (answered v.answer ∷ (to_bits binary64 v.value ∷ []) ∷ []) ≡ determinant_numbers
+  pub determines : {v : Result Float Refusal} → LbltDetermined y run a words v → (answered v ∷ (value_bits v ∷ []) ∷ []) ≡ determinant_numbers
   unfolding determinant_numbers
-  determines d = rw (d.value, d.answer)
+  determines d = rw d.answer
 
   unfoldable pub solve_numbers : List Float → List (List ℕ)
   solve_numbers b =
@@ -181,12 +184,12 @@ module _ (n : ℕ) (words : List ℕ) (list : List ℤ) where
 
   unfoldable pub written_numbers : List (List ℕ)
   written_numbers =
-      let r = tested (write_tests n words list) Done in
-      answered r ∷ signed_bits (cond (is_done r) (list_of n words) list) ∷ (of_z w32 (cond (is_done r) (pos (mark_at n words)) (pos 0)) ∷ cond (is_done r) (run_at n words) 0 ∷ []) ∷ []
+      let r = tested (write_tests n words list) (Ok (stamp_of n words)) in
+      answered r ∷ signed_bits (cond (is_done r) (list_of n words) list) ∷ stamp_words r ∷ []
 
-  pub writes : {r : Listed} {list' : List ℤ} → ListWritten n words list r list' → (answered r.answer ∷ signed_bits list' ∷ (of_z w32 r.info ∷ r.run ∷ []) ∷ []) ≡ written_numbers
+  pub writes : {r : Result Stamp Refusal} {list' : List ℤ} → ListWritten n words list r list' → (answered r ∷ signed_bits list' ∷ stamp_words r ∷ []) ≡ written_numbers
   unfolding written_numbers
-  writes d = rw (d.numbers, d.info, d.run, d.answer)
+  writes d = rw (d.numbers, d.answer)
 
 -- ---- Cholesky's factor and further batch, by any rule, and its solve
 
@@ -299,6 +302,11 @@ handheld_words a = lblt_words (full 3) 0 (handheld.numbers_of (columns_in a)) (l
 abbrev pub handheld_slice : List ℕ → List Float
 handheld_slice a = lblt_slice (full 3) 0 (handheld.numbers_of (columns_in a)) (lent_words 3)
 
+-- the code and the place of a call that gives a value
+answered_value : {A : Type 0} (r : Result A Refusal) → answered r ≡ answered (answer_of r)
+answered_value (Ok x) = refl
+answered_value (Err refusal) = refl
+
 handheld_factors : (a : List ℕ) {r : Factored3} → FactoredByValue (columns_in a) r → (handheld.record_of 0 r.pivots ≡ handheld_words a) × (handheld.numbers_of r.matrix ≡ handheld_slice a)
 handheld_factors a f = let g = factors (full 3) 0 (handheld.numbers_of (columns_in a)) (lent_words 3) (f.lent 0 (lent_words 3) refl) in (g.pivots, g.matrix)
 
@@ -352,14 +360,14 @@ gives (lblt_solve_bench n run expected columns bench benches a b) = λ r s a' b'
 gives (lblt_tray n count runs a b t) = λ r a' words b' answers d below.
     tray_gives n count (floats a) (replicate (words_of n * count) 99) (floats b) runs (replicate count 99) t d below
 gives (lblt_readers n expected words) = λ r s t v a b b' d d' l l' long-a long-b long-d long-l solved determined d-filled l-filled.
-    rw (solved.answer, determined.answer, d-filled.answer, l-filled.answer, long-a, long-b, long-d, long-l, length-replicate (n * n) (of_bits binary64 stray), length-replicate n (of_bits binary64 stray))
+    rw (solved.answer, determined.answer, answered_done (reader_tests (full n) expected a words) (determinant_of n (load (lower (full n)) a) words), d-filled.answer, l-filled.answer, long-a, long-b, long-d, long-l, length-replicate (n * n) (of_bits binary64 stray), length-replicate n (of_bits binary64 stray))
 gives (lblt_largest n a k) = λ r e. rw e
 gives (handheld_factor a) = λ r f. let g = handheld_factors a f in rw (g.0, g.1)
 gives (handheld_solve a b) = λ r s f d.
     let g = handheld_factors a f in
-    let by : LbltSolved (full 3) 1 0 (handheld_slice a) (handheld_words a) (floats b) s.answer s.side.row = rw (g.0, g.1) at (d.lent 0) in
-    solves (full 3) 0 (handheld_slice a) (handheld_words a) by
-gives (handheld_pivots index size mark) = λ matrix side s square three d. ap (λ (r : Answer). answered r ∷ []) (solve_answer_law square three d)
+    let by : LbltSolved (full 3) 1 0 (handheld_slice a) (handheld_words a) (floats b) (answer_of s) (left_by (column_in b) s).row = rw (g.0, g.1) at (d.lent 0) in
+    rw (answered_value s) (solves (full 3) 0 (handheld_slice a) (handheld_words a) by)
+gives (handheld_pivots index size mark) = λ matrix side s square three d. rw (answered_value s) (ap (λ (r : Answer). answered r ∷ []) (solve_answer_law square three d))
 gives (pivots_from_lapack n run list info) = λ r words d. reads n (lent_words n) list d
 gives (pivots_to_lapack n words) = λ r list d. writes n words (lent_list n) d
 gives (cholesky_factor room n a) = λ r l f. let g = extends crate_rule (in_room n room) 0 (floats a) f in rw (g.0, g.1)

@@ -1,20 +1,21 @@
 -- What a worked case says: any answer and memory that meet the promises of its calls, and so what the calls answer and leave, are the numbers beside it.
 -- A float is given by its bits, and so is a signed number; a matrix by the slice that is lent, column by column.
-use Rattle.std.specs.Prelude.{List, [], ◌∷◌, map, false, ◌≡◌, ℕ, ◌*◌, ◌<◌, length, replicate, take, drop, ℤ, pos, Float}
+use Rattle.std.specs.Prelude.{List, [], ◌∷◌, map, false, ◌≡◌, ℕ, ◌*◌, ◌<◌, length, replicate, take, drop, ℤ, pos, Float, Result}
+use Rattle.std.specs.Result.{result_unwrap_or}
 use Rattle.std.specs.Float.{binary64}
 use Rattle.std.specs.Float.Ieee.{of_bits, to_bits}
 use Rattle.std.specs.Int.{w32}
 use Rattle.std.proofs.Common.{of_z}
-use Rattle.answer.specs.declared.Answer.{Answer}
-use Rattle.answer.specs.declared.Valued.{Valued}
-use Rattle.answer.specs.declared.Answer.TheVariants.{Done}
-use Rattle.answer.specs.Number.{code_of, place_of, is_done}
+use Rattle.answer.specs.declared.Refusal.{Refusal}
+use Rattle.answer.specs.Answer.{Answer, Done, is_done}
+use Rattle.answer.specs.Number.{code_of, place_of}
 use Rattle.answer.specs.Refusals.{tested}
 use Rattle.leaf.specs.Root.{root_of}
+use Rattle.matrix.specs.Rounded.{plus_zero}
 use Rattle.matrix.specs.Grid.{load}
 use Rattle.matrix.specs.Layouts.{full, in_room, packed, entries_of, lower}
 use Rattle.pivots.specs.Words.{words_of}
-use Rattle.pivots_lapack.specs.declared.Listed.{Listed}
+use Rattle.pivots_lapack.specs.declared.Stamp.{Stamp}
 use Rattle.pivots_lapack.specs.Calls.{ListRead, ListWritten}
 use Rattle.lblt_choice.specs.declared.Largest.{Largest}
 use Rattle.lblt_choice.specs.Choice.{column_max}
@@ -27,9 +28,8 @@ use Rattle.lblt_bench.specs.Bench.{BenchSolved}
 use Rattle.lblt_tray.specs.Tray.{matrix_at, record_at, side_at, number_at, TraySolved}
 use Rattle.handheld.specs.declared.Column3.{Column3}
 use Rattle.handheld.specs.declared.Factored.{Factored as Factored3}
-use Rattle.handheld.specs.declared.Solved.{Solved as Solved3}
 use Rattle.handheld.specs.Shapes as handheld
-use Rattle.handheld.specs.Promise.{FactoredByValue, SolvedByValue}
+use Rattle.handheld.specs.Promise.{FactoredByValue, left_by, SolvedByValue}
 use Rattle.cholesky.specs.declared.Floored.{Floored}
 use Rattle.cholesky.specs.Promise.{Extended}
 use Rattle.cholesky.specs.Floored.{ExtendedFloored}
@@ -57,8 +57,16 @@ abbrev pub signed_bits : List ℤ → List ℕ
 signed_bits = map (of_z w32)
 
 -- an answer's code and place
-abbrev pub answered : Answer → List ℕ
+abbrev pub answered : {A : Type 0} → Result A Refusal → List ℕ
 answered a = code_of a ∷ place_of a ∷ []
+
+-- a determinant's bits, those of +0 where it is refused
+abbrev pub value_bits : Result Float Refusal → ℕ
+value_bits v = to_bits binary64 (result_unwrap_or v plus_zero)
+
+-- INFO and the run number of a list, 0 where it is refused
+abbrev pub stamp_words : Result Stamp Refusal → List ℕ
+stamp_words r = let stamp = result_unwrap_or r (record { info = pos 0; run = 0 }) in of_z w32 stamp.info ∷ stamp.run ∷ []
 
 -- 99: it stands where nothing is to be read, and in what is lent to be written
 abbrev pub stray : ℕ
@@ -110,8 +118,8 @@ Gives (lblt_factor n run a) numbers =
     → (answered r ∷ words ∷ bits_of a' ∷ []) ≡ numbers
 -- by what the factor leaves: the answer, the value
 Gives (lblt_determinant n run expected a) numbers =
-    (r : Answer) (a' : List Float) (words : List ℕ) (v : Valued) → Factored (full n) run (floats a) (lent_words n) r a' words → LbltDetermined (full n) expected a' words v
-    → (answered v.answer ∷ (to_bits binary64 v.value ∷ []) ∷ []) ≡ numbers
+    (r : Answer) (a' : List Float) (words : List ℕ) (v : Result Float Refusal) → Factored (full n) run (floats a) (lent_words n) r a' words → LbltDetermined (full n) expected a' words v
+    → (answered v ∷ (value_bits v ∷ []) ∷ []) ≡ numbers
 -- by what the factor leaves: the answer, the right-hand side
 Gives (lblt_solve n run expected a b) numbers =
     (r s : Answer) (a' b' : List Float) (words : List ℕ) → Factored (full n) run (floats a) (lent_words n) r a' words → LbltSolved (full n) 1 expected a' words (floats b) s b'
@@ -128,28 +136,28 @@ Gives (lblt_tray n count runs a b t) numbers =
     → (answered r ∷ (number_at t answers ∷ []) ∷ record_at n t words ∷ bits_of (matrix_at n t a') ∷ bits_of (side_at n t b') ∷ []) ≡ numbers
 -- by these words as the record, whatever numbers are lent in slices that fit: what solve, determinant, d and l_permuted answer
 Gives (lblt_readers n expected words) numbers =
-    (r s t : Answer) (v : Valued) (a b b' d d' l l' : List Float) → length a ≡ n * n → length b ≡ n → length d ≡ n * n → length l ≡ n * n
+    (r s t : Answer) (v : Result Float Refusal) (a b b' d d' l l' : List Float) → length a ≡ n * n → length b ≡ n → length d ≡ n * n → length l ≡ n * n
     → LbltSolved (full n) 1 expected a words b r b' → LbltDetermined (full n) expected a words v
     → LbltFilled (full n) expected a words (d_of n (load (lower (full n)) a) words) d s d'
     → LbltFilled (full n) expected a words (l_permuted_of n (load (lower (full n)) a) words) l t l'
-    → (answered r ∷ answered v.answer ∷ answered s ∷ answered t ∷ []) ≡ numbers
+    → (answered r ∷ answered v ∷ answered s ∷ answered t ∷ []) ≡ numbers
 -- by value: the pivots, as a record with the number 0, and the nine numbers
 Gives (handheld_factor a) numbers = (r : Factored3) → FactoredByValue (columns_in a) r → (handheld.record_of 0 r.pivots ∷ bits_of (handheld.numbers_of r.matrix) ∷ []) ≡ numbers
 -- by what that factor gives: the answer, the side
 Gives (handheld_solve a b) numbers =
-    (r : Factored3) (s : Solved3) → FactoredByValue (columns_in a) r → SolvedByValue r.matrix r.pivots (column_in b) s
-    → (answered s.answer ∷ bits_of s.side.row ∷ []) ≡ numbers
+    (r : Factored3) (s : Result Column3 Refusal) → FactoredByValue (columns_in a) r → SolvedByValue r.matrix r.pivots (column_in b) s
+    → (answered s ∷ bits_of (left_by (column_in b) s).row ∷ []) ≡ numbers
 -- by these pivots, whatever the nine numbers and the side: the answer
 Gives (handheld_pivots index size mark) numbers =
-    (matrix : List Column3) (side : Column3) (s : Solved3) → handheld.Square matrix → length side.row ≡ 3
-    → SolvedByValue matrix (record { index = index; size = size; mark = mark }) side s → (answered s.answer ∷ []) ≡ numbers
+    (matrix : List Column3) (side : Column3) (s : Result Column3 Refusal) → handheld.Square matrix → length side.row ≡ 3
+    → SolvedByValue matrix (record { index = index; size = size; mark = mark }) side s → (answered s ∷ []) ≡ numbers
 -- the answer, the record
 Gives (pivots_from_lapack n run list info) numbers =
     (r : Answer) (words : List ℕ) → ListRead n run list info (lent_words n) r words → (answered r ∷ words ∷ []) ≡ numbers
 -- the answer, the list, INFO and the run number
 Gives (pivots_to_lapack n words) numbers =
-    (r : Listed) (list : List ℤ) → ListWritten n words (lent_list n) r list
-    → (answered r.answer ∷ signed_bits list ∷ (of_z w32 r.info ∷ r.run ∷ []) ∷ []) ≡ numbers
+    (r : Result Stamp Refusal) (list : List ℤ) → ListWritten n words (lent_list n) r list
+    → (answered r ∷ signed_bits list ∷ stamp_words r ∷ []) ≡ numbers
 -- the row imax of column k
 Gives (lblt_largest n a k) numbers = (r : Largest) → r ≡ column_max n (load (lower (full n)) (floats a)) k → ((r.imax ∷ []) ∷ []) ≡ numbers
 -- the answer, the slice
@@ -172,8 +180,8 @@ Gives (packed_lblt_factor n run a) numbers =
     (r : Answer) (a' : List Float) (words : List ℕ) → Factored (packed n) run (floats a) (lent_words n) r a' words
     → (answered r ∷ words ∷ bits_of a' ∷ []) ≡ numbers
 Gives (packed_lblt_determinant n run expected a) numbers =
-    (r : Answer) (a' : List Float) (words : List ℕ) (v : Valued) → Factored (packed n) run (floats a) (lent_words n) r a' words → LbltDetermined (packed n) expected a' words v
-    → (answered v.answer ∷ (to_bits binary64 v.value ∷ []) ∷ []) ≡ numbers
+    (r : Answer) (a' : List Float) (words : List ℕ) (v : Result Float Refusal) → Factored (packed n) run (floats a) (lent_words n) r a' words → LbltDetermined (packed n) expected a' words v
+    → (answered v ∷ (value_bits v ∷ []) ∷ []) ≡ numbers
 Gives (packed_lblt_solve n run expected a b) numbers =
     (r s : Answer) (a' b' : List Float) (words : List ℕ) → Factored (packed n) run (floats a) (lent_words n) r a' words → LbltSolved (packed n) 1 expected a' words (floats b) s b'
     → (answered s ∷ bits_of b' ∷ []) ≡ numbers

@@ -3,6 +3,7 @@
 --     some_due, due_is  one of the four answers is due, and no other
 --     answer_passes     a diagonal passes exactly if it is above zero
 --     answer_place      a refusal names its column
+use Rattle.std.specs.Prelude.{Err}
 use mathlib.Core.Path.{◌≡◌, refl, sym, ◌∙◌, ap, subst}
 use mathlib.Core.Bool.{Bool, true, false, true≢false}
 use Prim.Native.Nat.{ℕ, zero, suc, ◌*◌, ◌<◌}
@@ -11,9 +12,9 @@ use native.Mathlib.Omega.{arith}
 use lib.Ieee.{Float, nan, inf, fin, lt, eq, is_nan, of_bits, up}
 use lib.Ieee.Fits.{up_pos}
 use borrow.Author.Tests.{lt-ltb, le-ltb, ne_eqb}
-use Rattle.answer.specs.declared.Answer.{Answer}
-use Rattle.answer.specs.declared.Answer.TheVariants.{Done, CholeskyZero, CholeskyBelowZero, CholeskyNan}
-use Rattle.answer.specs.Number.{place_of, is_done}
+use Rattle.answer.specs.declared.Refusal.TheVariants.{CholeskyZero, CholeskyBelowZero, CholeskyNan}
+use Rattle.answer.specs.Answer.{Answer, Done, is_done}
+use Rattle.answer.specs.Number.{place_of}
 use Rattle.matrix.specs.Rounded.{plus_zero}
 use Rattle.cholesky.specs.Crate.{answer_to}
 use Rattle.cholesky.specs.Diagonal.{Due, above_zero, is_zero, below_zero, is_a_nan, due_to}
@@ -29,9 +30,9 @@ record Tests (d : Float) (a z b n : Bool) : Type 0 where
 -- just one of them holds, and r is the answer for it
 data Only (d : Float) (j : ℕ) : Answer → Type 0 where
   only_above : Tests d true false false false → Only d j Done
-  only_zero : Tests d false true false false → Only d j (CholeskyZero j)
-  only_below : Tests d false false true false → Only d j (CholeskyBelowZero j)
-  only_nan : Tests d false false false true → Only d j (CholeskyNan j)
+  only_zero : Tests d false true false false → Only d j (Err (CholeskyZero j))
+  only_below : Tests d false false true false → Only d j (Err (CholeskyBelowZero j))
+  only_nan : Tests d false false false true → Only d j (Err (CholeskyNan j))
 
 only : (d : Float) (j : ℕ) → Only d j (due_to d j)
 unfolding due_to lt eq is_nan of_bits

@@ -9,7 +9,7 @@ use mathlib.Core.Logic.{inr}
 use Prim.Native.Nat.{ℕ, ◌+◌, ◌≤◌, ◌<◌}
 use native.Mathlib.Omega.{arith}
 use lib.Ieee.{Float}
-use Rattle.answer.specs.Number.{is_done}
+use Rattle.answer.specs.Answer.{is_done}
 use Rattle.matrix.specs.Matrix.{Matrix, entry}
 use Rattle.matrix.specs.Rounded.{◌⊘◌}
 use Rattle.matrix.proofs.Stores.{entry_here, entry_row}

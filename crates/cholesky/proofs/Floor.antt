@@ -7,8 +7,8 @@ use mathlib.Core.Path.{◌≡◌, refl, ap, ap₂, fun_ext, ◌∙◌}
 use mathlib.Core.Bool.{true, false}
 use Prim.Native.Nat.{ℕ}
 use lib.Ieee.{Float}
-use Rattle.answer.specs.declared.Answer.{Answer}
-use Rattle.answer.specs.Number.{place_of, is_done}
+use Rattle.answer.specs.Answer.{Answer, is_done}
+use Rattle.answer.specs.Number.{place_of}
 use Rattle.answer.proofs.Tests.{either}
 use Rattle.leaf.specs.Root.{root_of}
 use Rattle.cholesky.specs.Crate.{answer_to, crate_rule}

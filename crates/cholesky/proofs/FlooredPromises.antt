@@ -1,13 +1,13 @@
 -- The promise of `extend_floored`: refused, worked, unique; and with a floor that fails, that of `extend`. Assumes nothing.
-use mathlib.Core.Path.{◌≡◌, sym, ◌∙◌, ap, ap₂, subst}
+use Rattle.std.specs.Prelude.{Err}
+use mathlib.Core.Path.{◌≡◌, refl, sym, ◌∙◌, ap, ap₂, subst}
 use mathlib.Core.Bool.{false}
 use mathlib.Core.List.{List}
 use Prim.Native.Nat.{ℕ}
 use lib.ListN.{length}
 use lib.Ieee.{Float}
-use Rattle.answer.specs.declared.Answer.{Answer}
-use Rattle.answer.specs.declared.Answer.TheVariants.{Done}
-use Rattle.answer.specs.Number.{is_done}
+use Rattle.answer.specs.declared.Refusal.{Refusal}
+use Rattle.answer.specs.Answer.{Answer, Done, is_done}
 use Rattle.matrix.specs.declared.Layout.{Layout}
 use Rattle.matrix.specs.Grid.{load}
 use Rattle.matrix.specs.Layouts.{lower}
@@ -37,15 +37,11 @@ module _ (s : Float) (y : Layout) (m : ℕ) (l : List Float) where
 -- ---- the promise
 
 module _ {s : Float} {y : Layout} {m : ℕ} where
-  pub floored_unfit : {l : List Float} {x : Answer} → x ≡ sizes_of y m l → is_done x ≡ false → ExtendedFloored s y m l l (record { answer = x; used = 0 })
-  floored_unfit {l} is refused = record { extended = extended_unfit is refused; used = sym (used_unfit s y m l (ap is_done (sym is) ∙ refused)) }
+  pub floored_unfit : {l : List Float} {fault : Refusal} → Err fault ≡ sizes_of y m l → ExtendedFloored s y m l l (record { answer = Err fault; used = 0 })
+  floored_unfit {l} is = record { extended = extended_unfit is refl; used = sym (used_unfit s y m l (ap is_done (sym is))) }
 
   pub floored_fit : {l₀ l : List Float} {r : Floored} → Fits y m (length l₀) → RanThrough (floor_rule s) y m l₀ l r → ExtendedFloored s y m l₀ l r
   floored_fit {l₀} f ran = record { extended = extended_fit f ran.ends; used = ran.used ∙ sym (used_fit s y m l₀ f) }
-
-  -- of the layout under its other name
-  pub floored_at : {z : Layout} {l₀ l : List Float} {r : Floored} → y ≡ z → ExtendedFloored s y m l₀ l r → ExtendedFloored s z m l₀ l r
-  floored_at {l₀ = l₀} {l = l} {r = r} is e = subst (λ (y : Layout). ExtendedFloored s y m l₀ l r) is e
 
   -- the promise fixes the answer, the count and the slice
   pub floored_unique : {l₀ l l' : List Float} {r r' : Floored} → ExtendedFloored s y m l₀ l r → ExtendedFloored s y m l₀ l' r' → (r ≡ r') × (l ≡ l')

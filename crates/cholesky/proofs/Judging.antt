@@ -2,16 +2,16 @@
 --     judge_own      the diagonal passes
 --     judge_floor    it fails, and the floor passes
 --     judge_refused  both fail
+use Rattle.std.specs.Prelude.{Ok, Err}
 use mathlib.Core.Path.{◌≡◌, sym, ◌∙◌, ap}
-use mathlib.Core.Bool.{true, false, true≢false}
+use mathlib.Core.Bool.{true, false}
 use Prim.Native.Nat.{ℕ}
 use lib.Ieee.{Float}
-use Rattle.answer.specs.declared.Answer.{Answer}
-use Rattle.answer.specs.declared.Answer.TheVariants.{Done}
-use Rattle.answer.specs.Number.{is_done}
+use Rattle.answer.specs.declared.Refusal.{Refusal}
+use Rattle.answer.specs.Answer.{Done, is_done}
 use Rattle.leaf.specs.Root.{root_of}
 use Rattle.cholesky.specs.Crate.{answer_to}
-use Rattle.cholesky.specs.Floor.{passes, standing, floor_rule}
+use Rattle.cholesky.specs.Floor.{passes, floor_rule}
 use Rattle.cholesky.specs.inner.Engine.{Judgement}
 use Rattle.cholesky.proofs.Diagonal.{answer_passes}
 use Rattle.cholesky.proofs.Floor.{standing_own, standing_floor, standing_plain}
@@ -20,19 +20,22 @@ passing_done : (x : Float) (j : ℕ) → passes x ≡ true → answer_to x j ≡
 unfolding answer_to
 passing_done x j passed = rw passed
 
-module _ (s d : Float) (j : ℕ) {x : Float} where
-  pub judge_own : passes d ≡ true → x ≡ root_of d → Judgement (floor_rule s) d j (record { answer = Done; root = x; used = 0 })
-  judge_own own root =
-      let is : answer_to (standing s d) j ≡ Done = ap (λ (x : Float). answer_to x j) (standing_own s d own) ∙ passing_done d j own in
-      record { answer = sym is; root = λ h. root ∙ ap root_of (sym (standing_own s d own)); used = rw (ap is_done is, own) }
+module _ (s d : Float) (j : ℕ) where
+  pub judge_own : {x : Float} → Done ≡ answer_to d j → x ≡ root_of d → Judgement (floor_rule s) d j (Ok (record { root = x; used = 0 }))
+  judge_own passed root =
+      let own : passes d ≡ true = sym (answer_passes d j) ∙ ap is_done (sym passed) in
+      record { answer = passed ∙ ap (λ (x : Float). answer_to x j) (sym (standing_own s d own)); root = root ∙ ap root_of (sym (standing_own s d own)); used = rw own }
 
-  pub judge_floor : passes d ≡ false → passes s ≡ true → x ≡ root_of s → Judgement (floor_rule s) d j (record { answer = Done; root = x; used = 1 })
-  judge_floor own floor root =
-      let is : answer_to (standing s d) j ≡ Done = ap (λ (x : Float). answer_to x j) (standing_floor s d own floor) ∙ passing_done s j floor in
-      record { answer = sym is; root = λ h. root ∙ ap root_of (sym (standing_floor s d own floor)); used = rw (ap is_done is, own) }
+  module _ {fault : Refusal} (failed : Err fault ≡ answer_to d j) where
+    own : passes d ≡ false
+    own = sym (answer_passes d j) ∙ ap is_done (sym failed)
 
-  pub judge_refused : {r : Answer} → passes d ≡ false → passes s ≡ false → r ≡ answer_to d j → Judgement (floor_rule s) d j (record { answer = r; root = x; used = 0 })
-  judge_refused {r} own floor is =
-      let judged : r ≡ answer_to (standing s d) j = is ∙ ap (λ (x : Float). answer_to x j) (sym (standing_plain s d floor)) in
-      let failed : is_done r ≡ false = ap is_done is ∙ answer_passes d j ∙ own in
-      record { answer = judged; root = λ h. absurd (true≢false (sym h ∙ failed)); used = rw (ap is_done (sym judged) ∙ failed) }
+    pub judge_floor : {x : Float} → passes s ≡ true → x ≡ root_of s → Judgement (floor_rule s) d j (Ok (record { root = x; used = 1 }))
+    judge_floor floor root = record {
+      answer = sym (passing_done s j floor) ∙ ap (λ (x : Float). answer_to x j) (sym (standing_floor s d own floor));
+      root = root ∙ ap root_of (sym (standing_floor s d own floor));
+      used = rw own;
+    }
+
+    pub judge_refused : passes s ≡ false → Judgement (floor_rule s) d j (Err fault)
+    judge_refused floor = record { answer = failed ∙ ap (λ (x : Float). answer_to x j) (sym (standing_plain s d floor)); root = tt; used = tt }

@@ -1,4 +1,5 @@
 -- A NaN in a row of a batch, on its diagonal or left of it, is never accepted by the crate's own rule: it is refused by 11, if no earlier row of the batch is refused. Assumes nothing.
+use Rattle.std.specs.Prelude.{Err}
 use mathlib.Core.Path.{◌≡◌, refl, sym, ◌∙◌, ap, subst}
 use mathlib.Core.Bool.{true, false}
 use mathlib.Core.List.{List}
@@ -8,9 +9,9 @@ use native.Mathlib.Omega.{arith}
 use lib.Dec.{ltb}
 use lib.ListN.{length}
 use lib.Ieee.{Float, nan, inf, fin, add, mul, div, neg}
-use Rattle.answer.specs.declared.Answer.{Answer}
-use Rattle.answer.specs.declared.Answer.TheVariants.{CholeskyNan}
-use Rattle.answer.specs.Number.{place_of, is_done}
+use Rattle.answer.specs.declared.Refusal.TheVariants.{CholeskyNan}
+use Rattle.answer.specs.Answer.{Answer, is_done}
+use Rattle.answer.specs.Number.{place_of}
 use Rattle.answer.proofs.Done.{done_or_refused}
 use Rattle.answer.proofs.Tests.{either, eq_or_ne}
 use Rattle.matrix.specs.declared.Layout.{Layout}
@@ -117,7 +118,7 @@ module _ {y : Layout} {m : ℕ} {l l' : List Float} {r : Answer} (fits : Fits y 
   with_row = factor_columns crate_rule m (i + 1) A
 
   -- row i is judged
-  judged : is_done before.answer ≡ true → with_row.answer ≡ CholeskyNan i
+  judged : is_done before.answer ≡ true → with_row.answer ≡ Err (CholeskyNan i)
   unfolding due_to
   judged passed =
       ap (λ (o : Outcome). o.answer) (judges crate_rule m A i late passed)
@@ -135,7 +136,7 @@ module _ {y : Layout} {m : ℕ} {l l' : List Float} {r : Answer} (fits : Fits y 
     where
       at_row : is_done before.answer ≡ true → NanTold m i r
       at_row passed =
-          let answer : r ≡ CholeskyNan i = refused_first (i + 1) (omega arith) (ap is_done (judged passed)) ∙ judged passed in
+          let answer : r ≡ Err (CholeskyNan i) = refused_first (i + 1) (omega arith) (ap is_done (judged passed)) ∙ judged passed in
           let place : place_of r ≡ i = ap place_of answer in
           record { refused = ap is_done answer; from = omega arith; upto = omega arith; here = λ h. answer }
 

@@ -10,7 +10,7 @@ use mathlib.Core.Bool.{true, false}
 use Prim.Native.Nat.{ℕ, ◌+◌, ◌≤◌}
 use native.Mathlib.Omega.{arith}
 use borrow.Author.Tests.{le-ltb}
-use Rattle.answer.specs.Number.{is_done}
+use Rattle.answer.specs.Answer.{is_done}
 use Rattle.answer.proofs.Done.{done_or_refused}
 use Rattle.matrix.specs.Matrix.{Matrix}
 use Rattle.matrix.specs.Loop.{for}

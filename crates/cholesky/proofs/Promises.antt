@@ -1,13 +1,11 @@
 -- The promise of `extend`, over any rule: refused, worked, and unique. Assumes nothing.
-use mathlib.Core.Path.{◌≡◌, refl, sym, ◌∙◌, ap, subst}
+use mathlib.Core.Path.{◌≡◌, refl, sym, ◌∙◌, ap}
 use mathlib.Core.Bool.{false}
 use mathlib.Core.List.{List}
 use Prim.Native.Nat.{ℕ}
 use lib.ListN.{length}
 use lib.Ieee.{Float}
-use Rattle.answer.specs.declared.Answer.{Answer}
-use Rattle.answer.specs.declared.Answer.TheVariants.{Done}
-use Rattle.answer.specs.Number.{is_done}
+use Rattle.answer.specs.Answer.{Answer, Done, is_done}
 use Rattle.answer.specs.Refusals.{tested}
 use Rattle.answer.proofs.Tested.{tested_fixed, leaving_done, leaving_refused, leaving_alike}
 use Rattle.matrix.specs.declared.Layout.{Layout}
@@ -30,10 +28,6 @@ module _ {ρ : Rule} {y : Layout} {m : ℕ} where
     answer = e.answer ∙ sym (fits_pass y m (length l₀) f (batch_by ρ y m l₀).answer);
     left = leaving_done (ap is_done (fits_pass y m (length l₀) f Done)) e.leaves;
   }
-
-  -- of the layout under its other name
-  pub extended_at : {z : Layout} {l₀ l : List Float} {r : Answer} → y ≡ z → ExtendedBy ρ y m l₀ l r → ExtendedBy ρ z m l₀ l r
-  extended_at {l₀ = l₀} {l = l} {r = r} is e = subst (λ (y : Layout). ExtendedBy ρ y m l₀ l r) is e
 
   -- where the sizes fit
   module _ {l₀ l : List Float} {r : Answer} (call : ExtendedBy ρ y m l₀ l r) (f : Fits y m (length l₀)) where

@@ -1,18 +1,19 @@
 -- The promise of `solve_mut`: refused, solved, unique, and each column by itself. Assumes nothing.
-use mathlib.Core.Path.{◌≡◌, refl, sym, ◌∙◌, ap, subst}
-use mathlib.Core.Bool.{true, false}
+use Rattle.std.specs.Prelude.{Err}
+use mathlib.Core.Path.{◌≡◌, refl, sym, ◌∙◌, ap}
+use mathlib.Core.Bool.{true}
 use mathlib.Core.List.{List, [], ◌∷◌, ◌++◌}
 use Prim.Native.Nat.{ℕ, ◌*◌, ◌≤◌, ◌<◌}
 use lib.Dec.{eqb}
 use lib.ListN.{length}
 use lib.Ieee.{Float}
 use borrow.Author.Tests.{le-leb, lt-leb, eq-eqb, ne_eqb, eqb-true}
-use Rattle.answer.specs.declared.Answer.{Answer}
-use Rattle.answer.specs.declared.Answer.TheVariants.{Done, OutOfRange, SliceLength}
-use Rattle.answer.specs.Number.{is_done}
+use Rattle.answer.specs.declared.Refusal.{Refusal}
+use Rattle.answer.specs.declared.Refusal.TheVariants.{OutOfRange, SliceLength}
+use Rattle.answer.specs.Answer.{Answer, Done, is_done}
 use Rattle.answer.specs.Refusals.{◌otherwise◌, tested}
 use Rattle.answer.proofs.Done.{value_alike}
-use Rattle.answer.proofs.Tested.{here, tested_all, tested_at, tested_first, all_hold}
+use Rattle.answer.proofs.Tested.{here, tested_all, tested_at, joined_refused, all_hold}
 use Rattle.matrix.specs.declared.Layout.{Layout}
 use Rattle.matrix.specs.Grid.{load}
 use Rattle.matrix.specs.Layouts.{lower}
@@ -37,30 +38,26 @@ module _ (y : Layout) (columns : ℕ) where
   -- what is done has n numbers a column
   done_long : (factor sides : ℕ) → is_done (tested (sides_tests y columns factor sides) Done) ≡ true → sides ≡ y.order * columns
   done_long factor sides done =
-      let held = (all_hold (sides_tests y columns factor sides) Done (refl, (refl, (refl, (refl, (refl, (refl, (refl, (refl, tt)))))))) done).0 in
+      let held = (all_hold (sides_tests y columns factor sides) Done done).0 in
       eqb-true sides (y.order * columns) held.1.1.1.1.1.1.1.0
 
 module _ {y : Layout} {columns : ℕ} where
   -- ---- refused
 
-  pub solved_wide : {a b : List Float} → 1024 < columns → CholeskySolved y columns a b b OutOfRange
+  pub solved_wide : {a b : List Float} → 1024 < columns → CholeskySolved y columns a b b (Err OutOfRange)
   solved_wide wide = record { answer = sym (tested_at _ Done (here (lt-leb columns 1024 wide) refl)); sides = refl }
 
   module _ (few : columns ≤ 1024) {a b : List Float} where
-    pub solved_unfit : {x : Answer} → x ≡ tested (size_tests y 0 (length a)) Done → is_done x ≡ false → CholeskySolved y columns a b b x
-    solved_unfit is refused = record { answer = is ∙ sym (few_is y columns (length a) (length b) few ∙ tested_first (size_tests y 0 (length a)) _ Done (ap is_done (sym is) ∙ refused)); sides = rw refused }
+    pub solved_unfit : {fault : Refusal} → Err fault ≡ tested (size_tests y 0 (length a)) Done → CholeskySolved y columns a b b (Err fault)
+    solved_unfit is = record { answer = sym (few_is y columns (length a) (length b) few ∙ joined_refused (size_tests y 0 (length a)) _ Done (sym is)); sides = refl }
 
     module _ (f : Fits y 0 (length a)) where
-      pub solved_short : (length b ≡ y.order * columns → ⊥) → CholeskySolved y columns a b b SliceLength
+      pub solved_short : (length b ≡ y.order * columns → ⊥) → CholeskySolved y columns a b b (Err SliceLength)
       solved_short short = record { answer = sym (fit_is y columns (length a) (length b) few f ∙ tested_at _ Done (here (ne_eqb _ _ short) refl)); sides = refl }
 
       pub solved_fit : {b' : List Float} → length b ≡ y.order * columns → b' ≡ each_column y.order columns (solve_triangles y.order (load (lower y) a)) b → CholeskySolved y columns a b b' Done
       unfolding solve_sides
       solved_fit long e = record { answer = sym (fit_is y columns (length a) (length b) few f ∙ tested_all _ Done (eq-eqb _ _ long, tt)); sides = e }
-
-  -- of the layout under its other name
-  pub solved_at : {z : Layout} {a b b' : List Float} {r : Answer} → y ≡ z → CholeskySolved y columns a b b' r → CholeskySolved z columns a b b' r
-  solved_at {a = a} {b = b} {b' = b'} {r = r} is s = subst (λ (y : Layout). CholeskySolved y columns a b b' r) is s
 
   -- ---- the promise fixes the answer and the right-hand sides
 

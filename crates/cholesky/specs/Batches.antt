@@ -1,8 +1,7 @@
 -- Batches of rows over a list of cuts, and what they share with the one call on the whole matrix.
 use Rattle.std.specs.Prelude.{◌≡◌, true, false, List, [], ◌∷◌, ℕ, ◌≤◌, ◌<◌, Float}
-use Rattle.answer.specs.declared.Answer.{Answer}
-use Rattle.answer.specs.declared.Answer.TheVariants.{Done}
-use Rattle.answer.specs.Number.{place_of, is_done}
+use Rattle.answer.specs.Answer.{Answer, Done, is_done}
+use Rattle.answer.specs.Number.{place_of}
 use Rattle.matrix.specs.Grid.{load, Kept}
 use Rattle.matrix.specs.Layouts.{in_room, lower}
 use Rattle.cholesky.specs.Run.{Rule}

@@ -1,6 +1,6 @@
 -- What `factor_floored` and `extend_floored` promise.
 use Rattle.std.specs.Prelude.{◌≡◌, cond, List, ℕ, Float}
-use Rattle.answer.specs.Number.{is_done}
+use Rattle.answer.specs.Answer.{is_done}
 use Rattle.matrix.specs.declared.Layout.{Layout}
 use Rattle.matrix.specs.Grid.{load}
 use Rattle.matrix.specs.Layouts.{lower}

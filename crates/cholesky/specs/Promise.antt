@@ -1,7 +1,6 @@
 -- What `factor` and `extend` promise, over the rule for the diagonal.
 use Rattle.std.specs.Prelude.{◌≡◌, List, ℕ, length, Float}
-use Rattle.answer.specs.declared.Answer.{Answer}
-use Rattle.answer.specs.declared.Answer.TheVariants.{Done}
+use Rattle.answer.specs.Answer.{Answer, Done}
 use Rattle.answer.specs.Refusals.{tested, Leaving}
 use Rattle.matrix.specs.declared.Layout.{Layout}
 use Rattle.matrix.specs.Grid.{load}

@@ -1,9 +1,8 @@
 -- What is read from a factor.
-use Rattle.std.specs.Prelude.{◌≡◌, cond, List, [], ◌∷◌, ◌++◌, ℕ, ◌*◌, eqb, leb, length, Float}
-use Rattle.answer.specs.declared.Answer.{Answer}
-use Rattle.answer.specs.declared.Answer.TheVariants.{Done, SliceLength}
-use Rattle.answer.specs.declared.Valued.{Valued}
-use Rattle.answer.specs.Number.{is_done}
+use Rattle.std.specs.Prelude.{◌≡◌, cond, Result, Ok, List, [], ◌∷◌, ◌++◌, ℕ, ◌*◌, eqb, leb, length, Float}
+use Rattle.answer.specs.declared.Refusal.{Refusal}
+use Rattle.answer.specs.declared.Refusal.TheVariants.{SliceLength}
+use Rattle.answer.specs.Answer.{Answer, Done}
 use Rattle.answer.specs.Refusals.{Test, ◌otherwise◌, tested, Leaving}
 use Rattle.matrix.specs.declared.Layout.{Layout}
 use Rattle.matrix.specs.Matrix.{Matrix, all_zero}
@@ -26,9 +25,8 @@ product_of n M = for 0 n (times M) one
 unfoldable pub times_itself : Float → Float
 times_itself x = x ⊗ x
 
-pub record CholeskyDetermined (y : Layout) (l : List Float) (r : Valued) : Type 0 where
-  pub answer : r.answer ≡ tested (size_tests y 0 (length l)) Done
-  pub value : r.value ≡ cond (is_done r.answer) (times_itself (product_of y.order (load (lower y) l))) plus_zero
+pub record CholeskyDetermined (y : Layout) (l : List Float) (r : Result Float Refusal) : Type 0 where
+  pub answer : r ≡ tested (size_tests y 0 (length l)) (Ok (times_itself (product_of y.order (load (lower y) l))))
 
 -- ---- l, in a lent matrix of its own
 

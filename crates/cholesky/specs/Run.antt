@@ -1,8 +1,6 @@
 -- Cholesky over a rule for the diagonal. Rows are unlimited: the order is the number of columns, and what a slice stores.
 use Rattle.std.specs.Prelude.{cond, ℕ, ◌+◌, ltb, Float}
-use Rattle.answer.specs.declared.Answer.{Answer}
-use Rattle.answer.specs.declared.Answer.TheVariants.{Done}
-use Rattle.answer.specs.Number.{is_done}
+use Rattle.answer.specs.Answer.{Answer, Done, is_done}
 use Rattle.matrix.specs.Matrix.{Matrix, entry}
 use Rattle.matrix.specs.Loop.{for}
 use Rattle.cholesky.specs.Column.{updated, divided, part}

@@ -1,6 +1,6 @@
 -- How many columns used the floor: of those from the earlier order m on that are finished, those whose updated diagonal fails its test.
 use Rattle.std.specs.Prelude.{Bool, cond, not, ◌&&◌, ℕ, ◌+◌, leb}
-use Rattle.answer.specs.Number.{is_done}
+use Rattle.answer.specs.Answer.{is_done}
 use Rattle.matrix.specs.Matrix.{Matrix}
 use Rattle.matrix.specs.Loop.{for}
 use Rattle.cholesky.specs.Column.{updated}

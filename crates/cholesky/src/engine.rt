@@ -11,23 +11,14 @@ ghost use Rattle.cholesky.specs.Leaves.{Leaves};
 ghost use Rattle.cholesky.specs.inner.Engine.{Reach, Sourced, less_columns, TakenOff, Judgement, Finished, Advanced, RanThrough};
 
 use crate::Floored;
-use answer::Answer;
+use answer::{Answer, Refusal};
 use matrix::Layout;
 use strips::Source;
 
-// What is answered to a diagonal, `Done` if it passes, and then its root; 1 if the floor stood in for it, else 0.
+// What stands for a diagonal that is let through, and how many columns used the floor there: 1 if it stood in, else 0.
 #[derive(Clone, Copy)]
 pub struct Verdict {
-    pub answer: Answer,
     pub root: f64,
-    pub used: usize,
-}
-
-// What came of some columns, the column after them, and how many of them used the floor.
-#[derive(Clone, Copy)]
-pub struct Step {
-    pub answer: Answer,
-    pub next: usize,
     pub used: usize,
 }
 
@@ -38,41 +29,33 @@ pub fn answer_to(d: f64, j: usize) -> Answer
 {
     let column = j as u32;
     if 0.0 < d {
-        return Answer::Done;
+        return Ok(());
     }
     if d == 0.0 {
-        return Answer::CholeskyZero(column);
+        return Err(Refusal::CholeskyZero(column));
     }
     if d < 0.0 {
-        return Answer::CholeskyBelowZero(column);
+        return Err(Refusal::CholeskyBelowZero(column));
     }
-    Answer::CholeskyNan(column)
+    Err(Refusal::CholeskyNan(column))
 }
 
 // The diagonal d of column j is judged: where it fails its test and the floor does not, the floor stands in for it, whose root is `spare`.
-fn judge(d: f64, j: usize, floor: f64, spare: f64) -> Verdict
+fn judge(d: f64, j: usize, floor: f64, spare: f64) -> Result<Verdict, Refusal>
     requires j_bound { j ≤ 1024 }
     requires spare_value { spare ≡ root_of floor }
     ensures { Judgement (floor_rule floor) d j result }
 {
-    if 0.0 < d {
-        return Verdict {
-            answer: Answer::Done,
+    match answer_to(d, j) {
+        Ok(()) => Ok(Verdict {
             root: leaf::root(d),
             used: 0,
-        };
-    }
-    if 0.0 < floor {
-        return Verdict {
-            answer: Answer::Done,
+        }),
+        Err(_) if 0.0 < floor => Ok(Verdict {
             root: spare,
             used: 1,
-        };
-    }
-    Verdict {
-        answer: answer_to(d, j),
-        root: d,
-        used: 0,
+        }),
+        Err(refusal) => Err(refusal),
     }
 }
 
@@ -153,33 +136,28 @@ fn divide(y: Layout, a: &mut [f64], r: usize, j: usize)
     strips::unscale(a, y.start(j), r, y.order, d);
 }
 
-// The updated column j gets its root, and the rows below are divided by it.
-fn finish(y: Layout, a: &mut [f64], j: usize, floor: f64, spare: f64) -> Step
+// The updated column j gets its root, and the rows below are divided by it. How many columns used the floor, none or one, comes back.
+fn finish(y: Layout, a: &mut [f64], j: usize, floor: f64, spare: f64) -> Result<usize, Refusal>
     requires laid { Laid y a.old }
     requires j_lt_order { j < y.order }
     requires spare_value { spare ≡ root_of floor }
     ensures { Finished (floor_rule floor) y j a.old a.new result }
 {
-    let verdict = judge(matrix::get(y, a, j, j), j, floor, spare);
-    let answer = verdict.answer;
-    if answer.code() == 0 {
-        matrix::put(y, a, j, j, verdict.root);
-        divide(y, a, j + 1, j);
-        return Step {
-            answer: Answer::Done,
-            next: j + 1,
-            used: verdict.used,
-        };
-    }
-    Step {
-        answer: answer,
-        next: j + 1,
-        used: verdict.used,
-    }
+    let verdict = judge(matrix::get(y, a, j, j), j, floor, spare)?;
+    matrix::put(y, a, j, j, verdict.root);
+    divide(y, a, j + 1, j);
+    Ok(verdict.used)
 }
 
-// Column j of a batch whose rows start at m, and the next column.
-fn advance(y: Layout, a: &mut [f64], m: usize, j: usize, floor: f64, spare: f64) -> Step
+// Column j of a batch whose rows start at m. How many columns used the floor, none or one, comes back.
+fn advance(
+    y: Layout,
+    a: &mut [f64],
+    m: usize,
+    j: usize,
+    floor: f64,
+    spare: f64,
+) -> Result<usize, Refusal>
     requires laid { Laid y a.old }
     requires m_le_order { m ≤ y.order }
     requires j_lt_order { j < y.order }
@@ -189,11 +167,7 @@ fn advance(y: Layout, a: &mut [f64], m: usize, j: usize, floor: f64, spare: f64)
     if j < m {
         update(y, a, m, j);
         divide(y, a, m, j);
-        return Step {
-            answer: Answer::Done,
-            next: j + 1,
-            used: 0,
-        };
+        return Ok(0);
     }
     update(y, a, j, j);
     finish(y, a, j, floor, spare)
@@ -208,21 +182,19 @@ pub fn run(y: Layout, a: &mut [f64], m: usize, floor: f64) -> Floored
     let n = y.order;
     let spare = leaf::root(floor);
     let mut used: usize = 0;
-    let mut j: usize = 0;
-    while j < n {
-        let step = advance(y, a, m, j, floor, spare);
-        let answer = step.answer;
-        used = used + step.used;
-        if answer.code() != 0 {
-            return Floored {
-                answer: answer,
-                used: used,
-            };
+    for j in 0..n {
+        match advance(y, a, m, j, floor, spare) {
+            Ok(more) => used += more,
+            Err(refusal) => {
+                return Floored {
+                    answer: Err(refusal),
+                    used,
+                };
+            }
         }
-        j = step.next;
     }
     Floored {
-        answer: Answer::Done,
-        used: used,
+        answer: Ok(()),
+        used,
     }
 }

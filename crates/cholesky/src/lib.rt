@@ -10,7 +10,7 @@ ghost use Rattle.cholesky.specs.Solve.{CholeskySolved};
 mod engine;
 mod readers;
 
-use answer::{Answer, Valued};
+use answer::{Answer, Refusal};
 pub use engine::answer_to;
 use matrix::Layout;
 
@@ -25,10 +25,9 @@ pub struct Floored {
 fn extend_within(y: Layout, a: &mut [f64], earlier: usize, floor: f64) -> Floored
     ensures { ExtendedFloored floor y earlier a.old a.new result }
 {
-    let fault = y.check(earlier, a.len());
-    if fault.code() != 0 {
+    if let Err(refusal) = y.check(earlier, a.len()) {
         return Floored {
-            answer: fault,
+            answer: Err(refusal),
             used: 0,
         };
     }
@@ -72,17 +71,14 @@ pub fn solve_on(y: Layout, a: &[f64], b: &mut [f64], columns: usize) -> Answer
     ensures { CholeskySolved y columns a.now b.old b.new result }
 {
     if 1024 < columns {
-        return Answer::OutOfRange;
+        return Err(Refusal::OutOfRange);
     }
-    let fault = y.check(0, a.len());
-    if fault.code() != 0 {
-        return fault;
-    }
+    y.check(0, a.len())?;
     if b.len() != y.order * columns {
-        return Answer::SliceLength;
+        return Err(Refusal::SliceLength);
     }
     cholesky_solve_four::solve_sides(y, a, b, columns);
-    Answer::Done
+    Ok(())
 }
 
 pub fn solve_mut(a: &[f64], b: &mut [f64], room: usize, n: usize, columns: usize) -> Answer
@@ -96,15 +92,12 @@ pub fn l(a: &[f64], l: &mut [f64], room: usize, n: usize) -> Answer
     ensures { Copied (in_room n room) a.now l.old l.new result }
 {
     let y = Layout::in_room(n, room);
-    let fault = y.check(0, a.len());
-    if fault.code() != 0 {
-        return fault;
-    }
+    y.check(0, a.len())?;
     if l.len() != y.order * y.order {
-        return Answer::SliceLength;
+        return Err(Refusal::SliceLength);
     }
     readers::copy(y, a, l);
-    Answer::Done
+    Ok(())
 }
 
 // The strict upper part of the first n rows and columns becomes +0.
@@ -112,29 +105,17 @@ pub fn unpack(a: &mut [f64], room: usize, n: usize) -> Answer
     ensures { Unpacked (in_room n room) a.old a.new result }
 {
     let y = Layout::in_room(n, room);
-    let fault = y.check(0, a.len());
-    if fault.code() != 0 {
-        return fault;
-    }
+    y.check(0, a.len())?;
     readers::clear_above(y, a);
-    Answer::Done
+    Ok(())
 }
 
 // The product of the diagonal, squared.
-pub fn determinant(a: &[f64], room: usize, n: usize) -> Valued
+pub fn determinant(a: &[f64], room: usize, n: usize) -> Result<f64, Refusal>
     ensures { CholeskyDetermined (in_room n room) a.now result }
 {
     let y = Layout::in_room(n, room);
-    let fault = y.check(0, a.len());
-    if fault.code() != 0 {
-        return Valued {
-            answer: fault,
-            value: 0.0,
-        };
-    }
+    y.check(0, a.len())?;
     let product = readers::diagonal(y, a);
-    Valued {
-        answer: Answer::Done,
-        value: product * product,
-    }
+    Ok(product * product)
 }

@@ -10,8 +10,7 @@ use native.Mathlib.Numerals.{add-one}
 use native.Mathlib.Omega.{arith}
 use lib.Ieee.{Float}
 use borrow.Author.Tests.{lt-ltb}
-use Rattle.answer.specs.declared.Answer.TheVariants.{Done}
-use Rattle.answer.specs.Number.{is_done}
+use Rattle.answer.specs.Answer.{Done, is_done}
 use Rattle.answer.proofs.Done.{done_or_refused}
 use Rattle.answer.proofs.Tests.{lt_or_ge}
 use Rattle.leaf.specs.Root.{root_of}

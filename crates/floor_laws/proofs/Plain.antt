@@ -11,9 +11,7 @@ use mathlib.Core.List.{List}
 use Prim.Native.Nat.{ℕ, ◌≤◌, ◌<◌}
 use lib.ListN.{length}
 use lib.Ieee.{Float, nan}
-use Rattle.answer.specs.declared.Answer.{Answer}
-use Rattle.answer.specs.declared.Answer.TheVariants.{Done}
-use Rattle.answer.specs.Number.{is_done}
+use Rattle.answer.specs.Answer.{Answer, Done, is_done}
 use Rattle.answer.specs.Refusals.{tested}
 use Rattle.answer.proofs.Done.{done_or_refused}
 use Rattle.answer.proofs.Tested.{tested_fixed, leaving_refused}

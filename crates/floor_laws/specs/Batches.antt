@@ -1,8 +1,6 @@
 -- Batches on one buffer with one floor for all of them.
 use Rattle.std.specs.Prelude.{◌≡◌, true, false, List, [], ◌∷◌, ℕ, ◌+◌, Float}
-use Rattle.answer.specs.declared.Answer.{Answer}
-use Rattle.answer.specs.declared.Answer.TheVariants.{Done}
-use Rattle.answer.specs.Number.{is_done}
+use Rattle.answer.specs.Answer.{Answer, Done, is_done}
 use Rattle.matrix.specs.Layouts.{in_room}
 use Rattle.cholesky.specs.declared.Floored.{Floored}
 use Rattle.cholesky.specs.Floored.{ExtendedFloored}

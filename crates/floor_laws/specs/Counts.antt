@@ -1,7 +1,6 @@
 -- What batches report beside what the one call reports.
 use Rattle.std.specs.Prelude.{◌≡◌, false, ℕ}
-use Rattle.answer.specs.declared.Answer.{Answer}
-use Rattle.answer.specs.Number.{is_done}
+use Rattle.answer.specs.Answer.{Answer, is_done}
 
 -- Batches over cuts that end at e stopped with the answer r and have reported `total`; the one call on n rows reports `used`.
 pub record CountsAdd (n e : ℕ) (r : Answer) (total used : ℕ) : Type 0 where

@@ -1,15 +1,7 @@
 -- `factor` by value, from what its steps come to. Assumes nothing.
-use mathlib.Core.Path.{◌≡◌, refl, sym, ◌∙◌, ap, subst}
-use mathlib.Core.Bool.{true}
-use mathlib.Core.List.{List, [], ◌∷◌}
-use Prim.Native.Nat.{ℕ, zero, suc}
-use native.Mathlib.Omega.{arith}
-use lib.ListN.{length, get_or, set}
-use lib.Seq.{set-set}
-use lib.Ieee.{Float, nan}
-use Rattle.answer.specs.declared.Answer.{Answer}
-use Rattle.answer.specs.declared.Answer.TheVariants.{Done}
-use Rattle.answer.specs.Number.{is_done}
+use Rattle.std.proofs.Common.{◌≡◌, refl, sym, ◌∙◌, ap, subst, true, List, [], ◌∷◌, ℕ, zero, suc, arith, length, get_or, set, set-set, Float}
+use lib.Ieee.{nan}
+use Rattle.answer.specs.Answer.{Answer, Done, is_done}
 use Rattle.matrix.specs.Matrix.{Matrix}
 use Rattle.matrix.specs.Grid.{load, Free, Holds}
 use Rattle.matrix.specs.Layouts.{full, lower}

@@ -4,18 +4,13 @@
 --   upper_stays                       above the diagonal all is as it was
 --   pivots_accepted  own_pivots_law       the pivots that the factor gives are accepted: a solve with them is done, or tells the mark
 --   solve_answer_law                      the pivots' rule, then the mark: 5, then 6
-use mathlib.Core.Path.{◌≡◌, refl, sym, ◌∙◌, ap}
-use mathlib.Core.Bool.{cond}
-use mathlib.Core.List.{List, [], ◌∷◌, ◌++◌, append_cancel_left}
-use Prim.Native.Nat.{ℕ, ◌+◌, ◌-◌, ◌*◌, ◌<◌}
-use native.Mathlib.Omega.{arith}
-use lib.Dec.{eqb}
-use lib.ListN.{length, get_or, take, length-append}
+use Rattle.std.proofs.Common.{◌≡◌, refl, sym, ◌∙◌, ap, cond, true≢false, List, [], ◌∷◌, ◌++◌, ℕ, ◌+◌, ◌-◌, ◌*◌, ◌<◌, arith, eqb, length, get_or, take, length-append, Float, Result, Ok, Err}
+use mathlib.Core.List.{append_cancel_left}
 use lib.Seq.{take-append_seam}
-use lib.Ieee.{Float, nan}
-use Rattle.answer.specs.declared.Answer.{Answer}
-use Rattle.answer.specs.declared.Answer.TheVariants.{Done, ZeroMark}
-use Rattle.answer.specs.Number.{is_done}
+use lib.Ieee.{nan}
+use Rattle.answer.specs.declared.Refusal.{Refusal}
+use Rattle.answer.specs.declared.Refusal.TheVariants.{ZeroMark}
+use Rattle.answer.specs.Answer.{Answer, Done, answer_of, is_done}
 use Rattle.answer.specs.Refusals.{tested}
 use Rattle.matrix.specs.Layouts.{full}
 use Rattle.matrix.proofs.Places.{free_at}
@@ -29,9 +24,8 @@ use Rattle.lblt_solve.proofs.Once.{solved_once}
 use Rattle.handheld.specs.declared.Column3.{Column3}
 use Rattle.handheld.specs.declared.Pivots3.{Pivots3}
 use Rattle.handheld.specs.declared.Factored.{Factored}
-use Rattle.handheld.specs.declared.Solved.{Solved}
 use Rattle.handheld.specs.Shapes.{numbers_of, Threes, Square, Paired, record_of}
-use Rattle.handheld.specs.Promise.{FactoredByValue, SolvedByValue}
+use Rattle.handheld.specs.Promise.{FactoredByValue, left_by, SolvedByValue}
 use Rattle.handheld.specs.inner.Steps.{blank}
 use Rattle.handheld.proofs.Listed.{three_listed}
 use Rattle.handheld.proofs.Answers.{check_answers}
@@ -56,9 +50,9 @@ module _ {given : List Column3} {r : Factored} (f : FactoredByValue given r) whe
   pub pivots_accepted : (run : ℕ) → Accepted 3 (record_of run r.pivots)
   pivots_accepted run = factor_accepted (f.lent run blank refl) refl
 
-module _ {given : List Column3} {p : Pivots3} {side : Column3} {r : Solved} (s : SolvedByValue given p side r) where
+module _ {given : List Column3} {p : Pivots3} {side : Column3} {r : Result Column3 Refusal} (s : SolvedByValue given p side r) where
   pub solve_as_lent : {run : ℕ} {answer : Answer} {b : List Float} → LbltSolved (full 3) 1 run (numbers_of given) (record_of run p) side.row answer b
-      → (answer ≡ r.answer) × (b ≡ r.side.row)
+      → (answer ≡ answer_of r) × (b ≡ (left_by side r).row)
   solve_as_lent {run} g = solved_once g (s.lent run)
 
 -- ---- the promises fix all that comes back
@@ -92,11 +86,18 @@ factor_unique {r = r} {r'} f g =
     let pivots : r.pivots ≡ r'.pivots = same_pivots r.pivots r'.pivots f.paired g.paired same.pivots in
     rw (matrix, pivots)
 
-pub solve_unique : {given : List Column3} {p : Pivots3} {side : Column3} {r r' : Solved} → SolvedByValue given p side r → SolvedByValue given p side r' → r ≡ r'
-solve_unique {r = r} {r'} s t =
-    let same = solved_once (s.lent 0) (t.lent 0) in
-    let side : r.side.row ≡ r'.side.row = same.1 in
-    rw (same.0, side)
+pub solve_unique : {given : List Column3} {p : Pivots3} {side : Column3} {r r' : Result Column3 Refusal} → SolvedByValue given p side r → SolvedByValue given p side r' → r ≡ r'
+solve_unique {side = side} {r} {r'} s t = let same = solved_once (s.lent 0) (t.lent 0) in by r r' same.0 same.1
+  where
+    by : (r r' : Result Column3 Refusal) → answer_of r ≡ answer_of r' → (left_by side r).row ≡ (left_by side r').row → r ≡ r'
+    by (Ok x) (Ok x') answer row = ap (λ (row : List Float). Ok (record { row = row })) row
+    by (Ok x) (Err e) answer row = absurd (true≢false (ap is_done answer))
+    by (Err e) (Ok x) answer row = absurd (true≢false (sym (ap is_done answer)))
+    by (Err e) (Err e') answer row = ap again answer
+      where
+        again : Answer → Result Column3 Refusal
+        again (Ok x) = Err e
+        again (Err found) = Err found
 
 -- ---- what a solve answers
 
@@ -109,13 +110,13 @@ square_nine (b ∷ []) s = absurd (omega (arith, s.three))
 square_nine (b ∷ c ∷ []) s = absurd (omega (arith, s.three))
 square_nine (b ∷ c ∷ d ∷ e ∷ l) s = absurd (omega (arith, s.three))
 
-module _ {given : List Column3} {p : Pivots3} {side : Column3} {r : Solved} (square : Square given) (three : length side.row ≡ 3) (s : SolvedByValue given p side r) where
+module _ {given : List Column3} {p : Pivots3} {side : Column3} {r : Result Column3 Refusal} (square : Square given) (three : length side.row ≡ 3) (s : SolvedByValue given p side r) where
   -- the pivots' rule, then the mark
-  pub solve_answer_law : r.answer ≡ cond (is_done (checked 3 (record_of 0 p))) (tested (mark_tests 3 (record_of 0 p)) Done) (checked 3 (record_of 0 p))
-  solve_answer_law = (s.lent 0).answer ∙ sym (check_answers (numbers_of given) side.row (square_nine given square) three p refl refl 0)
+  pub solve_answer_law : answer_of r ≡ cond (is_done (checked 3 (record_of 0 p))) (tested (mark_tests 3 (record_of 0 p)) Done) (checked 3 (record_of 0 p))
+  solve_answer_law = (s.lent 0).answer ∙ sym (check_answers (numbers_of given) side.row (square_nine given square) three p 0 (checked 3 (record_of 0 p)) refl)
 
 -- with the pivots that a factor gives: done, or the mark
-pub own_pivots_law : {before given : List Column3} {f : Factored} {side : Column3} {r : Solved} → FactoredByValue before f
-    → Square given → length side.row ≡ 3 → SolvedByValue given f.pivots side r → r.answer ≡ cond (eqb f.pivots.mark 0) Done (ZeroMark (f.pivots.mark - 1))
+pub own_pivots_law : {before given : List Column3} {f : Factored} {side : Column3} {r : Result Column3 Refusal} → FactoredByValue before f
+    → Square given → length side.row ≡ 3 → SolvedByValue given f.pivots side r → answer_of r ≡ cond (eqb f.pivots.mark 0) Done (Err (ZeroMark (f.pivots.mark - 1)))
 unfolding tested record_of
 own_pivots_law {f = f} factored square three s = solve_answer_law square three s ∙ rw (pivots_accepted factored 0).done

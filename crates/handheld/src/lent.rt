@@ -22,7 +22,8 @@ pub fn by_lent(matrix: [Column3; 3]) -> Stepped
         first.x, first.y, first.z, second.x, second.y, second.z, third.x, third.y, third.z,
     ];
     let mut words: [u32; 8] = [0; 8];
-    lblt::factor(&mut a, &mut words, 3, 0);
+    // the sizes are those of order 3, so it is done
+    let _ = lblt::factor(&mut a, &mut words, 3, 0);
     let lower = Triangle {
         a00: a[0],
         a10: a[1],

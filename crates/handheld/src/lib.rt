@@ -9,7 +9,7 @@ pub mod sides;
 mod steps;
 
 ghost use Rattle.std.specs.Prelude.{◌≡◌, ℕ};
-ghost use Rattle.answer.specs.declared.Answer.TheVariants.{Done};
+ghost use Rattle.answer.specs.Answer.{Done};
 ghost use Rattle.answer.specs.Refusals.{tested};
 ghost use Rattle.matrix.specs.Layouts.{full};
 ghost use Rattle.lblt_solve.specs.Solve.{solve_tests};
@@ -17,7 +17,7 @@ ghost use Rattle.handheld.specs.Shapes.{numbers_of, record_of};
 ghost use Rattle.handheld.specs.Promise.{FactoredByValue, SolvedByValue};
 ghost use Rattle.handheld.specs.inner.Numbers.{factored_of};
 
-use answer::Answer;
+use answer::{Answer, Refusal};
 use numbers::Nine;
 use steps::Stepped;
 
@@ -42,13 +42,6 @@ pub struct Pivots3 {
 pub struct Factored {
     pub matrix: [Column3; 3],
     pub pivots: Pivots3,
-}
-
-// A solution, or the side as it was where the answer is a refusal.
-#[derive(Clone, Copy)]
-pub struct Solved {
-    pub answer: Answer,
-    pub side: Column3,
 }
 
 // The lower triangle of three rows.
@@ -112,26 +105,20 @@ fn check(matrix: [Column3; 3], p: Pivots3, side: Column3) -> Answer
     let words = [
         p.index[0], p.size[0], p.index[1], p.size[1], p.index[2], p.size[2], p.mark, 0,
     ];
-    let fault = pivots::check(&words, 3);
-    lblt_solve::check_mark(fault, &words, 3)
+    pivots::check(&words, 3)?;
+    lblt_solve::check_mark(&words, 3)
 }
 
-// Solves A x = b, from a factor and its pivots. Pivots that break their rule, then a mark, are refused, and the side comes back as it was.
-pub fn solve(matrix: [Column3; 3], pivots: Pivots3, side: Column3) -> Solved
+// Solves A x = b, from a factor and its pivots. Pivots that break their rule, then a mark, are refused.
+pub fn solve(matrix: [Column3; 3], pivots: Pivots3, side: Column3) -> Result<Column3, Refusal>
     ensures { SolvedByValue matrix pivots side result }
 {
-    let answer = check(matrix, pivots, side);
-    if answer.code() != 0 {
-        return Solved { answer, side };
-    }
+    check(matrix, pivots, side)?;
     let last = wide(pivots.index[2]);
     let n = numbers::of_columns(matrix, last);
     let b = numbers::of_column(side, last);
     let s = sides::by_blocks(numbers::lower(n), pivots, b);
-    Solved {
-        answer,
-        side: Column3 {
-            row: [s.x, s.y, s.z],
-        },
-    }
+    Ok(Column3 {
+        row: [s.x, s.y, s.z],
+    })
 }

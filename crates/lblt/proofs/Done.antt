@@ -1,4 +1,5 @@
 -- What `factor` promises, way by way; two answers that meet the promise are equal. Assumes nothing.
+use Rattle.std.specs.Prelude.{Err}
 use mathlib.Core.Path.{◌≡◌, refl, sym, ◌∙◌, ap}
 use mathlib.Core.Bool.{true, false}
 use mathlib.Core.List.{List, [], ◌∷◌}
@@ -8,16 +9,16 @@ use lib.Dec.{eqb}
 use lib.ListN.{length}
 use lib.Ieee.{Float}
 use borrow.Author.Tests.{eq-eqb, ne_eqb, eqb-true}
-use Rattle.answer.specs.declared.Answer.{Answer}
-use Rattle.answer.specs.declared.Answer.TheVariants.{Done, SliceLength}
-use Rattle.answer.specs.Number.{is_done}
+use Rattle.answer.specs.declared.Refusal.{Refusal}
+use Rattle.answer.specs.declared.Refusal.TheVariants.{SliceLength}
+use Rattle.answer.specs.Answer.{Answer, Done, is_done}
 use Rattle.answer.specs.Refusals.{Test, ◌otherwise◌, tested}
-use Rattle.answer.proofs.Tested.{tested_all, tested_at, tested_join, tested_fixed, all_hold, here, leaving_done, leaving_refused, leaving_alike}
+use Rattle.answer.proofs.Tested.{tested_all, tested_at, tested_join, joined_refused, all_hold, here, leaving_done, leaving_refused, leaving_alike}
 use Rattle.matrix.specs.Layouts.{Roomy}
 use Rattle.matrix.specs.Sizes.{size_tests, Fits}
 use Rattle.matrix.specs.declared.Layout.{Layout}
 use Rattle.matrix.proofs.Grids.{holds_unique}
-use Rattle.matrix.proofs.Sizes.{sizes_refuse, hold_fits, fits_pass}
+use Rattle.matrix.proofs.Sizes.{hold_fits, fits_pass}
 use Rattle.pivots.specs.Words.{words_of, mark_at, marked, stamped, Sized}
 use Rattle.pivots.proofs.Written.{ended_mark}
 use Rattle.lblt.specs.Factor.{factor_tests, recorded, Stored, Factored}
@@ -50,15 +51,14 @@ module _ (y : Layout) (a : List Float) (words : List ℕ) where
   refusal : {run : ℕ} {r : Answer} → r ≡ tested (factor_tests y a words) Done → is_done r ≡ false → Factored y run a words r a words
   refusal is refused = record { answer = is; left = leaving_refused refused (record { matrix = refl; pivots = refl }) }
 
-  pub wrong_size : {run : ℕ} {r : Answer} → r ≡ tested (size_tests y 0 (length a)) Done → is_done r ≡ false → Factored y run a words r a words
-  wrong_size is refused =
-      refusal (is ∙ sym (in_turn ∙ tested_fixed (size_tests y 0 (length a)) (tested length_test Done) (ap is_done (sym is) ∙ refused))) refused
+  pub wrong_size : {run : ℕ} {fault : Refusal} → Err fault ≡ tested (size_tests y 0 (length a)) Done → Factored y run a words (Err fault) a words
+  wrong_size is = refusal (sym (joined_refused (size_tests y 0 (length a)) length_test Done (sym is))) refl
 
   module _ (fits : Fits y 0 (length a)) where
     passed : tested (factor_tests y a words) Done ≡ tested length_test Done
     passed = in_turn ∙ fits_pass y 0 (length a) fits (tested length_test Done)
 
-    pub wrong_record : {run : ℕ} → (length words ≡ words_of y.order → ⊥) → Factored y run a words SliceLength a words
+    pub wrong_record : {run : ℕ} → (length words ≡ words_of y.order → ⊥) → Factored y run a words (Err SliceLength) a words
     wrong_record wrong = refusal (sym (passed ∙ tested_at length_test Done (here (ne_eqb (length words) (words_of y.order) wrong) refl))) refl
 
     pub all_right : length words ≡ words_of y.order → tested (factor_tests y a words) Done ≡ Done
@@ -74,9 +74,9 @@ module _ (y : Layout) (a : List Float) (words : List ℕ) where
   -- a call that is done was given an allowed order and as many words as it has
   pub done_sized : is_done (tested (factor_tests y a words) Done) ≡ true → Sized y.order words
   done_sized done =
-      let sizes = all_hold (size_tests y 0 (length a)) (tested length_test Done) (sizes_refuse y 0 (length a)) (ap is_done (sym in_turn) ∙ done) in
+      let sizes = all_hold (size_tests y 0 (length a)) (tested length_test Done) (ap is_done (sym in_turn) ∙ done) in
       let roomy : Roomy y = (hold_fits y 0 (length a) sizes.0).roomy in
-      record { order = omega (arith, roomy.ordered, roomy.small); total = eqb-true (length words) (words_of y.order) (all_hold length_test Done (refl, tt) sizes.1).0.0 }
+      record { order = omega (arith, roomy.ordered, roomy.small); total = eqb-true (length words) (words_of y.order) (all_hold length_test Done sizes.1).0.0 }
 
 -- ---- the promise fixes all that it speaks of
 

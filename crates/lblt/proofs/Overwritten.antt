@@ -9,9 +9,7 @@ use lib.Ieee.{Float}
 use lib.ListN.{length, get_or, set, length-set}
 use lib.Seq.{get_or-set_same, get_or-set_other, ext_get_or}
 use borrow.Author.Tests.{ltb-true, ltb-false, eqb-true, eqb-false}
-use Rattle.answer.specs.declared.Answer.{Answer}
-use Rattle.answer.specs.declared.Answer.TheVariants.{Done}
-use Rattle.answer.specs.Number.{is_done}
+use Rattle.answer.specs.Answer.{Answer, Done, is_done}
 use Rattle.answer.specs.Refusals.{tested}
 use Rattle.answer.proofs.Tested.{tested_join}
 use Rattle.matrix.specs.Matrix.{Matrix}

@@ -1,7 +1,7 @@
 -- What `factor` promises, of the lower triangle of a layout y. The call's layout is `full n`, the packed call's `packed n`.
 use Rattle.std.specs.Prelude.{◌≡◌, List, [], ◌∷◌, ◌++◌, ℕ, eqb, length, Float}
-use Rattle.answer.specs.declared.Answer.{Answer}
-use Rattle.answer.specs.declared.Answer.TheVariants.{Done, SliceLength}
+use Rattle.answer.specs.declared.Refusal.TheVariants.{SliceLength}
+use Rattle.answer.specs.Answer.{Answer, Done}
 use Rattle.answer.specs.Refusals.{Test, ◌otherwise◌, tested, Leaving}
 use Rattle.matrix.specs.Matrix.{Matrix}
 use Rattle.matrix.specs.Grid.{load, Holds}

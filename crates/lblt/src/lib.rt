@@ -9,7 +9,7 @@ ghost use Rattle.lblt.specs.Step.{step};
 ghost use Rattle.lblt.specs.inner.Engine.{Stands, state_at, Steps, Filled};
 ghost use Rattle.lblt.specs.Factor.{Factored};
 
-use answer::Answer;
+use answer::{Answer, Refusal};
 use lblt_choice::Choice;
 use matrix::Layout;
 
@@ -87,15 +87,12 @@ pub fn fill(y: Layout, a: &mut [f64], words: &mut [u32], run: u32) -> u32
 pub fn factor_on(y: Layout, a: &mut [f64], words: &mut [u32], run: u32) -> Answer
     ensures { Factored y run a.old words.old result a.new words.new }
 {
-    let fault = y.check(0, a.len());
-    if fault.code() != 0 {
-        return fault;
-    }
+    y.check(0, a.len())?;
     if words.len() != pivots::words(y.order) {
-        return Answer::SliceLength;
+        return Err(Refusal::SliceLength);
     }
     fill(y, a, words, run);
-    Answer::Done
+    Ok(())
 }
 
 // The same of a matrix of order n in n·n numbers, column by column.

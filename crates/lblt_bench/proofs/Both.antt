@@ -1,14 +1,6 @@
 -- Both benches have called, in whichever order: what stands in b is what one `solve_mut` of all columns leaves. Assumes nothing.
-use mathlib.Core.Bool.{true, false, cond}
-use mathlib.Core.List.{List}
-use mathlib.Core.Logic.{◌⊎◌, ⊎_elim}
-use mathlib.Core.Path.{◌≡◌, refl, sym, ap, ◌∙◌}
-use Prim.Native.Nat.{ℕ, ◌<◌}
-use borrow.Author.Tests.{eq-eqb, ne_eqb}
-use lib.Ieee.{Float}
-use lib.ListN.{length, get_or}
-use Rattle.answer.specs.declared.Answer.{Answer}
-use Rattle.answer.specs.Number.{is_done}
+use Rattle.std.proofs.Common.{true, false, cond, List, ◌⊎◌, ⊎_elim, ◌≡◌, refl, sym, ap, ◌∙◌, ℕ, ◌<◌, Float, length, get_or, eq-eqb, ne_eqb}
+use Rattle.answer.specs.Answer.{Answer, is_done}
 use Rattle.answer.proofs.Done.{done_or_refused}
 use Rattle.matrix.specs.declared.Layout.{Layout}
 use Rattle.matrix.specs.Grid.{load}

@@ -1,9 +1,6 @@
 -- Two answers that meet the promise of `solve_bench` are equal, and so is all that they leave behind.
-use mathlib.Core.List.{List}
-use mathlib.Core.Path.{◌≡◌, sym, ◌∙◌}
-use Prim.Native.Nat.{ℕ}
-use lib.Ieee.{Float}
-use Rattle.answer.specs.declared.Answer.{Answer}
+use Rattle.std.proofs.Common.{List, ◌≡◌, sym, ◌∙◌, ℕ, Float}
+use Rattle.answer.specs.Answer.{Answer}
 use Rattle.answer.proofs.Done.{value_alike}
 use Rattle.matrix.specs.declared.Layout.{Layout}
 use Rattle.lblt_bench.specs.Bench.{BenchSolved}

@@ -3,14 +3,8 @@
 --     refused_all                   a refused call leaves all
 --     others_unfelt                 two calls that agree on all but the others' columns
 --     as_solved                     a call and a `solve_mut` of all columns
-use mathlib.Core.Bool.{true, false, cond}
-use mathlib.Core.List.{List}
-use mathlib.Core.Path.{◌≡◌, refl, sym, ap, ◌∙◌}
-use Prim.Native.Nat.{ℕ, ◌<◌}
-use lib.Ieee.{Float}
-use lib.ListN.{length}
-use Rattle.answer.specs.declared.Answer.{Answer}
-use Rattle.answer.specs.Number.{is_done}
+use Rattle.std.proofs.Common.{true, false, cond, List, ◌≡◌, refl, sym, ap, ◌∙◌, ℕ, ◌<◌, Float, length}
+use Rattle.answer.specs.Answer.{Answer, is_done}
 use Rattle.answer.proofs.Done.{done_or_refused, done_alike}
 use Rattle.matrix.specs.declared.Layout.{Layout}
 use Rattle.matrix.specs.Grid.{load}

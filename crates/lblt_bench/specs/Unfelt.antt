@@ -1,6 +1,6 @@
 -- Two calls by one bench that differ in nothing but the other benches' columns.
 use Rattle.std.specs.Prelude.{true, false, List, ◌≡◌, ℕ, ◌<◌, Float}
-use Rattle.answer.specs.declared.Answer.{Answer}
+use Rattle.answer.specs.Answer.{Answer}
 use Rattle.matrix.specs.Columns.{column}
 use Rattle.lblt_bench.specs.Bench.{owns}
 

@@ -3,27 +3,23 @@
 
 mod own;
 
-ghost use Rattle.std.specs.Prelude.{cond, ◌≡◌};
-ghost use Rattle.answer.specs.declared.Answer.TheVariants.{Done};
-ghost use Rattle.answer.specs.Number.{is_done};
+ghost use Rattle.std.specs.Prelude.{◌≡◌};
+ghost use Rattle.answer.specs.Answer.{Done};
 ghost use Rattle.answer.specs.Refusals.{tested};
 ghost use Rattle.matrix.specs.Layouts.{full};
 ghost use Rattle.lblt_bench.specs.Bench.{list_tests, bench_tests, BenchSolved};
 
-use answer::Answer;
+use answer::{Answer, Refusal};
 use matrix::Layout;
 
-// The list's length, where the other sizes are passed: `sizes` is their answer.
-fn check_list(sizes: Answer, benches: &[u32], columns: usize) -> Answer
-    ensures { result ≡ cond (is_done sizes) (tested (list_tests columns benches.now) Done) sizes }
+// The list's length.
+fn check_list(benches: &[u32], columns: usize) -> Answer
+    ensures { result ≡ tested (list_tests columns benches.now) Done }
 {
-    if sizes.code() != 0 {
-        return sizes;
-    }
     if benches.len() != columns {
-        return Answer::SliceLength;
+        return Err(Refusal::SliceLength);
     }
-    sizes
+    Ok(())
 }
 
 // What `solve_mut` refuses, and a list of another length.
@@ -38,10 +34,10 @@ fn check(
 ) -> Answer
     ensures { result ≡ tested (bench_tests y columns run a.now words.now b.now benches.now) Done }
 {
-    let sides = lblt_read::check_sides(y, columns, a, b);
-    let sizes = check_list(sides, benches, columns);
-    let read = lblt_read::check_record(sizes, words, y.order, run);
-    lblt_solve::check_mark(read, words, y.order)
+    lblt_read::check_sides(y, columns, a, b)?;
+    check_list(benches, columns)?;
+    lblt_read::check_record(words, y.order, run)?;
+    lblt_solve::check_mark(words, y.order)
 }
 
 // Solves A x = b for those columns of b, n numbers a column, whose number in `benches` is `bench`.
@@ -58,10 +54,7 @@ pub fn solve_bench(
     ensures { BenchSolved (full n) columns bench run a.now words.now b.old benches.now result b.new }
 {
     let y = Layout::full(n);
-    let answer = check(y, columns, a, words, b, benches, run);
-    if answer.code() != 0 {
-        return answer;
-    }
+    check(y, columns, a, words, b, benches, run)?;
     own::solve(y, a, words, b, benches, bench);
-    answer
+    Ok(())
 }

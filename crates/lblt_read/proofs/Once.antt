@@ -1,11 +1,7 @@
 -- Two answers that meet a public promise are equal, and so is all that they leave behind.
-use mathlib.Core.List.{List}
-use mathlib.Core.Path.{◌≡◌, sym, ◌∙◌}
-use Prim.Native.Nat.{ℕ}
-use lib.Ieee.{Float}
-use Rattle.answer.specs.declared.Answer.{Answer}
-use Rattle.answer.specs.declared.Valued.{Valued}
-use Rattle.answer.proofs.Done.{value_alike}
+use Rattle.std.proofs.Common.{List, ◌≡◌, sym, ◌∙◌, ℕ, Float, Result}
+use Rattle.answer.specs.declared.Refusal.{Refusal}
+use Rattle.answer.specs.Answer.{Answer}
 use Rattle.answer.proofs.Tested.{leaving_alike}
 use Rattle.matrix.specs.declared.Layout.{Layout}
 use Rattle.matrix.specs.Matrix.{Matrix}
@@ -13,12 +9,10 @@ use Rattle.matrix.proofs.Squares.{fills_unique}
 use Rattle.lblt_read.specs.Calls.{LbltDetermined, LbltFilled}
 
 pub determined_once
-    : {y : Layout} {run : ℕ} {a : List Float} {words : List ℕ} {r r' : Valued}
+    : {y : Layout} {run : ℕ} {a : List Float} {words : List ℕ} {r r' : Result Float Refusal}
     → LbltDetermined y run a words r → LbltDetermined y run a words r'
-    → (r.answer ≡ r'.answer) × (r.value ≡ r'.value)
-determined_once s t =
-    let same = s.answer ∙ sym t.answer in
-    (same, s.value ∙ value_alike _ _ same ∙ sym t.value)
+    → r ≡ r'
+determined_once s t = s.answer ∙ sym t.answer
 
 pub filled_once
     : {y : Layout} {run : ℕ} {a : List Float} {words : List ℕ} {M : Matrix} {l : List Float} {r r' : Answer} {m m' : List Float}

@@ -1,16 +1,14 @@
 -- What the readers of an LBLT factor answer and leave behind, refused ones too. a is to be a slice of the layout y, `words` the record of its order,
 -- with the number `run`; the calls' layout is `full n`, that of the packed determinant `packed n`.
-use Rattle.std.specs.Prelude.{cond, List, [], ◌∷◌, ◌++◌, ◌≡◌, ℕ, ◌*◌, eqb, leb, Float, length}
-use Rattle.answer.specs.declared.Answer.{Answer}
-use Rattle.answer.specs.declared.Answer.TheVariants.{Done, OutOfRange, SliceLength, OtherRun}
-use Rattle.answer.specs.declared.Valued.{Valued}
-use Rattle.answer.specs.Number.{is_done}
+use Rattle.std.specs.Prelude.{List, [], ◌∷◌, ◌++◌, ◌≡◌, ℕ, ◌*◌, eqb, leb, Float, length, Result, Ok}
+use Rattle.answer.specs.declared.Refusal.{Refusal}
+use Rattle.answer.specs.declared.Refusal.TheVariants.{OutOfRange, SliceLength, OtherRun}
+use Rattle.answer.specs.Answer.{Answer, Done}
 use Rattle.answer.specs.Refusals.{Test, ◌otherwise◌, tested, Leaving}
 use Rattle.matrix.specs.declared.Layout.{Layout}
 use Rattle.matrix.specs.Matrix.{Matrix}
 use Rattle.matrix.specs.Grid.{load}
 use Rattle.matrix.specs.Layouts.{lower, Fills}
-use Rattle.matrix.specs.Rounded.{plus_zero}
 use Rattle.matrix.specs.Sizes.{size_tests}
 use Rattle.pivots.specs.Words.{words_of, run_at}
 use Rattle.pivots.specs.Rule.{record_tests}
@@ -34,9 +32,9 @@ side_tests y columns a b =
 abbrev pub column_tests : Layout → ℕ → ℕ → List Float → List ℕ → List Float → List Test
 column_tests y columns run a words b = side_tests y columns a b ++ word_tests y.order run words
 
-pub record LbltDetermined (y : Layout) (run : ℕ) (a : List Float) (words : List ℕ) (r : Valued) : Type 0 where
-  pub answer : r.answer ≡ tested (reader_tests y run a words) Done
-  pub value : r.value ≡ cond (is_done r.answer) (determinant_of y.order (load (lower y) a) words) plus_zero
+-- the determinant where done
+pub record LbltDetermined (y : Layout) (run : ℕ) (a : List Float) (words : List ℕ) (r : Result Float Refusal) : Type 0 where
+  pub answer : r ≡ tested (reader_tests y run a words) (Ok (determinant_of y.order (load (lower y) a) words))
 
 -- a matrix M is filled in where done, and as it was where refused
 pub record LbltFilled (y : Layout) (run : ℕ) (a : List Float) (words : List ℕ) (M : Matrix) (l : List Float) (r : Answer) (l' : List Float) : Type 0 where

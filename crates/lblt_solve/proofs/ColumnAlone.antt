@@ -1,11 +1,6 @@
 -- What `solve_mut` leaves in a column depends on the factor, the record and that column alone.
-use mathlib.Core.Bool.{true}
-use mathlib.Core.List.{List}
-use mathlib.Core.Path.{◌≡◌, ap, ◌∙◌}
-use Prim.Native.Nat.{ℕ, ◌<◌}
-use lib.Ieee.{Float}
-use Rattle.answer.specs.declared.Answer.{Answer}
-use Rattle.answer.specs.Number.{is_done}
+use Rattle.std.proofs.Common.{true, List, ◌≡◌, ap, ◌∙◌, ℕ, ◌<◌, Float}
+use Rattle.answer.specs.Answer.{Answer, is_done}
 use Rattle.matrix.specs.declared.Layout.{Layout}
 use Rattle.matrix.specs.Grid.{load}
 use Rattle.matrix.specs.Layouts.{lower}

@@ -1,9 +1,8 @@
 -- What `solve_mut` answers and leaves behind, refused or not. a is to be a slice of the layout y, `words` the record of its order, with the number `run`;
 -- the call's layout is `full n`, the packed call's `packed n`.
 use Rattle.std.specs.Prelude.{cond, List, [], ◌∷◌, ◌++◌, ◌≡◌, ℕ, ◌-◌, eqb, Float}
-use Rattle.answer.specs.declared.Answer.{Answer}
-use Rattle.answer.specs.declared.Answer.TheVariants.{Done, ZeroMark}
-use Rattle.answer.specs.Number.{is_done}
+use Rattle.answer.specs.declared.Refusal.TheVariants.{ZeroMark}
+use Rattle.answer.specs.Answer.{Answer, Done, is_done}
 use Rattle.answer.specs.Refusals.{Test, ◌otherwise◌, tested}
 use Rattle.matrix.specs.declared.Layout.{Layout}
 use Rattle.matrix.specs.Grid.{load}

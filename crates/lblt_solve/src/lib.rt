@@ -3,39 +3,35 @@
 
 pub mod sides;
 
-ghost use Rattle.std.specs.Prelude.{true, cond, ◌≡◌};
-ghost use Rattle.answer.specs.declared.Answer.TheVariants.{Done};
-ghost use Rattle.answer.specs.Number.{is_done};
+ghost use Rattle.std.specs.Prelude.{◌≡◌};
+ghost use Rattle.answer.specs.Answer.{Done};
 ghost use Rattle.answer.specs.Refusals.{tested};
 ghost use Rattle.matrix.specs.Layouts.{full};
 ghost use Rattle.pivots.specs.Rule.{Accepted};
 ghost use Rattle.lblt_solve.specs.Solve.{mark_tests, solve_tests, LbltSolved};
 
-use answer::Answer;
+use answer::{Answer, Refusal};
 use matrix::Layout;
 
-// The mark, where a reader's tests are passed: `read` is their answer.
-pub fn check_mark(read: Answer, words: &[u32], n: usize) -> Answer
-    requires { is_done read ≡ true → Accepted n words.now }
-    ensures { result ≡ cond (is_done read) (tested (mark_tests n words.now) Done) read }
+// The mark of a record that a reader accepts.
+pub fn check_mark(words: &[u32], n: usize) -> Answer
+    requires { Accepted n words.now }
+    ensures { result ≡ tested (mark_tests n words.now) Done }
 {
-    if read.code() != 0 {
-        return read;
-    }
     let mark = pivots::mark(words, n);
     if mark == 0 {
-        return read;
+        return Ok(());
     }
-    Answer::ZeroMark((mark - 1) as u32)
+    Err(Refusal::ZeroMark((mark - 1) as u32))
 }
 
 // What a reader of a factor refuses, then a zero mark.
 fn check(y: Layout, columns: usize, a: &[f64], words: &[u32], b: &[f64], run: u32) -> Answer
     ensures { result ≡ tested (solve_tests y columns run a.now words.now b.now) Done }
 {
-    let sizes = lblt_read::check_sides(y, columns, a, b);
-    let read = lblt_read::check_record(sizes, words, y.order, run);
-    check_mark(read, words, y.order)
+    lblt_read::check_sides(y, columns, a, b)?;
+    lblt_read::check_record(words, y.order, run)?;
+    check_mark(words, y.order)
 }
 
 // Solves A x = b for each of the columns of b, n numbers a column, in a layout that is no larger than its order.
@@ -50,12 +46,9 @@ pub fn solve_on(
     requires { y.room ≡ y.order }
     ensures { LbltSolved y columns run a.now words.now b.old result b.new }
 {
-    let answer = check(y, columns, a, words, b, run);
-    if answer.code() != 0 {
-        return answer;
-    }
+    check(y, columns, a, words, b, run)?;
     sides::solve(y, a, words, b, columns);
-    answer
+    Ok(())
 }
 
 // The same of a factor in n·n numbers.

@@ -1,5 +1,5 @@
 -- One item, then all items up to one.
---     item_laid, item_sized, item_factored   its slices fit, so that its factor is done
+--     item_laid, item_factored     its slices fit, so that its factor is done
 --     one_solved                   an item's parts, lent out of the tray and back
 --     none_before, more_before     no item; one more
 --     each_solved                  all items
@@ -12,7 +12,7 @@ use native.Mathlib.Omega.{arith}
 use lib.Ieee.{Float}
 use lib.ListN.{length, get_or, set, take, drop, length-set}
 use lib.Seq.{get_or-set_same, get_or-set_other}
-use Rattle.answer.specs.declared.Answer.TheVariants.{Done}
+use Rattle.answer.specs.Answer.{Done}
 use Rattle.matrix.specs.Columns.{Lined, ButColumn}
 use Rattle.matrix.specs.Layouts.{full, Laid}
 use Rattle.matrix.specs.Sizes.{Fits}
@@ -33,9 +33,6 @@ module _ {n : ℕ} {a : List Float} {words : List ℕ} {b : List Float} (item : 
 
   pub item_laid : Laid (full n) a
   item_laid = laid_fits fits
-
-  pub item_sized : Sized n words
-  item_sized = record { order = omega (arith, item.order); total = item.pivots }
 
   pub item_factored : {run m : ℕ} {a' : List Float} {words' : List ℕ} → Filled (full n) run a words a' words' m → Factored (full n) run a words Done a' words'
   item_factored filled = done (full n) a words fits item.pivots filled.stored

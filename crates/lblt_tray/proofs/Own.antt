@@ -1,15 +1,11 @@
 -- An item's solve reads the record that its own factor has just written: nothing refuses it but the mark. Assumes nothing.
---     item_readable, item_sides   the factor, the record and the side fit
---     item_unmarked               no mark: the item is solved
---     item_marked                 a mark: 6 at its row, the side as it was
-use mathlib.Core.List.{List}
-use mathlib.Core.Path.{◌≡◌, refl, sym, ◌∙◌}
-use Prim.Native.Nat.{ℕ, ◌-◌, ◌*◌}
-use native.Mathlib.Omega.{arith}
-use lib.Ieee.{Float}
-use lib.ListN.{length}
-use Rattle.answer.specs.declared.Answer.TheVariants.{Done, ZeroMark}
-use Rattle.answer.specs.Number.{number_of}
+--     item_readable   the factor and the record fit
+--     item_unmarked   no mark: the item is solved
+--     item_marked     a mark: 6 at its row, the side as it was
+use Rattle.std.proofs.Common.{Err, List, ◌≡◌, refl, sym, ◌∙◌, ℕ, ◌-◌, ◌*◌, arith, Float, length}
+use Rattle.answer.specs.declared.Refusal.TheVariants.{ZeroMark}
+use Rattle.answer.specs.Answer.{Done}
+use Rattle.answer.specs.Number.{refusal_number}
 use Rattle.answer.specs.Refusals.{tested}
 use Rattle.matrix.specs.Grid.{load}
 use Rattle.matrix.specs.Layouts.{full, lower}
@@ -42,9 +38,6 @@ module _ {n run : ℕ} {a : List Float} {words : List ℕ} {a' : List Float} {wo
   pub item_readable : Readable (full n) a' words'
   item_readable = record { factor = laid_fits fits; accepted = accepted }
 
-  pub item_sides : Sides (full n) a' b
-  item_sides = record { factor = laid_fits fits; long = side }
-
   read : Done ≡ tested (column_tests (full n) 1 run a' words' b) Done
   read =
       columns_expected (full n) run a' words' fits accepted 1 (omega arith) b (omega (arith, side)) (factor_run f refl)
@@ -62,11 +55,11 @@ module _ {n run : ℕ} {a : List Float} {words : List ℕ} {a' : List Float} {wo
         numbered = refl;
       }
 
-  pub item_marked : {mark number : ℕ} → mark ≡ mark_at n words' → (mark ≡ 0 → ⊥) → number ≡ number_of (ZeroMark (mark - 1)) → ItemSolved n run a words b number a' words' b
+  pub item_marked : {mark number : ℕ} → mark ≡ mark_at n words' → (mark ≡ 0 → ⊥) → number ≡ refusal_number (ZeroMark (mark - 1)) → ItemSolved n run a words b number a' words' b
   item_marked {mark} is set numbered =
       record {
         factor = f;
-        answer = ZeroMark (mark - 1);
+        answer = Err (ZeroMark (mark - 1));
         solve = record { answer = solve_answers (full n) 1 run a' words' b read (marked n words' is set); sides = refl };
         numbered = numbered;
       }

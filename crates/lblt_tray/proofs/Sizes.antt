@@ -1,22 +1,13 @@
 -- What the tests of a tray answer, and what they tell where it goes on.
 --     many, large, matrices_wrong … answers_wrong, all_right   each way out
 --     trayed                                                   all tests hold: the slices of a tray
---     refused_untouched                                        a refused tray
 --     part_small                                               where an item's part ends
-use mathlib.Core.Bool.{true, false}
-use mathlib.Core.List.{List}
-use mathlib.Core.Path.{◌≡◌, refl, sym, ap, subst, ◌∙◌}
-use Prim.Native.Nat.{ℕ, ◌+◌, ◌*◌, ◌<◌, ◌≤◌}
-use native.Mathlib.Nat.{mul-le-mul}
-use native.Mathlib.Omega.{arith}
-use borrow.Author.Tests.{eq-eqb, ne_eqb, eqb-true, le-leb, lt-leb, leb-true}
-use lib.Ieee.{Float}
-use lib.ListN.{length}
-use Rattle.answer.specs.declared.Answer.{Answer}
-use Rattle.answer.specs.declared.Answer.TheVariants.{Done, OutOfRange, MatrixLength, SliceLength}
-use Rattle.answer.specs.Number.{is_done}
+use Rattle.std.proofs.Common.{Err, true, List, ◌≡◌, refl, sym, ap, subst, ◌∙◌, ℕ, ◌+◌, ◌*◌, ◌<◌, ◌≤◌, mul-le-mul, arith, eq-eqb, ne_eqb, eqb-true, le-leb, leb-true, Float, length}
+use Rattle.std.proofs.lemmas.Bool.{lt-leb}
+use Rattle.answer.specs.declared.Refusal.TheVariants.{OutOfRange, MatrixLength, SliceLength}
+use Rattle.answer.specs.Answer.{Answer, Done, is_done}
 use Rattle.answer.specs.Refusals.{tested}
-use Rattle.answer.proofs.Tested.{Refusals, tested_all, tested_at, all_hold, here, later, leaving_done, leaving_refused}
+use Rattle.answer.proofs.Tested.{tested_all, tested_at, all_hold, here, later, leaving_done}
 use Rattle.matrix.specs.Columns.{Lined}
 use Rattle.matrix.proofs.Columns.{column_within}
 use Rattle.pivots.specs.Words.{words_of}
@@ -27,35 +18,35 @@ module _ (n count : ℕ) (a : List Float) (words : List ℕ) (b : List Float) (r
   abbrev answered : Answer
   answered = tested (tray_tests n count a words b runs answers) Done
 
-  pub many : 1024 < count → OutOfRange ≡ answered
+  pub many : 1024 < count → Err OutOfRange ≡ answered
   many h = sym (tested_at (tray_tests n count a words b runs answers) Done (here (lt-leb count 1024 h) refl))
 
   module _ (few : count ≤ 1024) where
-    pub large : 64 < n → OutOfRange ≡ answered
+    pub large : 64 < n → Err OutOfRange ≡ answered
     large h = sym (tested_at (tray_tests n count a words b runs answers) Done (later (le-leb count 1024 few) (here (lt-leb n 64 h) refl)))
 
     module _ (small : n ≤ 64) where
-      pub matrices_wrong : (length a ≡ n * n * count → ⊥) → MatrixLength ≡ answered
+      pub matrices_wrong : (length a ≡ n * n * count → ⊥) → Err MatrixLength ≡ answered
       matrices_wrong h =
           sym (tested_at (tray_tests n count a words b runs answers) Done
           (later (le-leb count 1024 few) (later (le-leb n 64 small) (here (ne_eqb (length a) (n * n * count) h) refl))))
 
       module _ (matrices : length a ≡ n * n * count) where
-        pub records_wrong : (length words ≡ words_of n * count → ⊥) → SliceLength ≡ answered
+        pub records_wrong : (length words ≡ words_of n * count → ⊥) → Err SliceLength ≡ answered
         records_wrong h =
             sym (tested_at (tray_tests n count a words b runs answers) Done
             (later (le-leb count 1024 few) (later (le-leb n 64 small) (later (eq-eqb (length a) (n * n * count) matrices)
             (here (ne_eqb (length words) (words_of n * count) h) refl)))))
 
         module _ (records : length words ≡ words_of n * count) where
-          pub sides_wrong : (length b ≡ n * count → ⊥) → SliceLength ≡ answered
+          pub sides_wrong : (length b ≡ n * count → ⊥) → Err SliceLength ≡ answered
           sides_wrong h =
               sym (tested_at (tray_tests n count a words b runs answers) Done
               (later (le-leb count 1024 few) (later (le-leb n 64 small) (later (eq-eqb (length a) (n * n * count) matrices)
               (later (eq-eqb (length words) (words_of n * count) records) (here (ne_eqb (length b) (n * count) h) refl))))))
 
           module _ (sides : length b ≡ n * count) where
-            pub runs_wrong : (length runs ≡ count → ⊥) → SliceLength ≡ answered
+            pub runs_wrong : (length runs ≡ count → ⊥) → Err SliceLength ≡ answered
             runs_wrong h =
                 sym (tested_at (tray_tests n count a words b runs answers) Done
                 (later (le-leb count 1024 few) (later (le-leb n 64 small) (later (eq-eqb (length a) (n * n * count) matrices)
@@ -63,7 +54,7 @@ module _ (n count : ℕ) (a : List Float) (words : List ℕ) (b : List Float) (r
                 (here (ne_eqb (length runs) count h) refl)))))))
 
             module _ (numbered : length runs ≡ count) where
-              pub answers_wrong : (length answers ≡ count → ⊥) → SliceLength ≡ answered
+              pub answers_wrong : (length answers ≡ count → ⊥) → Err SliceLength ≡ answered
               answers_wrong h =
                   sym (tested_at (tray_tests n count a words b runs answers) Done
                   (later (le-leb count 1024 few) (later (le-leb n 64 small) (later (eq-eqb (length a) (n * n * count) matrices)
@@ -86,12 +77,9 @@ module _ (n count : ℕ) (a : List Float) (words : List ℕ) (b : List Float) (r
                     ),
                   ))
 
-  pub tests_refuse : Refusals (tray_tests n count a words b runs answers)
-  tests_refuse = (refl, (refl, (refl, (refl, (refl, (refl, (refl, tt)))))))
-
   pub trayed : {r : Answer} → r ≡ answered → is_done r ≡ true → Trayed n count a words b runs answers
   trayed is done =
-      let held = (all_hold (tray_tests n count a words b runs answers) Done tests_refuse (ap is_done (sym is) ∙ done)).0 in
+      let held = (all_hold (tray_tests n count a words b runs answers) Done (ap is_done (sym is) ∙ done)).0 in
       let few : count ≤ 1024 = leb-true count 1024 held.0 in
       record {
         order = leb-true n 64 held.1.0;
@@ -102,25 +90,20 @@ module _ (n count : ℕ) (a : List Float) (words : List ℕ) (b : List Float) (r
         answered = eqb-true (length answers) count held.1.1.1.1.1.1.0;
       }
 
-  -- the count by the list of run numbers
-  pub trayed_runs : {r : Answer} → r ≡ answered → is_done r ≡ true → Trayed n (length runs) a words b runs answers
-  trayed_runs is done =
-      let t = trayed is done in
-      subst (λ (count : ℕ). Trayed n count a words b runs answers) (sym t.numbered) t
+  module _ (passed : Done ≡ answered) where
+    -- the count by the list of run numbers
+    pub trayed_runs : Trayed n (length runs) a words b runs answers
+    trayed_runs = let t = trayed passed refl in subst (λ (count : ℕ). Trayed n count a words b runs answers) (sym t.numbered) t
 
-  pub refused_untouched : {r : Answer} → r ≡ answered → is_done r ≡ false → TraySolved n count a words b runs answers r a words b answers
-  refused_untouched is refused = record { answer = is; left = leaving_refused refused (record { matrices = refl; records = refl; sides = refl; answered = refl }) }
-
-  pub done_solved
-      : {r : Answer} {a' : List Float} {words' : List ℕ} {b' : List Float} {answers' : List ℕ}
-      → r ≡ answered → is_done r ≡ true
-      → EachSolved n (length runs) a words b runs answers a' words' b' answers'
-      → TraySolved n count a words b runs answers r a' words' b' answers'
-  done_solved {a' = a'} {words'} {b'} {answers'} is done each =
-      record {
-        answer = is;
-        left = leaving_done done (subst (λ (count : ℕ). EachSolved n count a words b runs answers a' words' b' answers') (trayed is done).numbered each);
-      }
+    pub done_solved
+        : {a' : List Float} {words' : List ℕ} {b' : List Float} {answers' : List ℕ}
+        → EachSolved n (length runs) a words b runs answers a' words' b' answers'
+        → TraySolved n count a words b runs answers Done a' words' b' answers'
+    done_solved {a'} {words'} {b'} {answers'} each =
+        record {
+          answer = passed;
+          left = leaving_done refl (subst (λ (count : ℕ). EachSolved n count a words b runs answers a' words' b' answers') (trayed passed refl).numbered each);
+        }
 
 -- an item's part of `width` numbers ends below 2²³
 pub part_small : {A : Type 0} {width count : ℕ} {l : List A} → width ≤ 4096 → Lined width count l → (t : ℕ) → t < count → t * width + width ≤ 4194304
@@ -130,6 +113,3 @@ part_small {width = width} {count} narrow lined t below =
 
 pub square_small : (n : ℕ) → n ≤ 64 → n * n ≤ 4096
 square_small n small = mul-le-mul {n₁ = n} {m₁ = n} {n₂ = 64} {m₂ = 64} small small
-
-pub all_small : (width count : ℕ) → width ≤ 4096 → count ≤ 1024 → width * count ≤ 4194304
-all_small width count narrow few = mul-le-mul {n₁ = width} {m₁ = count} {n₂ = 4096} {m₂ = 1024} narrow few

@@ -1,16 +1,11 @@
 -- An item of three rows, from what its steps come to. Assumes nothing.
---     record_put, side_listed, side_put   its record and its side, number by number
---     first_chosen                        which pivot the first step takes
---     three_factored                      the factor's promise
---     three_solved                        the item's
-use mathlib.Core.Bool.{Bool, true, false}
-use mathlib.Core.List.{List, [], ◌∷◌}
-use mathlib.Core.Path.{◌≡◌, refl, ap, ◌∙◌}
-use Prim.Native.Nat.{ℕ}
-use native.Mathlib.Omega.{arith}
-use lib.Ieee.{Float, nan, lt}
-use lib.ListN.{length, get_or, set}
-use Rattle.answer.specs.declared.Answer.TheVariants.{Done}
+--     side_put         its side, number by number
+--     first_chosen     which pivot the first step takes
+--     three_factored   the factor's promise
+--     three_solved     the item's
+use Rattle.std.proofs.Common.{Bool, true, false, List, [], ◌∷◌, ◌≡◌, refl, ap, ◌∙◌, ℕ, arith, Float, length, get_or, set}
+use lib.Ieee.{nan, lt}
+use Rattle.answer.specs.Answer.{Done}
 use Rattle.leaf.specs.Abs.{abs_of}
 use Rattle.leaf.specs.Maximum.{maximum_of}
 use Rattle.matrix.specs.Grid.{load}
@@ -37,25 +32,13 @@ use Rattle.lblt_tray.specs.inner.Engine.{Item}
 use Rattle.lblt_tray.specs.inner.Three.{with_lower, record_by, top_of, ending_in, Ends}
 use Rattle.lblt_tray.proofs.Own.{item_unmarked}
 
--- what holds of three numbers, of eight words, of nine numbers, each by name, holds of every list of that length
+-- what holds of three numbers, of nine numbers, each by name, holds of every list of that length
 of_three : (P : List Float → Type 0) → ((c d e : Float) → P (c ∷ d ∷ e ∷ [])) → (l : List Float) → length l ≡ 3 → P l
 of_three P all (c ∷ d ∷ e ∷ []) long = all c d e
 of_three P all [] long = absurd (omega arith)
 of_three P all (c ∷ []) long = absurd (omega arith)
 of_three P all (c ∷ d ∷ []) long = absurd (omega arith)
 of_three P all (c ∷ d ∷ e ∷ f ∷ l) long = absurd (omega arith)
-
-of_eight : (P : List ℕ → Type 0) → ((c d e f g h i j : ℕ) → P (c ∷ d ∷ e ∷ f ∷ g ∷ h ∷ i ∷ j ∷ [])) → (l : List ℕ) → length l ≡ 8 → P l
-of_eight P all (c ∷ d ∷ e ∷ f ∷ g ∷ h ∷ i ∷ j ∷ []) long = all c d e f g h i j
-of_eight P all [] long = absurd (omega arith)
-of_eight P all (c ∷ []) long = absurd (omega arith)
-of_eight P all (c ∷ d ∷ []) long = absurd (omega arith)
-of_eight P all (c ∷ d ∷ e ∷ []) long = absurd (omega arith)
-of_eight P all (c ∷ d ∷ e ∷ f ∷ []) long = absurd (omega arith)
-of_eight P all (c ∷ d ∷ e ∷ f ∷ g ∷ []) long = absurd (omega arith)
-of_eight P all (c ∷ d ∷ e ∷ f ∷ g ∷ h ∷ []) long = absurd (omega arith)
-of_eight P all (c ∷ d ∷ e ∷ f ∷ g ∷ h ∷ i ∷ []) long = absurd (omega arith)
-of_eight P all (c ∷ d ∷ e ∷ f ∷ g ∷ h ∷ i ∷ j ∷ k ∷ l) long = absurd (omega arith)
 
 of_nine : (P : List Float → Type 0) → ((c d e f g h i j k : Float) → P (c ∷ d ∷ e ∷ f ∷ g ∷ h ∷ i ∷ j ∷ k ∷ [])) → (l : List Float) → length l ≡ 9 → P l
 of_nine P all (c ∷ d ∷ e ∷ f ∷ g ∷ h ∷ i ∷ j ∷ k ∷ []) long = all c d e f g h i j k
@@ -71,17 +54,6 @@ of_nine P all (c ∷ d ∷ e ∷ f ∷ g ∷ h ∷ i ∷ j ∷ []) long = absurd
 of_nine P all (c ∷ d ∷ e ∷ f ∷ g ∷ h ∷ i ∷ j ∷ k ∷ m ∷ l) long = absurd (omega arith)
 
 -- ---- the slices
-
-pub record_put
-    : (words : List ℕ) (index0 size0 index1 size1 size2 run : ℕ) → length words ≡ 8
-    → set (set (set (set (set (set (set (set words 0 index0) 1 size0) 2 index1) 3 size1) 4 2) 5 size2) 6 0) 7 run ≡ record_by index0 size0 index1 size1 size2 run
-record_put words index0 size0 index1 size1 size2 run =
-    of_eight
-    (λ l. set (set (set (set (set (set (set (set l 0 index0) 1 size0) 2 index1) 3 size1) 4 2) 5 size2) 6 0) 7 run ≡ record_by index0 size0 index1 size1 size2 run)
-    (λ c d e f g h i j. refl) words
-
-pub side_listed : (b : List Float) → length b ≡ 3 → b ≡ get_or b 0 nan ∷ get_or b 1 nan ∷ get_or b 2 nan ∷ []
-side_listed = of_three (λ l. l ≡ get_or l 0 nan ∷ get_or l 1 nan ∷ get_or l 2 nan ∷ []) (λ c d e. refl)
 
 pub side_put : (b : List Float) (s : Three) → length b ≡ 3 → set (set (set b 0 s.x) 1 s.y) 2 s.z ≡ three_of s
 side_put b s = of_three (λ l. set (set (set l 0 s.x) 1 s.y) 2 s.z ≡ three_of s) (λ c d e. refl) b

@@ -1,8 +1,8 @@
 -- What `tray` answers and leaves behind, refused or not. A tray holds `count` items of order n, laid end to end: in a their matrices, in `words` their records,
 -- in b their right-hand sides, in `runs` their run numbers, in `answers` their answers.
 use Rattle.std.specs.Prelude.{List, [], ◌∷◌, ◌≡◌, ℕ, ◌*◌, ◌<◌, leb, eqb, Float, length, get_or}
-use Rattle.answer.specs.declared.Answer.{Answer}
-use Rattle.answer.specs.declared.Answer.TheVariants.{Done, OutOfRange, MatrixLength, SliceLength}
+use Rattle.answer.specs.declared.Refusal.TheVariants.{OutOfRange, MatrixLength, SliceLength}
+use Rattle.answer.specs.Answer.{Answer, Done}
 use Rattle.answer.specs.Number.{number_of}
 use Rattle.answer.specs.Refusals.{Test, ◌otherwise◌, tested, Leaving}
 use Rattle.matrix.specs.Columns.{column}

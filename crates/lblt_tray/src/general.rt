@@ -2,7 +2,7 @@
 ghost use Rattle.lblt_tray.specs.Tray.{ItemSolved};
 ghost use Rattle.lblt_tray.specs.inner.Engine.{Item};
 
-use answer::Answer;
+use answer::Refusal;
 use lblt_solve_one::solve_column;
 use matrix::Layout;
 
@@ -14,7 +14,7 @@ pub fn item(a: &mut [f64], words: &mut [u32], b: &mut [f64], n: usize, run: u32)
     let y = Layout::full(n);
     let mark = lblt::fill(y, a, words, run);
     if mark != 0 {
-        return Answer::ZeroMark(mark - 1).number();
+        return Refusal::ZeroMark(mark - 1).number();
     }
     solve_column(y, a, words, b);
     0

@@ -5,12 +5,12 @@ mod general;
 mod three;
 
 ghost use Rattle.std.specs.Prelude.{◌≡◌, ◌<◌, length};
-ghost use Rattle.answer.specs.declared.Answer.TheVariants.{Done};
+ghost use Rattle.answer.specs.Answer.{Done};
 ghost use Rattle.answer.specs.Refusals.{tested};
 ghost use Rattle.lblt_tray.specs.Tray.{tray_tests, ItemSolved, EachSolved, TraySolved};
 ghost use Rattle.lblt_tray.specs.inner.Engine.{Item, Trayed, OneSolved};
 
-use answer::Answer;
+use answer::{Answer, Refusal};
 
 // The count and the order, the matrices, then the other slices.
 fn check(
@@ -25,27 +25,27 @@ fn check(
     ensures { result ≡ tested (tray_tests n count a.now words.now b.now runs.now answers.now) Done }
 {
     if 1024 < count {
-        return Answer::OutOfRange;
+        return Err(Refusal::OutOfRange);
     }
     if 64 < n {
-        return Answer::OutOfRange;
+        return Err(Refusal::OutOfRange);
     }
     if a.len() != n * n * count {
-        return Answer::MatrixLength;
+        return Err(Refusal::MatrixLength);
     }
     if words.len() != pivots::words(n) * count {
-        return Answer::SliceLength;
+        return Err(Refusal::SliceLength);
     }
     if b.len() != n * count {
-        return Answer::SliceLength;
+        return Err(Refusal::SliceLength);
     }
     if runs.len() != count {
-        return Answer::SliceLength;
+        return Err(Refusal::SliceLength);
     }
     if answers.len() != count {
-        return Answer::SliceLength;
+        return Err(Refusal::SliceLength);
     }
-    Answer::Done
+    Ok(())
 }
 
 // One item: the number of its solve's answer comes back.
@@ -121,10 +121,7 @@ pub fn tray(
 ) -> Answer
     ensures { TraySolved n count a.old words.old b.old runs.now answers.old result a.new words.new b.new answers.new }
 {
-    let answer = check(a, words, b, runs, answers, n, count);
-    if answer.code() != 0 {
-        return answer;
-    }
+    check(a, words, b, runs, answers, n, count)?;
     each(a, words, b, runs, answers, n);
-    answer
+    Ok(())
 }

@@ -1,5 +1,5 @@
 // The code that the teaching call answers for a whole unit matrix.
-use answer::Answer;
+use answer::{Answer, Refusal};
 
 pub fn of_order_64() -> u64 {
     let mut a = [0.0; 4096];

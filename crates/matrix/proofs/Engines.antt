@@ -13,9 +13,7 @@ use lib.ListN.{length, get_or}
 use lib.Seq.{ext_get_or}
 use lib.Ieee.{Float, nan}
 use borrow.Author.Tests.{eq-eqb}
-use Rattle.answer.specs.declared.Answer.{Answer}
-use Rattle.answer.specs.declared.Answer.TheVariants.{Done}
-use Rattle.answer.specs.Number.{is_done}
+use Rattle.answer.specs.Answer.{Answer, Done, is_done}
 use Rattle.answer.proofs.Done.{done_or_refused}
 use Rattle.answer.specs.Refusals.{tested}
 use Rattle.matrix.specs.declared.Layout.{Layout}

@@ -1,4 +1,5 @@
 -- Slices that fit their layout: what the tests of size tell, and what steps leave of it. Assumes nothing.
+use Rattle.std.specs.Prelude.{Result}
 use mathlib.Core.Path.{◌≡◌, refl, sym, ◌∙◌, ap}
 use mathlib.Core.Bool.{true}
 use mathlib.Core.List.{List, ◌++◌}
@@ -7,12 +8,10 @@ use native.Mathlib.Omega.{arith}
 use lib.ListN.{length}
 use lib.Ieee.{Float}
 use borrow.Author.Tests.{leb-true, le-leb, eqb-true, eq-eqb}
-use Rattle.answer.specs.declared.Answer.{Answer}
-use Rattle.answer.specs.declared.Answer.TheVariants.{Done}
-use Rattle.answer.specs.Number.{code_of, is_done}
-use Rattle.answer.proofs.Done.{code_done}
+use Rattle.answer.specs.declared.Refusal.{Refusal}
+use Rattle.answer.specs.Answer.{Done, is_done}
 use Rattle.answer.specs.Refusals.{Test, tested}
-use Rattle.answer.proofs.Tested.{AllHold, Refusals, tested_all, tested_join, all_hold}
+use Rattle.answer.proofs.Tested.{AllHold, tested_all, tested_join, all_hold}
 use Rattle.answer.proofs.Within.{Within, within_tested}
 use Rattle.matrix.specs.declared.Layout.{Layout}
 use Rattle.matrix.specs.Matrix.{Matrix}
@@ -24,9 +23,6 @@ use Rattle.matrix.proofs.Places.{lower_fair}
 -- ---- the tests
 
 module _ (y : Layout) (m len : ℕ) where
-  pub sizes_refuse : Refusals (size_tests y m len)
-  sizes_refuse = (refl, (refl, (refl, (refl, (refl, (refl, tt))))))
-
   fits_hold : Fits y m len → AllHold (size_tests y m len)
   fits_hold f =
       let ordered : y.order ≤ y.room = f.roomy.ordered in
@@ -46,25 +42,25 @@ module _ (y : Layout) (m len : ℕ) where
     long = eqb-true len (size_of y) h.1.1.1.1.1.0;
   }
 
-  pub fits_pass : Fits y m len → (r : Answer) → tested (size_tests y m len) r ≡ r
+  pub fits_pass : {A : Type 0} → Fits y m len → (r : Result A Refusal) → tested (size_tests y m len) r ≡ r
   fits_pass f r = tested_all (size_tests y m len) r (fits_hold f)
 
-  pub fits_then : Fits y m len → (more : List Test) (r : Answer) → tested (size_tests y m len ++ more) r ≡ tested more r
+  pub fits_then : {A : Type 0} → Fits y m len → (more : List Test) (r : Result A Refusal) → tested (size_tests y m len ++ more) r ≡ tested more r
   fits_then f more r = tested_join (size_tests y m len) more r ∙ fits_pass f (tested more r)
 
   -- what is done fits
-  pub done_fits : (r : Answer) → is_done (tested (size_tests y m len) r) ≡ true → Fits y m len
-  done_fits r done = hold_fits (all_hold (size_tests y m len) r sizes_refuse done).0
+  pub done_fits : {A : Type 0} (r : Result A Refusal) → is_done (tested (size_tests y m len) r) ≡ true → Fits y m len
+  done_fits r done = hold_fits (all_hold (size_tests y m len) r done).0
 
   -- the place of what comes after the tests is at most the order, so the answer's is at most 1,024
-  pub sizes_within : (r : Answer) → Within y.order r → Within 1024 (tested (size_tests y m len) r)
+  pub sizes_within : {A : Type 0} (r : Result A Refusal) → Within y.order r → Within 1024 (tested (size_tests y m len) r)
   sizes_within r last =
       within_tested 1024 (size_tests y m len) r (omega arith, (omega arith, (omega arith, (omega arith, (omega arith, (omega arith, tt))))))
       (λ h. let small : y.order ≤ 1024 = leb-true y.order 1024 h.1.0 in omega (arith, last, small))
 
   -- what a check let through fits
-  pub code_fits : {x : Answer} {code : ℕ} → x ≡ tested (size_tests y m len) Done → code ≡ code_of x → code ≡ 0 → Fits y m len
-  code_fits {x} is answered zero = done_fits Done (ap is_done (sym is) ∙ code_done x answered zero)
+  pub passed_fits : tested (size_tests y m len) Done ≡ Done → Fits y m len
+  passed_fits passed = done_fits Done (ap is_done passed)
 
 -- ---- slices of a layout
 

@@ -1,7 +1,7 @@
 -- Engines that speak of the grid alone: what comes back of a call on a slice, and the matrix that it leaves, are told by the answer of the
 -- tests of size, by the order and by the matrix. Where an entry stands they are not told.
 use Rattle.std.specs.Prelude.{◌≡◌, List, ℕ, ◌*◌, length, Float}
-use Rattle.answer.specs.declared.Answer.{Answer}
+use Rattle.answer.specs.Answer.{Answer}
 use Rattle.answer.specs.Refusals.{Leaving}
 use Rattle.matrix.specs.declared.Layout.{Layout}
 use Rattle.matrix.specs.Matrix.{Matrix}

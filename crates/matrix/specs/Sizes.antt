@@ -1,7 +1,7 @@
 -- The refusals by size of a call on a slice of `len` numbers, which is to be one of the layout y; the first m rows came earlier.
 use Rattle.std.specs.Prelude.{◌≡◌, List, [], ◌∷◌, ℕ, ◌≤◌, leb, eqb, length, Float}
-use Rattle.answer.specs.declared.Answer.{Answer}
-use Rattle.answer.specs.declared.Answer.TheVariants.{Done, OutOfRange, OrderAboveRoom, MatrixLength}
+use Rattle.answer.specs.declared.Refusal.TheVariants.{OutOfRange, OrderAboveRoom, MatrixLength}
+use Rattle.answer.specs.Answer.{Answer, Done}
 use Rattle.answer.specs.Refusals.{Test, ◌otherwise◌, tested}
 use Rattle.matrix.specs.declared.Layout.{Layout}
 use Rattle.matrix.specs.Layouts.{Roomy, size_of}

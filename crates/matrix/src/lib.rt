@@ -8,9 +8,9 @@ ghost use Rattle.matrix.specs.Layouts.{full, in_room, packed, Roomy, entries_of,
 ghost use Rattle.matrix.specs.inner.Starts.{left_out};
 ghost use Rattle.matrix.specs.Sizes.{size_tests};
 ghost use Rattle.answer.specs.Refusals.{tested};
-ghost use Rattle.answer.specs.declared.Answer.TheVariants.{Done};
+ghost use Rattle.answer.specs.Answer.{Done};
 
-use answer::Answer;
+use answer::{Answer, Refusal};
 
 // Where the lower triangle of a matrix stands: `order` rows and columns in a room of room·room numbers, or, packed, of room·(room + 1)/2.
 #[derive(Clone, Copy)]
@@ -90,24 +90,24 @@ impl Layout {
         ensures { result ≡ tested (size_tests self earlier len) Done }
     {
         if 1024 < self.room {
-            return Answer::OutOfRange;
+            return Err(Refusal::OutOfRange);
         }
         if 1024 < self.order {
-            return Answer::OutOfRange;
+            return Err(Refusal::OutOfRange);
         }
         if 1024 < earlier {
-            return Answer::OutOfRange;
+            return Err(Refusal::OutOfRange);
         }
         if self.room < self.order {
-            return Answer::OrderAboveRoom;
+            return Err(Refusal::OrderAboveRoom);
         }
         if self.order < earlier {
-            return Answer::OrderAboveRoom;
+            return Err(Refusal::OrderAboveRoom);
         }
         if len != self.length() {
-            return Answer::MatrixLength;
+            return Err(Refusal::MatrixLength);
         }
-        Answer::Done
+        Ok(())
     }
 
     // Where column j starts: entry (i, j) stands at i + start(j).

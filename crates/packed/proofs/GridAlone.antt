@@ -1,31 +1,30 @@
 -- The promises of the calls that both layouts have speak of the grid alone: each is what an engine does. So the layout theorem is true of them,
 -- `unpacked_alike`: unpacked, what a packed call gives and leaves is what the full one does.
 -- Assumes nothing.
+use Rattle.std.specs.Prelude.{Result, Ok, Err, IsOkAnd}
 use mathlib.Core.Path.{◌≡◌, refl, sym, ◌∙◌, ap, ap₂, subst}
-use mathlib.Core.Bool.{true, false, cond}
+use mathlib.Core.Bool.{true, false, cond, true≢false}
 use mathlib.Core.List.{List, [], ◌∷◌, ◌++◌}
 use Prim.Native.Nat.{ℕ, ◌*◌}
 use lib.Dec.{leb, eqb}
 use lib.ListN.{length}
 use lib.Ieee.{Float}
-use Rattle.answer.specs.declared.Answer.{Answer}
-use Rattle.answer.specs.declared.Answer.TheVariants.{Done, OutOfRange, SliceLength}
-use Rattle.answer.specs.declared.Valued.{Valued}
-use Rattle.answer.specs.Number.{is_done}
+use Rattle.answer.specs.declared.Refusal.{Refusal}
+use Rattle.answer.specs.declared.Refusal.TheVariants.{OutOfRange, SliceLength}
+use Rattle.answer.specs.Answer.{Answer, Done, is_done}
 use Rattle.answer.specs.Refusals.{Test, ◌otherwise◌, tested}
 use Rattle.answer.proofs.Done.{done_or_refused}
-use Rattle.answer.proofs.Tested.{tested_all, tested_fixed, tested_join, all_hold}
+use Rattle.answer.proofs.Tested.{tested_join, tested_passed, tested_refused}
 use Rattle.answer.proofs.Tests.{either}
 use Rattle.matrix.specs.declared.Layout.{Layout}
 use Rattle.matrix.specs.Matrix.{Matrix}
 use Rattle.matrix.specs.Grid.{load, mask, Holds}
 use Rattle.matrix.specs.Layouts.{full, lower}
-use Rattle.matrix.specs.Rounded.{plus_zero}
 use Rattle.matrix.specs.Columns.{each_column}
 use Rattle.matrix.specs.Sizes.{size_tests, sizes_of}
 use Rattle.matrix.specs.Engines.{Engine, Works, GridAlone}
 use Rattle.matrix.proofs.Grids.{holds_none}
-use Rattle.matrix.proofs.Sizes.{sizes_refuse, done_fits, laid_fits}
+use Rattle.matrix.proofs.Sizes.{done_fits, laid_fits}
 use Rattle.matrix.proofs.Engines.{works_read}
 use Rattle.pivots.specs.Words.{words_of}
 use Rattle.lblt.specs.Factor.{final_state, recorded, Factored}
@@ -38,26 +37,34 @@ use Rattle.cholesky.specs.Crate.{crate_rule}
 use Rattle.cholesky.specs.Promise.{Extended}
 use Rattle.cholesky.specs.Solve.{solve_sides, CholeskySolved}
 use Rattle.cholesky_solve_one.specs.Triangles.{solve_triangles}
-use Rattle.twins.specs.declared.Twin.{Twin}
-use Rattle.twins.specs.declared.Twin.TheVariants.{Refused}
-use Rattle.twins.specs.First.{FirstTwinOn}
+use Rattle.twins.specs.First.{Found, First, FirstTwinOn}
 use Rattle.twins.proofs.Exists.{some_first}
 use Rattle.twins.proofs.Unique.{first_unique}
 
 -- ---- tests after those of size
 
 -- r where the sizes are passed, else their refusal
-abbrev after : Answer → Answer → Answer
-after sizes r = cond (is_done sizes) r sizes
+abbrev after : {A : Type 0} → Answer → Result A Refusal → Result A Refusal
+after (Ok x) r = r
+after (Err fault) r = Err fault
 
-module _ (y : Layout) (m len : ℕ) where
-  sizes_after : (r : Answer) → tested (size_tests y m len) r ≡ after (tested (size_tests y m len) Done) r
-  sizes_after r =
-      done_or_refused (tested (size_tests y m len) Done)
-      (λ done. tested_all (size_tests y m len) r (all_hold (size_tests y m len) Done (sizes_refuse y m len) done).0 ∙ rw done refl)
-      (λ refused. tested_fixed (size_tests y m len) r refused ∙ rw refused refl)
+after_done : {A : Type 0} (sizes : Answer) (r : Result A Refusal) → is_done sizes ≡ true → after sizes r ≡ r
+after_done (Ok x) r done = refl
+after_done (Err fault) r done = absurd (true≢false (sym done))
 
-  then_after : (more : List Test) (r : Answer) → tested (size_tests y m len ++ more) r ≡ after (tested (size_tests y m len) Done) (tested more r)
+after_refused : {A : Type 0} (sizes : Answer) (r : Result A Refusal) → is_done sizes ≡ false → is_done (after sizes r) ≡ false
+after_refused (Ok x) r refused = absurd (true≢false refused)
+after_refused (Err fault) r refused = refl
+
+module _ (y : Layout) (m len : ℕ) {A : Type 0} where
+  sizes_after : (r : Result A Refusal) → tested (size_tests y m len) r ≡ after (tested (size_tests y m len) Done) r
+  sizes_after r = by (tested (size_tests y m len) Done) refl
+    where
+      by : (sizes : Answer) → tested (size_tests y m len) Done ≡ sizes → tested (size_tests y m len) r ≡ after sizes r
+      by (Ok tt) passed = tested_passed (size_tests y m len) r passed
+      by (Err fault) refused = tested_refused (size_tests y m len) r refused
+
+  then_after : (more : List Test) (r : Result A Refusal) → tested (size_tests y m len ++ more) r ≡ after (tested (size_tests y m len) Done) (tested more r)
   then_after more r = tested_join (size_tests y m len) more r ∙ sizes_after (tested more r)
 
 -- ---- a call that only reads the slice
@@ -102,7 +109,7 @@ module _ (run : ℕ) (words : List ℕ) where
               (λ refused. (f.left.refused refused).pivots ∙ rw (ap is_done (sym answered) ∙ refused) refl)
 
           passed : is_done (sizes_of y 0 a) ≡ true → r ≡ tested (record_test y.order) Done
-          passed done = answered ∙ rw done refl
+          passed done = answered ∙ after_done (sizes_of y 0 a) _ done
 
           matrix_left : is_done (sizes_of y 0 a) ≡ true → Holds (lower y) a a' (cond (is_done (tested (record_test y.order) Done)) (final_state y.order (load (lower y) a) words).matrix (load (lower y) a))
           matrix_left fits =
@@ -111,28 +118,17 @@ module _ (run : ℕ) (words : List ℕ) where
               (λ refused. subst (λ (l : List Float). Holds (lower y) a l (load (lower y) a)) (sym (f.left.refused (ap is_done (passed fits) ∙ refused)).matrix) (holds_none (laid_fits {l = a} (done_fits y 0 (length a) Done fits)).sound))
 
           untouched : is_done (sizes_of y 0 a) ≡ false → a' ≡ a
-          untouched refused = (f.left.refused (ap is_done answered ∙ rw refused refused)).matrix
+          untouched refused = (f.left.refused (ap is_done answered ∙ after_refused (sizes_of y 0 a) _ refused)).matrix
 
--- ---- LBLT's determinant: the answer and the value come back
+-- ---- LBLT's determinant: the answer comes back, with the value
 
 module _ (run : ℕ) (words : List ℕ) where
-  abbrev read_answer : Answer → ℕ → Answer
-  read_answer sizes n = after sizes (tested (word_tests n run words) Done)
-
-  lblt_determinant : Answer → ℕ → Matrix → Valued
-  lblt_determinant sizes n M = record { answer = read_answer sizes n; value = cond (is_done (read_answer sizes n)) (determinant_of n M words) plus_zero }
+  lblt_determinant : Answer → ℕ → Matrix → Result Float Refusal
+  lblt_determinant sizes n M = after sizes (tested (word_tests n run words) (Ok (determinant_of n M words)))
 
   pub lblt_determinant_alone : GridAlone 0 (λ y a r a'. LbltDetermined y run a words r × (a' ≡ a))
   unfolding lblt_determinant
-  lblt_determinant_alone = reading lblt_determinant (λ y a r d. is y a r d)
-    where
-      is : (y : Layout) (a : List Float) (r : Valued) → LbltDetermined y run a words r → r ≡ lblt_determinant (sizes_of y 0 a) y.order (load (lower y) a)
-      is y a r d =
-          ap₂ (λ (x : Answer) (v : Float). record { answer = x; value = v }) answered
-          (d.value ∙ ap (λ (x : Answer). cond (is_done x) (determinant_of y.order (load (lower y) a) words) plus_zero) answered)
-        where
-          answered : r.answer ≡ read_answer (sizes_of y 0 a) y.order
-          answered = d.answer ∙ then_after y 0 (length a) (word_tests y.order run words) Done
+  lblt_determinant_alone = reading lblt_determinant (λ y a r d. d.answer ∙ then_after y 0 (length a) (word_tests y.order run words) (Ok (determinant_of y.order (load (lower y) a) words)))
 
 -- ---- LBLT's solve: the answer and the right-hand sides come back
 
@@ -213,15 +209,17 @@ module _ (columns : ℕ) (b : List Float) where
 -- ---- the search for twins
 
 module _ (m : ℕ) where
-  first_twin : Answer → ℕ → Matrix → Twin
-  first_twin sizes n M = cond (is_done sizes) (some_first n M m).0 (Refused sizes)
+  first_twin : Answer → ℕ → Matrix → Found
+  first_twin sizes n M = after sizes (Ok (some_first n M m).0)
 
-  pub first_twin_alone : GridAlone m (λ y a t a'. FirstTwinOn y m a t × (a' ≡ a))
+  found_is : (n : ℕ) (M : Matrix) (r : Found) → IsOkAnd r (First n M m) → r ≡ Ok (some_first n M m).0
+  found_is n M (Ok pair) first = ap Ok (first_unique first (some_first n M m).1)
+  found_is n M (Err fault) first = absurd first
+
+  pub first_twin_alone : GridAlone m (λ y a r a'. FirstTwinOn y m a r × (a' ≡ a))
   unfolding first_twin
-  first_twin_alone = reading first_twin (λ y a t f. is y a t f)
+  first_twin_alone = reading first_twin (λ y a r f. by y a r f (sizes_of y m a) refl)
     where
-      is : (y : Layout) (a : List Float) (t : Twin) → FirstTwinOn y m a t → t ≡ first_twin (sizes_of y m a) y.order (load (lower y) a)
-      is y a t f =
-          done_or_refused (sizes_of y m a)
-          (λ done. first_unique (f.found done) (some_first y.order (load (lower y) a) m).1 ∙ rw done refl)
-          (λ refused. f.refused refused ∙ rw refused refl)
+      by : (y : Layout) (a : List Float) (r : Found) → FirstTwinOn y m a r → (sizes : Answer) → sizes_of y m a ≡ sizes → r ≡ after sizes (Ok (some_first y.order (load (lower y) a) m).0)
+      by y a r f (Ok tt) passed = found_is y.order (load (lower y) a) r (f.found (ap is_done passed))
+      by y a r f (Err fault) refused = f.refused refused

@@ -1,17 +1,17 @@
 -- The promise of the further batch: refused, grown, and unique. Assumes nothing.
+use Rattle.std.specs.Prelude.{Err}
 use mathlib.Core.Path.{◌≡◌, refl, sym, ◌∙◌, ap, ap₂}
-use mathlib.Core.Bool.{true, false}
+use mathlib.Core.Bool.{true}
 use mathlib.Core.List.{List}
 use Prim.Native.Nat.{ℕ, ◌-◌, ◌≤◌}
 use native.Mathlib.Omega.{arith}
 use lib.ListN.{length}
 use lib.Ieee.{Float}
 use borrow.Author.Tests.{le-leb, leb-true, eq-eqb, eqb-true}
-use Rattle.answer.specs.declared.Answer.{Answer}
-use Rattle.answer.specs.declared.Answer.TheVariants.{Done}
-use Rattle.answer.specs.Number.{is_done}
+use Rattle.answer.specs.declared.Refusal.{Refusal}
+use Rattle.answer.specs.Answer.{Answer, Done, is_done}
 use Rattle.answer.specs.Refusals.{tested}
-use Rattle.answer.proofs.Tested.{AllHold, Fails, Refusals, tested_all, tested_at, all_hold, leaving_done, leaving_refused, leaving_alike}
+use Rattle.answer.proofs.Tested.{AllHold, Fails, tested_all, tested_at, all_hold, leaving_done, leaving_refused, leaving_alike}
 use Rattle.matrix.specs.Matrix.{Matrix}
 use Rattle.matrix.specs.Grid.{load, mask, Holds}
 use Rattle.matrix.specs.Layouts.{packed, entries_of, size_of, lower}
@@ -32,9 +32,6 @@ unfolding row_start
 rows_long m n all before is = is ∙ ap₂ ◌-◌ all before
 
 module _ (m n : ℕ) (old rows fresh : List Float) where
-  grow_refuses : Refusals (grow_tests m n (length old) (length rows) (length fresh))
-  grow_refuses = (refl, (refl, (refl, (refl, (refl, (refl, tt))))))
-
   parts_hold : Parts m n old rows fresh → AllHold (grow_tests m n (length old) (length rows) (length fresh))
   parts_hold p =
       let rising : m ≤ n = p.further.rising in
@@ -65,7 +62,7 @@ module _ (m n : ℕ) (old rows fresh : List Float) where
 
   -- what is not refused by size has the right parts
   pub done_parts : is_done (tested (grow_tests m n (length old) (length rows) (length fresh)) Done) ≡ true → Parts m n old rows fresh
-  done_parts done = hold_parts (all_hold (grow_tests m n (length old) (length rows) (length fresh)) Done grow_refuses done).0
+  done_parts done = hold_parts (all_hold (grow_tests m n (length old) (length rows) (length fresh)) Done done).0
 
   -- so the fresh buffer is a slice of its layout
   pub grown_fits : is_done (tested (grow_tests m n (length old) (length rows) (length fresh)) Done) ≡ true → Fits (packed n) m (length fresh)
@@ -76,13 +73,10 @@ module _ (m n : ℕ) (old rows fresh : List Float) where
 
 module _ {m n : ℕ} {old rows fresh : List Float} where
   -- a test fails
-  pub grown_unfit : {r : Answer} → Fails r (grow_tests m n (length old) (length rows) (length fresh)) → is_done r ≡ false → Grown m n old rows fresh r fresh
-  grown_unfit {r} fails refused =
+  pub grown_unfit : {fault : Refusal} → Fails fault (grow_tests m n (length old) (length rows) (length fresh)) → Grown m n old rows fresh (Err fault) fresh
+  grown_unfit fails =
       let tests = grow_tests m n (length old) (length rows) (length fresh) in
-      record {
-        answer = sym (tested_at tests (grown m n old rows).answer fails);
-        left = leaving_refused (ap is_done (tested_at tests Done fails) ∙ refused) refl;
-      }
+      record { answer = sym (tested_at tests (grown m n old rows).answer fails); left = leaving_refused (ap is_done (tested_at tests Done fails)) refl }
 
   -- the parts are joined, and the batch is worked on
   pub grown_fit : {joint fresh' : List Float} {r : Answer} → Parts m n old rows fresh → Holds (lower (packed n)) fresh joint (handed_in m n old rows) → Extended (packed n) m joint fresh' r

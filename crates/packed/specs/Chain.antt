@@ -1,8 +1,6 @@
 -- Batches whose factor goes from buffer to buffer, and what they share with the one packed call on the whole matrix.
 use Rattle.std.specs.Prelude.{◌≡◌, true, false, List, [], ◌∷◌, ℕ, ◌≤◌, ◌<◌, length, Float}
-use Rattle.answer.specs.declared.Answer.{Answer}
-use Rattle.answer.specs.declared.Answer.TheVariants.{Done}
-use Rattle.answer.specs.Number.{is_done}
+use Rattle.answer.specs.Answer.{Answer, Done, is_done}
 use Rattle.matrix.specs.Grid.{load}
 use Rattle.matrix.specs.Layouts.{packed, entries_of, lower}
 use Rattle.packing.specs.Joined.{row_start, new_row}

@@ -1,7 +1,7 @@
 -- What a further batch promises, whose factor goes into a packed buffer of its own.
 use Rattle.std.specs.Prelude.{◌≡◌, List, [], ◌∷◌, ℕ, leb, eqb, length, Float}
-use Rattle.answer.specs.declared.Answer.{Answer}
-use Rattle.answer.specs.declared.Answer.TheVariants.{Done, OutOfRange, OrderAboveRoom, MatrixLength, SliceLength}
+use Rattle.answer.specs.declared.Refusal.TheVariants.{OutOfRange, OrderAboveRoom, MatrixLength, SliceLength}
+use Rattle.answer.specs.Answer.{Answer, Done}
 use Rattle.answer.specs.Refusals.{Test, ◌otherwise◌, tested, Leaving}
 use Rattle.matrix.specs.Matrix.{Matrix}
 use Rattle.matrix.specs.Grid.{mask}

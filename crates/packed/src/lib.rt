@@ -10,9 +10,9 @@ ghost use Rattle.cholesky.specs.Solve.{CholeskySolved};
 ghost use Rattle.twins.specs.First.{FirstTwinOn};
 ghost use Rattle.packed.specs.Growing.{Grown};
 
-use answer::{Answer, Valued};
+use answer::{Answer, Refusal};
 use matrix::{Layout, entries};
-use twins::Twin;
+use twins::Found;
 
 pub fn lblt_factor(a: &mut [f64], words: &mut [u32], n: usize, run: u32) -> Answer
     ensures { Factored (packed n) run a.old words.old result a.new words.new }
@@ -34,7 +34,7 @@ pub fn lblt_solve(
     lblt_solve::solve_on(Layout::packed(n), a, words, b, columns, run)
 }
 
-pub fn lblt_determinant(a: &[f64], words: &[u32], n: usize, run: u32) -> Valued
+pub fn lblt_determinant(a: &[f64], words: &[u32], n: usize, run: u32) -> Result<f64, Refusal>
     ensures { LbltDetermined (packed n) run a.now words.now result }
 {
     lblt_read::determinant_on(Layout::packed(n), a, words, run)
@@ -58,22 +58,22 @@ pub fn cholesky_extend(
     ensures { Grown earlier n old.now rows.now fresh.old result fresh.new }
 {
     if 1024 < n {
-        return Answer::OutOfRange;
+        return Err(Refusal::OutOfRange);
     }
     if 1024 < earlier {
-        return Answer::OutOfRange;
+        return Err(Refusal::OutOfRange);
     }
     if n < earlier {
-        return Answer::OrderAboveRoom;
+        return Err(Refusal::OrderAboveRoom);
     }
     if old.len() != entries(earlier) {
-        return Answer::MatrixLength;
+        return Err(Refusal::MatrixLength);
     }
     if rows.len() != entries(n) - entries(earlier) {
-        return Answer::SliceLength;
+        return Err(Refusal::SliceLength);
     }
     if fresh.len() != entries(n) {
-        return Answer::SliceLength;
+        return Err(Refusal::SliceLength);
     }
     packing::join(old, rows, fresh, earlier, n);
     cholesky::extend_on(Layout::packed(n), fresh, earlier)
@@ -87,7 +87,7 @@ pub fn cholesky_solve(a: &[f64], b: &mut [f64], n: usize, columns: usize) -> Ans
 }
 
 // The first pair of twin rows of all n.
-pub fn first_twin(a: &[f64], n: usize) -> Twin
+pub fn first_twin(a: &[f64], n: usize) -> Found
     ensures { FirstTwinOn (packed n) 0 a.now result }
 {
     twins::first_twin_on(Layout::packed(n), a, 0)

@@ -1,4 +1,5 @@
 -- The check sees the pairs and the mark alone: two records that agree in them are answered alike.
+use Rattle.std.specs.Prelude.{Err}
 use mathlib.Core.Bool.{Bool, true, false, cond, ◌&&◌, ◌||◌}
 use mathlib.Core.List.{List}
 use mathlib.Core.Path.{◌≡◌, refl, ap}
@@ -6,7 +7,8 @@ use Prim.Native.Nat.{ℕ, zero, suc, ◌+◌, ◌-◌, ◌<◌}
 use native.Mathlib.Omega.{arith}
 use lib.Dec.{eqb, leb, ltb}
 use borrow.Author.Tests.{ltb-true, leb-true, eqb-false}
-use Rattle.answer.specs.declared.Answer.TheVariants.{Done, BadRecord}
+use Rattle.answer.specs.declared.Refusal.TheVariants.{BadRecord}
+use Rattle.answer.specs.Answer.{Done}
 use Rattle.answer.specs.Refusals.{tested}
 use Rattle.answer.proofs.Tests.{where_tested}
 use Rattle.pivots.specs.Words.{index_at, size_at, mark_at}
@@ -47,5 +49,5 @@ module _ {n : ℕ} {words words' : List ℕ} (same : SamePairs n words words') w
 
   pub checked_alike : mark_at n words ≡ mark_at n words' → checked n words ≡ checked n words'
   unfolding checked tested
-  checked_alike mark = rw (fault_alike n 0, mark) (ap (λ (sound : Bool). cond (leb n (fault_of n words')) (cond sound Done (BadRecord n)) (BadRecord (fault_of n words')))
+  checked_alike mark = rw (fault_alike n 0, mark) (ap (λ (sound : Bool). cond (leb n (fault_of n words')) (cond sound Done (Err (BadRecord n))) (Err (BadRecord (fault_of n words'))))
       (own_alike (mark_at n words') (eqb (mark_at n words') 0) (leb (mark_at n words') n) refl refl))

@@ -15,8 +15,7 @@ use native.Mathlib.Nat.{eq-or-lt_of_le}
 use native.Mathlib.Omega.{arith}
 use borrow.Author.Tests.{leb-true, eqb-true}
 use lib.Dec.{leb, eqb}
-use Rattle.answer.specs.declared.Answer.TheVariants.{Done}
-use Rattle.answer.specs.Number.{is_done}
+use Rattle.answer.specs.Answer.{Done, is_done}
 use Rattle.answer.proofs.Tested.{AllHold, all_hold}
 use Rattle.answer.proofs.Tests.{eq_or_ne}
 use Rattle.pivots.specs.Words.{index_at, size_at, mark_at}
@@ -45,7 +44,7 @@ pub record Boundary (n : ℕ) (words : List ℕ) (k : ℕ) : Type 0 where
 
 record_holds : (n : ℕ) (words : List ℕ) → is_done (checked n words) ≡ true → AllHold (record_tests n words)
 unfolding checked
-record_holds n words done = (all_hold (record_tests n words) Done (refl, (refl, tt)) done).0
+record_holds n words done = (all_hold (record_tests n words) Done done).0
 
 rows_done : (n : ℕ) (words : List ℕ) → is_done (checked n words) ≡ true → n ≤ fault_of n words
 rows_done n words done = leb-true n (fault_of n words) (record_holds n words done).0

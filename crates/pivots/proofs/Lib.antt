@@ -2,6 +2,7 @@ pub mod SamePairs
 pub mod SameWords
 pub mod Blocks
 pub mod Faults
+pub mod Found
 pub mod Checked
 pub mod Boundaries
 pub mod Rows

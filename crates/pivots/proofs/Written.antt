@@ -14,8 +14,7 @@ use Prim.Native.Nat.{ℕ, ◌+◌, ◌-◌, ◌<◌, ◌≤◌}
 use native.Mathlib.Omega.{arith}
 use lib.ListN.{length, get_or, set, length-set}
 use lib.Seq.{get_or-set_same, get_or-set_other, set-get_or}
-use Rattle.answer.specs.declared.Answer.TheVariants.{Done}
-use Rattle.answer.specs.Number.{is_done}
+use Rattle.answer.specs.Answer.{Done, is_done}
 use Rattle.answer.proofs.Tests.{eq_or_ne}
 use Rattle.pivots.specs.Words.{words_of, index_word, size_word, mark_word, run_word, index_at, size_at, mark_at, run_at, Sized, paired, marked, stamped}
 use Rattle.pivots.specs.Rule.{fault_of, checked, Accepted}

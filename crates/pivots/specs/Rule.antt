@@ -1,8 +1,8 @@
 -- The rule of a pivot record, and what its check answers.
 use Rattle.std.specs.Prelude.{Bool, true, cond, ◌&&◌, ◌||◌, List, [], ◌∷◌, ◌≡◌, ℕ, zero, suc, ◌+◌, ◌-◌, leb, ltb, eqb}
-use Rattle.answer.specs.declared.Answer.{Answer}
-use Rattle.answer.specs.declared.Answer.TheVariants.{Done, BadRecord}
-use Rattle.answer.specs.Number.{is_done}
+use Rattle.answer.specs.declared.Refusal.{Refusal}
+use Rattle.answer.specs.declared.Refusal.TheVariants.{BadRecord}
+use Rattle.answer.specs.Answer.{Answer, Done, is_done}
 use Rattle.answer.specs.Refusals.{Test, ◌otherwise◌, tested}
 use Rattle.pivots.specs.Words.{index_at, size_at, mark_at, Sized}
 
@@ -40,7 +40,7 @@ abbrev pub sound_mark : ℕ → List ℕ → Bool
 sound_mark n words = eqb (mark_at n words) 0 || (leb (mark_at n words) n && own_pivot words (mark_at n words - 1))
 
 -- the rows are judged before the mark; a broken rule is answered by `broken` with its place
-abbrev pub rule_tests : (ℕ → Answer) → ℕ → List ℕ → List Test
+abbrev pub rule_tests : (ℕ → Refusal) → ℕ → List ℕ → List Test
 rule_tests broken n words = (leb n (fault_of n words) otherwise broken (fault_of n words)) ∷ (sound_mark n words otherwise broken n) ∷ []
 
 abbrev pub record_tests : ℕ → List ℕ → List Test

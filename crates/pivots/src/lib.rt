@@ -4,15 +4,10 @@
 ghost use Rattle.std.specs.Prelude.{◌≡◌, ◌<◌, ◌≤◌, length};
 ghost use Rattle.pivots.specs.Words.{index_word, size_word, mark_word, run_word, words_of};
 ghost use Rattle.pivots.specs.Words.{Sized, index_at, size_at, mark_at, run_at, paired, marked, stamped};
-ghost use Rattle.pivots.specs.Rule.{block_of, fault_of, checked};
+ghost use Rattle.pivots.specs.Rule.{checked};
+ghost use Rattle.pivots.specs.inner.Found.{rows_found, fault_found};
 
-use answer::Answer;
-
-fn wide(word: u32) -> usize
-    ensures { result ≡ word }
-{
-    word as usize
-}
+use answer::{Answer, Refusal};
 
 // The words of a record of order 64, for a lent array.
 pub const WORDS_OF_64: usize = 2 * 64 + 2;
@@ -32,21 +27,21 @@ pub fn index(words: &[u32], row: usize) -> usize
     requires { index_word row < length words.now }
     ensures { result ≡ index_at words.now row }
 {
-    wide(words[2 * row])
+    words[2 * row] as usize
 }
 
 pub fn size(words: &[u32], row: usize) -> usize
     requires { size_word row < length words.now }
     ensures { result ≡ size_at words.now row }
 {
-    wide(words[2 * row + 1])
+    words[2 * row + 1] as usize
 }
 
 pub fn mark(words: &[u32], n: usize) -> usize
     requires { mark_word n < length words.now }
     ensures { result ≡ mark_at n words.now }
 {
-    wide(words[2 * n])
+    words[2 * n] as usize
 }
 
 pub fn run(words: &[u32], n: usize) -> u32
@@ -78,53 +73,52 @@ pub fn put_run(words: &mut [u32], n: usize, run: u32)
     words[2 * n + 1] = run;
 }
 
-// The rows of the block that starts at row k, 0 where it breaks the rule.
-fn block(words: &[u32], n: usize, k: usize) -> usize
+// The rows of the block that starts at row k, none where it breaks the rule.
+fn block(words: &[u32], n: usize, k: usize) -> Option<usize>
     requires sized { Sized n words.now }
     requires k_lt_n { k < n }
-    ensures { result ≡ block_of n words.now k }
+    ensures { result ≡ rows_found n words.now k }
 {
     let size_k = size(words, k);
     let index_k = index(words, k);
     if n <= index_k {
-        return 0;
+        return None;
     }
     if size_k == 1 {
         if index_k < k {
-            return 0;
+            return None;
         }
-        return 1;
+        return Some(1);
     }
     if size_k != 2 {
-        return 0;
+        return None;
     }
     // from here on k + 1 < n, since index_k < n
     if index_k <= k {
-        return 0;
+        return None;
     }
     if index(words, k + 1) != index_k {
-        return 0;
+        return None;
     }
     if size(words, k + 1) != 2 {
-        return 0;
+        return None;
     }
-    2
+    Some(2)
 }
 
-// The first row that breaks the rule, n if none does.
-fn fault(words: &[u32], n: usize) -> usize
+// The first row that breaks the rule, none if none does.
+fn fault(words: &[u32], n: usize) -> Option<usize>
     requires { Sized n words.now }
-    ensures { result ≡ fault_of n words.now }
+    ensures { result ≡ fault_found n words.now }
 {
     let mut k: usize = 0;
     loop {
         if n <= k {
-            break n;
+            break None;
         }
-        let rows = block(words, n, k);
-        if rows == 0 {
-            break k;
-        }
+        let Some(rows) = block(words, n, k) else {
+            break Some(k);
+        };
         k += rows;
     }
 }
@@ -133,22 +127,21 @@ pub fn check(words: &[u32], n: usize) -> Answer
     requires { Sized n words.now }
     ensures { result ≡ checked n words.now }
 {
-    let row = fault(words, n);
-    if row < n {
-        return Answer::BadRecord(row as u32);
+    if let Some(row) = fault(words, n) {
+        return Err(Refusal::BadRecord(row as u32));
     }
     let marked = mark(words, n);
     if marked == 0 {
-        return Answer::Done;
+        return Ok(());
     }
     if n < marked {
-        return Answer::BadRecord(n as u32);
+        return Err(Refusal::BadRecord(n as u32));
     }
     if size(words, marked - 1) != 1 {
-        return Answer::BadRecord(n as u32);
+        return Err(Refusal::BadRecord(n as u32));
     }
     if index(words, marked - 1) != marked - 1 {
-        return Answer::BadRecord(n as u32);
+        return Err(Refusal::BadRecord(n as u32));
     }
-    Answer::Done
+    Ok(())
 }

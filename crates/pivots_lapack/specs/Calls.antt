@@ -1,12 +1,12 @@
 -- What the reader and the writer of lists answer and leave behind, refused or not.
-use Rattle.std.specs.Prelude.{cond, List, [], ◌∷◌, ◌++◌, ◌≡◌, ℕ, eqb, leb, ℤ, pos, length}
-use Rattle.answer.specs.declared.Answer.{Answer}
-use Rattle.answer.specs.declared.Answer.TheVariants.{Done, OutOfRange, SliceLength, BadList}
-use Rattle.answer.specs.Number.{is_done}
+use Rattle.std.specs.Prelude.{cond, List, [], ◌∷◌, ◌++◌, ◌≡◌, ℕ, eqb, leb, ℤ, pos, length, Result, Ok}
+use Rattle.answer.specs.declared.Refusal.{Refusal}
+use Rattle.answer.specs.declared.Refusal.TheVariants.{OutOfRange, SliceLength, BadList}
+use Rattle.answer.specs.Answer.{Answer, Done, is_done}
 use Rattle.answer.specs.Refusals.{Test, ◌otherwise◌, tested}
 use Rattle.pivots.specs.Words.{words_of, mark_at, run_at}
 use Rattle.pivots.specs.Rule.{rule_tests, record_tests}
-use Rattle.pivots_lapack.specs.declared.Listed.{Listed}
+use Rattle.pivots_lapack.specs.declared.Stamp.{Stamp}
 use Rattle.pivots_lapack.specs.Numbers.{mark_meant}
 use Rattle.pivots_lapack.specs.Lists.{record_of, list_of}
 
@@ -27,8 +27,10 @@ pub record ListRead (n run : ℕ) (list : List ℤ) (info : ℤ) (words : List �
 abbrev pub write_tests : ℕ → List ℕ → List ℤ → List Test
 write_tests n words list = slice_tests n list words ++ record_tests n words
 
-pub record ListWritten (n : ℕ) (words : List ℕ) (list : List ℤ) (r : Listed) (list' : List ℤ) : Type 0 where
-  pub answer : r.answer ≡ tested (write_tests n words list) Done
-  pub numbers : list' ≡ cond (is_done r.answer) (list_of n words) list
-  pub info : r.info ≡ cond (is_done r.answer) (pos (mark_at n words)) (pos 0)
-  pub run : r.run ≡ cond (is_done r.answer) (run_at n words) 0
+-- INFO is the mark
+abbrev pub stamp_of : ℕ → List ℕ → Stamp
+stamp_of n words = record { info = pos (mark_at n words); run = run_at n words }
+
+pub record ListWritten (n : ℕ) (words : List ℕ) (list : List ℤ) (r : Result Stamp Refusal) (list' : List ℤ) : Type 0 where
+  pub answer : r ≡ tested (write_tests n words list) (Ok (stamp_of n words))
+  pub numbers : list' ≡ cond (is_done r) (list_of n words) list

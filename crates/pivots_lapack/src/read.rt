@@ -1,13 +1,14 @@
 // From a list to a record.
 ghost use Rattle.std.specs.Prelude.{◌≡◌, ◌≤◌, length};
-ghost use Rattle.answer.specs.declared.Answer.TheVariants.{Done, BadList};
+ghost use Rattle.answer.specs.declared.Refusal.TheVariants.{BadList};
+ghost use Rattle.answer.specs.Answer.{Done};
 ghost use Rattle.answer.specs.Refusals.{tested};
 ghost use Rattle.pivots.specs.Words.{Sized, words_of};
 ghost use Rattle.pivots.specs.Rule.{rule_tests};
 ghost use Rattle.pivots_lapack.specs.Lists.{record_of};
 
 use crate::number;
-use answer::Answer;
+use answer::{Answer, Refusal};
 
 // Writes the whole record.
 pub fn put_record(list: &[i32], mark: u32, run: u32, words: &mut [u32], n: usize)
@@ -26,6 +27,7 @@ pub fn put_record(list: &[i32], mark: u32, run: u32, words: &mut [u32], n: usize
 }
 
 // What the record's rule says of the record that a list stands for; it is written to the first words of `room`.
+#[tactic(auto, unfolding(answer::specs::Refusals::tested, pivots::specs::Rule::checked))]
 fn judge_in(list: &[i32], mark: u32, run: u32, room: &mut [u32], n: usize) -> Answer
     requires list_len { length list.now ≡ n }
     requires n_bound { n ≤ 1024 }
@@ -34,11 +36,7 @@ fn judge_in(list: &[i32], mark: u32, run: u32, room: &mut [u32], n: usize) -> An
 {
     let words = &mut room[0..pivots::words(n)];
     put_record(list, mark, run, words, n);
-    let fault = pivots::check(words, n);
-    if fault.code() != 0 {
-        return Answer::BadList(fault.place());
-    }
-    fault
+    pivots::check(words, n).map_err(|fault| Refusal::BadList(fault.place()))
 }
 
 // The same in a room of its own.

@@ -1,4 +1,5 @@
 -- 65,536 bytes are enough: the first so many of the input decide, and every response and every warning has room in so many.
+use Rattle.std.specs.Prelude.{Err}
 use mathlib.Core.Path.{◌≡◌, sym, ap, ◌∙◌, subst}
 use mathlib.Core.List.{List, ◌++◌, append_assoc}
 use mathlib.Core.Logic.{◌⊎◌, inl, inr}
@@ -7,8 +8,8 @@ use native.Mathlib.Omega.{arith}
 use lib.ListN.{length, take, drop, length-replicate, take-append-drop}
 use lib.Seq.{take_all, length-take-le, take-append-add}
 use Rattle.answer.proofs.Tests.{eq_or_ne, lt_or_ge}
-use Rattle.answer.specs.declared.Answer.{Answer}
-use Rattle.answer.specs.declared.Answer.TheVariants.{BadLine}
+use Rattle.answer.specs.declared.Refusal.TheVariants.{BadLine}
+use Rattle.answer.specs.Answer.{Answer}
 use Rattle.matrix.specs.Matrix.{Matrix}
 use Rattle.matrix.specs.Grid.{load}
 use Rattle.matrix.specs.Layouts.{full, lower}
@@ -153,7 +154,7 @@ pub response_fits : (s : List ℕ) {answer : Answer} (text : List ℕ) → Respo
 unfolding factor_page
 response_fits s text (factors n bits h same d e) =
     omega (arith, ap length e, page_fits n (load (lower (full n)) (numbers_of n bits)) (take (words_of n) empty_words) h.most (words_sized n h.most))
-response_fits s text (refuses line f d e) = omega (arith, ap length e, refusal_length (BadLine line) (omega arith) (line_small s line f))
+response_fits s text (refuses line f d e) = omega (arith, ap length e, refusal_length (Err (BadLine line)) (omega arith) (line_small s line f))
 
 pub warning_fits : (s text : List ℕ) → Warning s text → length text ≤ 11
 warning_fits s text (names_twins n bits p q h same first e) =

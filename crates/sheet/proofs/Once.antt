@@ -1,9 +1,10 @@
 -- Every text has one response and one warning, and a promise fixes what is lent and what is answered.
+use Rattle.std.specs.Prelude.{Err}
 use mathlib.Core.Path.{◌≡◌, refl, sym, ap, ap₂, ◌∙◌}
 use mathlib.Core.List.{List, []}
 use Prim.Native.Nat.{ℕ}
-use Rattle.answer.specs.declared.Answer.{Answer}
-use Rattle.answer.specs.declared.Answer.TheVariants.{Done, BadLine}
+use Rattle.answer.specs.declared.Refusal.TheVariants.{BadLine}
+use Rattle.answer.specs.Answer.{Answer, Done}
 use Rattle.twins.specs.declared.Twin.{Twin}
 use Rattle.twins.specs.First.{FirstTwin}
 use Rattle.twins.proofs.Unique.{first_twin_unique}
@@ -26,7 +27,7 @@ some_response s = go (sound s empty_room)
   where
     go : Reads s empty_room (read_of s empty_room).sheet (read_of s empty_room).cells → (answer : Answer) × ((text : List ℕ) × Response s answer text)
     go (right n bits h same e c) = (Done, (factor_page n bits, factors n bits h same refl refl))
-    go (wrong line n bits f e b c) = (BadLine line, (refusal_of (BadLine line), refuses line f refl refl))
+    go (wrong line n bits f e b c) = (BadLine line, (refusal_of (Err (BadLine line)), refuses line f refl refl))
 
 pub one_response : {s : List ℕ} {a b : Answer} {t u : List ℕ} → Response s a t → Response s b u → (a ≡ b) × (t ≡ u)
 one_response (factors n bits h same d e) (factors m other k same' d' e') =
@@ -36,7 +37,7 @@ one_response (factors n bits h same d e) (refuses line f d' e') = absurd (f.no_s
 one_response (refuses line f d e) (factors m other k same' d' e') = absurd (f.no_sheet m other k same')
 one_response {s} (refuses line f d e) (refuses line' g d' e') =
     let one = one_line s line line' f g in
-    (d ∙ ap BadLine one ∙ sym d', e ∙ ap (λ (k : ℕ). refusal_of (BadLine k)) one ∙ sym e')
+    (d ∙ ap (λ (line : ℕ). Err (BadLine line)) one ∙ sym d', e ∙ ap (λ (k : ℕ). refusal_of (Err (BadLine k))) one ∙ sym e')
 
 pub responds_once : {s o : List ℕ} {r k : Responded} {o' o'' : List ℕ} → Responds s o r o' → Responds s o k o'' → (r ≡ k) × (o' ≡ o'')
 responds_once x y =

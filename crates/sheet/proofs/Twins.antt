@@ -6,8 +6,7 @@ use Prim.Native.Nat.{ℕ, ◌*◌, ◌<◌, ◌≤◌}
 use native.Mathlib.Omega.{arith}
 use lib.Ieee.{Float}
 use lib.ListN.{length}
-use Rattle.answer.specs.declared.Answer.TheVariants.{Done}
-use Rattle.answer.specs.Number.{is_done}
+use Rattle.answer.specs.Answer.{Done, is_done}
 use Rattle.matrix.specs.Matrix.{Matrix}
 use Rattle.matrix.specs.Layouts.{full}
 use Rattle.matrix.proofs.Sizes.{fits_pass, full_fits}

@@ -1,7 +1,7 @@
 -- What the program answers and writes, of the bytes that it reads: the page of the factored sheet, or the refusal with the first wrong line.
-use Rattle.std.specs.Prelude.{◌≡◌, List, ℕ, ◌*◌, ◌≤◌, Float, length, take, replicate}
-use Rattle.answer.specs.declared.Answer.{Answer}
-use Rattle.answer.specs.declared.Answer.TheVariants.{Done, BadLine}
+use Rattle.std.specs.Prelude.{◌≡◌, List, ℕ, ◌*◌, ◌≤◌, Float, length, take, replicate, Err}
+use Rattle.answer.specs.declared.Refusal.TheVariants.{BadLine}
+use Rattle.answer.specs.Answer.{Answer, Done}
 use Rattle.matrix.specs.Matrix.{Matrix}
 use Rattle.matrix.specs.Grid.{load}
 use Rattle.matrix.specs.Layouts.{full, lower}
@@ -40,7 +40,7 @@ factor_page n bits = page_from n (load (lower (full n)) (numbers_of n bits)) (ta
 
 pub data Response (s : List ℕ) (answer : Answer) (text : List ℕ) : Type 0 where
   factors : (n : ℕ) (bits : List ℕ) → IsSheet n bits → s ≡ sheet_of n bits → answer ≡ Done → text ≡ factor_page n bits → Response s answer text
-  refuses : (line : ℕ) → FirstWrong s line → answer ≡ BadLine line → text ≡ refusal_of (BadLine line) → Response s answer text
+  refuses : (line : ℕ) → FirstWrong s line → answer ≡ Err (BadLine line) → text ≡ refusal_of (Err (BadLine line)) → Response s answer text
 
 -- the response to s stands at the start of the lent bytes, as far as they have room
 pub record Responds (s o : List ℕ) (r : Responded) (o' : List ℕ) : Type 0 where

@@ -6,7 +6,7 @@ ghost use Rattle.sheet.specs.Respond.{Responds, empty_room};
 ghost use Rattle.sheet.specs.Warn.{Warns};
 ghost use Rattle.sheet.specs.inner.Parts.{Square, Writes, Empty};
 
-use answer::Answer;
+use answer::{Answer, Refusal};
 use sheet_page::{put_page, put_refusal, put_twin};
 use sheet_text::read_sheet;
 use twins::Twin;

@@ -1,7 +1,6 @@
 -- The digit of the status, of the bytes that the program reads.
 use Rattle.std.specs.Prelude.{◌≡◌, cond, List, ℕ}
-use Rattle.answer.specs.declared.Answer.{Answer}
-use Rattle.answer.specs.Number.{is_done}
+use Rattle.answer.specs.Answer.{Answer, is_done}
 use Rattle.sheet.specs.Respond.{Response}
 
 -- 2, which says that not all was written; or, by the answer to s, 0 for a page and 1 for a refused sheet

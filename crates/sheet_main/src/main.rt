@@ -4,11 +4,11 @@
 #![tactic(auto)]
 
 ghost use Rattle.std.specs.Prelude.{◌≡◌, cond};
-ghost use Rattle.answer.specs.Number.{is_done};
+ghost use Rattle.answer.specs.Answer.{is_done};
 ghost use Rattle.io.specs.Counts.{IsPrefixLen};
 ghost use Rattle.sheet_main.specs.Status.{Status};
 
-use answer::Answer;
+use answer::{Answer, Refusal};
 use std::fs;
 use std::fs::{OpenFile, OpenOptions};
 use std::io::Read;

@@ -8,7 +8,7 @@ use borrow.Author.Tests.{eq-eqb, ne_eqb}
 use lib.Ieee.{Float, binary64, to_bits}
 use lib.ListN.{length, length-append}
 use Rattle.answer.proofs.Tests.{eq_or_ne}
-use Rattle.answer.specs.declared.Answer.{Answer}
+use Rattle.answer.specs.Answer.{Answer}
 use Rattle.answer.specs.Number.{code_of, place_of}
 use Rattle.pivots.specs.Words.{index_at, size_at, mark_at}
 use Rattle.sheet_text.specs.Text.{bytes, tab, lf, field, number_line}

@@ -10,7 +10,7 @@ ghost use Rattle.sheet_page.specs.inner.Parts.{PutPivots, PutEntries, EntriesPut
 ghost use Rattle.sheet_page.specs.Page.{pivot_line, pivot_lines, zero_line, det_line, matrix_in, page_of, refusal_of, twin_line};
 
 use crate::put::{put_bits, put_field, put_number_line, put_pair_line, put_word};
-use answer::Answer;
+use answer::{Answer, Refusal};
 use sheet_text::Place;
 
 fn put_pivot(out: &mut [u8], at: usize, row: usize, index: usize, size: usize) -> usize

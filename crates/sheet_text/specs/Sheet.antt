@@ -1,8 +1,9 @@
 -- The text of a sheet, its first wrong line, and what the reader promises.
-use Rattle.std.specs.Prelude.{◌≡◌, List, [], ◌∷◌, ◌++◌, ℕ, ◌-◌, ◌^◌, ◌<◌, ◌≤◌, Float, length, get_or, take, set}
+use Rattle.std.specs.Prelude.{◌≡◌, List, [], ◌∷◌, ◌++◌, ℕ, ◌-◌, ◌^◌, ◌<◌, ◌≤◌, Float, length, get_or, take, set, Err}
 use Rattle.std.specs.Float.{binary64}
 use Rattle.std.specs.Float.Ieee.{of_bits}
-use Rattle.answer.specs.declared.Answer.TheVariants.{Done, BadLine}
+use Rattle.answer.specs.declared.Refusal.TheVariants.{BadLine}
+use Rattle.answer.specs.Answer.{Done}
 use Rattle.sheet_text.specs.declared.place.Place.{Place}
 use Rattle.sheet_text.specs.declared.reader.Sheet.{Sheet}
 use Rattle.sheet_text.specs.Text.{bytes, number_line, entry_line}
@@ -64,7 +65,7 @@ abbrev pub right_at : ℕ → Sheet
 right_at n = record { answer = Done; order = n }
 
 abbrev pub wrong_at : ℕ → Sheet
-wrong_at line = record { answer = BadLine line; order = 0 }
+wrong_at line = record { answer = Err (BadLine line); order = 0 }
 
 -- a sheet is accepted and its entries are stored; of any other text the first wrong line is named, and the entries before it are stored
 pub data Reads (s : List ℕ) (a : List Float) (r : Sheet) (a' : List Float) : Type 0 where

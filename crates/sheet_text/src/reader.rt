@@ -9,7 +9,7 @@ ghost use Rattle.sheet_text.specs.Sheet.{wrong_at, Reads};
 
 use crate::line::{Bits, EntryLine, Number, entry_line, number_line};
 use crate::place::Place;
-use answer::Answer;
+use answer::{Answer, Refusal};
 
 // How far the entries went: all of them or not, how many, and where the reading goes on.
 #[derive(Clone, Copy)]
@@ -103,7 +103,7 @@ fn wrong(line: usize) -> Sheet
     ensures { result ≡ wrong_at line }
 {
     Sheet {
-        answer: Answer::BadLine(line as u32),
+        answer: Err(Refusal::BadLine(line as u32)),
         order: 0,
     }
 }
@@ -150,7 +150,7 @@ fn closing(s: &[u8], at: usize, n: usize, count: usize, value: usize) -> Sheet
         return wrong(count + 3);
     }
     Sheet {
-        answer: Answer::Done,
+        answer: Ok(()),
         order: n,
     }
 }

@@ -1,6 +1,7 @@
 -- The promise of `cholesky`: refused, worked, unique, and there is always one. Assumes nothing.
+use Rattle.std.specs.Prelude.{Err}
 use mathlib.Core.Path.{◌≡◌, refl, sym, ◌∙◌, ap, subst}
-use mathlib.Core.Bool.{true, false}
+use mathlib.Core.Bool.{true}
 use mathlib.Core.List.{List}
 use mathlib.Core.Logic.{⊎_elim}
 use Prim.Native.Nat.{ℕ, ◌≤◌, ◌<◌}
@@ -8,11 +9,11 @@ use lib.Dec.{T}
 use lib.ListN.{length}
 use lib.Ieee.{Float}
 use borrow.Author.Tests.{le-leb, lt-leb}
-use Rattle.answer.specs.declared.Answer.{Answer}
-use Rattle.answer.specs.declared.Answer.TheVariants.{Done, OutOfRange}
-use Rattle.answer.specs.Number.{is_done}
+use Rattle.answer.specs.declared.Refusal.{Refusal}
+use Rattle.answer.specs.declared.Refusal.TheVariants.{OutOfRange}
+use Rattle.answer.specs.Answer.{Answer, Done, is_done}
 use Rattle.answer.specs.Refusals.{tested}
-use Rattle.answer.proofs.Tested.{all_hold, tested_fixed, leaving_done, leaving_refused, leaving_alike}
+use Rattle.answer.proofs.Tested.{all_hold, tested_refused, leaving_done, leaving_refused, leaving_alike}
 use Rattle.answer.proofs.Tests.{lt_or_ge}
 use Rattle.matrix.specs.declared.Layout.{Layout}
 use Rattle.matrix.specs.Matrix.{Matrix}
@@ -21,7 +22,7 @@ use Rattle.matrix.specs.Layouts.{in_room, lower}
 use Rattle.matrix.specs.Sizes.{size_tests, Fits}
 use Rattle.matrix.proofs.Grids.{holds_part, holds_as, holds_unique, same_cells}
 use Rattle.matrix.proofs.Places.{lower_low, lower_under, in_lower_law, rows_part}
-use Rattle.matrix.proofs.Sizes.{sizes_refuse, hold_fits, fits_pass}
+use Rattle.matrix.proofs.Sizes.{hold_fits, fits_pass}
 use Rattle.cholesky.specs.Crate.{crate_rule}
 use Rattle.cholesky.specs.Leaves.{Leaves}
 use Rattle.cholesky.specs.Promise.{batch}
@@ -36,23 +37,22 @@ module _ (room n : ℕ) where
   unfolding tested
   small_tests len r small = rw (le-leb n 64 small)
 
-  large_tests : (len : ℕ) (r : Answer) → 64 < n → tested (teaching_tests room n len) r ≡ OutOfRange
+  large_tests : (len : ℕ) (r : Answer) → 64 < n → tested (teaching_tests room n len) r ≡ Err OutOfRange
   unfolding tested
   large_tests len r large = rw (lt-leb n 64 large)
 
-  pub taught_large : {l : List Float} → 64 < n → Taught room n l l OutOfRange
+  pub taught_large : {l : List Float} → 64 < n → Taught room n l l (Err OutOfRange)
   taught_large {l} large = record {
     answer = sym (large_tests (length l) (batch (in_room n room) 0 l).answer large);
     left = leaving_refused (ap is_done (large_tests (length l) Done large)) refl;
   }
 
-  pub taught_unfit : {y : Layout} {l : List Float} {x : Answer} → y ≡ in_room n room → n ≤ 64 → x ≡ tested (size_tests y 0 (length l)) Done → is_done x ≡ false → Taught room n l l x
-  taught_unfit {l = l} at small told refused =
-      let is = told ∙ ap (λ (y : Layout). tested (size_tests y 0 (length l)) Done) at in
-      let failed = ap is_done (sym is) ∙ refused in
+  pub taught_unfit : {y : Layout} {l : List Float} {fault : Refusal} → y ≡ in_room n room → n ≤ 64 → Err fault ≡ tested (size_tests y 0 (length l)) Done → Taught room n l l (Err fault)
+  taught_unfit {l = l} at small told =
+      let is = sym (told ∙ ap (λ (y : Layout). tested (size_tests y 0 (length l)) Done) at) in
       record {
-        answer = is ∙ sym (small_tests (length l) (batch (in_room n room) 0 l).answer small ∙ tested_fixed (size_tests (in_room n room) 0 (length l)) (batch (in_room n room) 0 l).answer failed);
-        left = leaving_refused (ap is_done (small_tests (length l) Done small) ∙ failed) refl;
+        answer = sym (small_tests (length l) (batch (in_room n room) 0 l).answer small ∙ tested_refused (size_tests (in_room n room) 0 (length l)) (batch (in_room n room) 0 l).answer is);
+        left = leaving_refused (ap is_done (small_tests (length l) Done small ∙ is)) refl;
       }
 
   pub fits_tests : {len : ℕ} (r : Answer) → n ≤ 64 → Fits (in_room n room) 0 len → tested (teaching_tests room n len) r ≡ r
@@ -60,7 +60,7 @@ module _ (room n : ℕ) where
 
   -- what is done fits
   pub taught_fits : (len : ℕ) → is_done (tested (teaching_tests room n len) Done) ≡ true → Fits (in_room n room) 0 len
-  taught_fits len done = hold_fits (in_room n room) 0 len (all_hold (teaching_tests room n len) Done (refl, sizes_refuse (in_room n room) 0 len) done).0.1
+  taught_fits len done = hold_fits (in_room n room) 0 len (all_hold (teaching_tests room n len) Done done).0.1
 
   -- row after row, in the rows that are reached
   rows_left : {l₀ l : List Float} → Fits (in_room n room) 0 (length l₀) → Holds (lower (in_room n room)) l₀ l (by_rows crate_rule n (load (lower (in_room n room)) l₀)).cells

@@ -6,8 +6,8 @@ use Prim.Native.Nat.{ℕ, zero, suc, ◌+◌, ◌≤◌, ◌<◌}
 use native.Mathlib.Numerals.{add-one}
 use native.Mathlib.Omega.{arith}
 use lib.Ieee.{Float}
-use Rattle.answer.specs.declared.Answer.{Answer}
-use Rattle.answer.specs.Number.{place_of, is_done}
+use Rattle.answer.specs.Answer.{Answer, is_done}
+use Rattle.answer.specs.Number.{place_of}
 use Rattle.answer.proofs.Done.{done_is, done_or_refused}
 use Rattle.answer.proofs.Tests.{either, eq_or_ne}
 use Rattle.matrix.specs.Matrix.{Matrix}

@@ -3,15 +3,15 @@
 --     left_found                          an entry left of it
 --     row_found                           the diagonal after the entries left of it
 --     order_none, order_refused, order_more   no row; a refusal among the rows before; a row more
+use Rattle.std.specs.Prelude.{Err}
 use mathlib.Core.Path.{◌≡◌, sym, ◌∙◌, ap, ap₂}
 use mathlib.Core.Bool.{true, false}
 use mathlib.Core.List.{List}
 use Prim.Native.Nat.{ℕ, ◌+◌, ◌-◌}
 use native.Mathlib.Omega.{arith}
 use lib.Ieee.{Float, lt}
-use Rattle.answer.specs.declared.Answer.{Answer}
-use Rattle.answer.specs.declared.Answer.TheVariants.{Done}
-use Rattle.answer.specs.Number.{is_done}
+use Rattle.answer.specs.declared.Refusal.{Refusal}
+use Rattle.answer.specs.Answer.{Answer, Done, is_done}
 use Rattle.leaf.specs.Root.{root_of}
 use Rattle.matrix.specs.declared.Layout.{Layout}
 use Rattle.matrix.specs.Matrix.{Matrix, entry}
@@ -74,15 +74,16 @@ module _ (ρ : Rule) (n : ℕ) where
         let last : n ≡ n - 1 + 1 = omega (arith, some) in
         ap (λ (k : ℕ). by_rows ρ k (load (lower y) l₀)) last ∙ for_more 0 (n - 1) (row_after ρ) (started (load (lower y) l₀)) (omega arith)
 
-    pub order_refused : is_done s ≡ false → Does y (by_rows ρ n) l₀ l s
+  module _ {y : Layout} {l₀ l : List Float} (some : n ≡ 0 → ⊥) where
+    pub order_refused : {fault : Refusal} → Does y (by_rows ρ (n - 1)) l₀ l (Err fault) → Does y (by_rows ρ n) l₀ l (Err fault)
     unfolding row_after
-    order_refused failed =
-        let is : by_rows ρ n (load (lower y) l₀) ≡ by_rows ρ (n - 1) (load (lower y) l₀) = next ∙ rw (ap is_done (sym before.answer) ∙ failed) in
+    order_refused before =
+        let is : by_rows ρ n (load (lower y) l₀) ≡ by_rows ρ (n - 1) (load (lower y) l₀) = next some before ∙ rw (ap is_done (sym before.answer)) in
         record { answer = before.answer ∙ ap (λ (o : Outcome). o.answer) (sym is); holds = holds_as before.holds (ap (λ (o : Outcome). o.cells) (sym is)) }
 
-    pub order_more : {l' : List Float} {s' : Answer} → is_done s ≡ true → Does y (last_row ρ (n - 1)) l l' s' → Does y (by_rows ρ n) l₀ l' s'
+    pub order_more : {l' : List Float} {s : Answer} → Does y (by_rows ρ (n - 1)) l₀ l Done → Does y (last_row ρ (n - 1)) l l' s → Does y (by_rows ρ n) l₀ l' s
     unfolding row_after
-    order_more done step =
-        let is : by_rows ρ n (load (lower y) l₀) ≡ last_row ρ (n - 1) (by_rows ρ (n - 1) (load (lower y) l₀)).cells = next ∙ rw (ap is_done (sym before.answer) ∙ done) in
+    order_more before step =
+        let is : by_rows ρ n (load (lower y) l₀) ≡ last_row ρ (n - 1) (by_rows ρ (n - 1) (load (lower y) l₀)).cells = next some before ∙ rw (ap is_done (sym before.answer)) in
         let both = does_then (last_row ρ (n - 1)) before.holds step in
         record { answer = both.0 ∙ ap (λ (o : Outcome). o.answer) (sym is); holds = holds_as both.1 (ap (λ (o : Outcome). o.cells) (sym is)) }

@@ -1,8 +1,8 @@
 -- The call beside the main engine's, entry by entry.
 use Rattle.std.specs.Prelude.{◌≡◌, true, false, List, ℕ, ◌+◌, ◌*◌, ◌≤◌, ◌<◌, get_or, Float}
 use Rattle.std.specs.Float.{nan}
-use Rattle.answer.specs.declared.Answer.{Answer}
-use Rattle.answer.specs.Number.{place_of, is_done}
+use Rattle.answer.specs.Answer.{Answer, is_done}
+use Rattle.answer.specs.Number.{place_of}
 
 -- entry (i, c) of a room
 abbrev pub entry_in : ℕ → List Float → ℕ → ℕ → Float

@@ -1,8 +1,8 @@
 -- What `cholesky` promises: the main engine's answer, and its bits in the rows that were reached.
 use Rattle.std.specs.Prelude.{◌≡◌, cond, List, ◌∷◌, ℕ, ◌+◌, leb, length, Float}
-use Rattle.answer.specs.declared.Answer.{Answer}
-use Rattle.answer.specs.declared.Answer.TheVariants.{Done, OutOfRange}
-use Rattle.answer.specs.Number.{place_of, is_done}
+use Rattle.answer.specs.declared.Refusal.TheVariants.{OutOfRange}
+use Rattle.answer.specs.Answer.{Answer, Done, is_done}
+use Rattle.answer.specs.Number.{place_of}
 use Rattle.answer.specs.Refusals.{Test, ◌otherwise◌, tested, Leaving}
 use Rattle.matrix.specs.Layouts.{in_room}
 use Rattle.matrix.specs.Sizes.{size_tests}

@@ -9,7 +9,7 @@ ghost use Rattle.cholesky.specs.Crate.{crate_rule};
 ghost use Rattle.teaching.specs.Promise.{Taught};
 ghost use Rattle.teaching.specs.inner.Rows.{on_diagonal, last_row, by_rows, Does};
 
-use answer::Answer;
+use answer::{Answer, Refusal};
 use matrix::{Layout, get, put};
 
 // Entry (r, c), less what the columns before c take from it: x + (−l(c,k))·l(r,k), for k from 0 to c − 1.
@@ -35,7 +35,7 @@ fn diagonal(y: Layout, a: &mut [f64], r: usize) -> Answer
     let d = updated(y, a, r, r);
     if 0.0 < d {
         put(y, a, r, r, leaf::root(d));
-        return Answer::Done;
+        return Ok(());
     }
     put(y, a, r, r, d);
     cholesky::answer_to(d, r)
@@ -60,12 +60,9 @@ fn of_order(y: Layout, a: &mut [f64], n: usize) -> Answer
     ensures { Does y (by_rows crate_rule n) a.old a.new result }
 {
     if n == 0 {
-        return Answer::Done;
+        return Ok(());
     }
-    let answer = of_order(y, a, n - 1);
-    if answer.code() != 0 {
-        return answer;
-    }
+    of_order(y, a, n - 1)?;
     last_row(y, a, n - 1)
 }
 
@@ -74,12 +71,9 @@ pub fn cholesky(a: &mut [f64], room: usize, n: usize) -> Answer
     ensures { Taught room n a.old a.new result }
 {
     if 64 < n {
-        return Answer::OutOfRange;
+        return Err(Refusal::OutOfRange);
     }
     let y = Layout::in_room(n, room);
-    let fault = y.check(0, a.len());
-    if fault.code() != 0 {
-        return fault;
-    }
+    y.check(0, a.len())?;
     of_order(y, a, n)
 }

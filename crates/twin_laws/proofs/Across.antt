@@ -1,4 +1,5 @@
 -- Row q of a batch is the twin of row p of an earlier batch: what `cholesky::extend` answers and leaves. Assumes nothing.
+use Rattle.std.specs.Prelude.{Err}
 use mathlib.Core.Path.{◌≡◌, refl, sym, ◌∙◌, ap, ap₂, subst}
 use mathlib.Core.Bool.{true, false}
 use mathlib.Core.List.{List}
@@ -6,9 +7,8 @@ use Prim.Native.Nat.{ℕ, ◌+◌, ◌≤◌, ◌<◌}
 use native.Mathlib.Omega.{arith}
 use lib.ListN.{length}
 use lib.Ieee.{Float, neg, lt, eq, is_nan}
-use Rattle.answer.specs.declared.Answer.{Answer}
-use Rattle.answer.specs.declared.Answer.TheVariants.{Done, CholeskyZero, CholeskyBelowZero, CholeskyNan}
-use Rattle.answer.specs.Number.{is_done}
+use Rattle.answer.specs.declared.Refusal.TheVariants.{CholeskyZero, CholeskyBelowZero, CholeskyNan}
+use Rattle.answer.specs.Answer.{Answer, Done, is_done}
 use Rattle.leaf.specs.Root.{root_of}
 use Rattle.matrix.specs.Matrix.{Matrix}
 use Rattle.matrix.specs.Loop.{for}
@@ -61,9 +61,9 @@ module _ (A L : Matrix) (p : ℕ) where
     -- q = p + 1: the crumb decides
     pub record Neighbours : Type 0 where
       -- zero (7), below zero (10) or NaN (11): row q is refused, and the crumb stays on its diagonal
-      pub is_zero : eq crumb plus_zero ≡ true → r ≡ CholeskyZero q
-      pub below_zero : lt crumb plus_zero ≡ true → r ≡ CholeskyBelowZero q
-      pub is_a_nan : is_nan crumb ≡ true → r ≡ CholeskyNan q
+      pub is_zero : eq crumb plus_zero ≡ true → r ≡ Err (CholeskyZero q)
+      pub below_zero : lt crumb plus_zero ≡ true → r ≡ Err (CholeskyBelowZero q)
+      pub is_a_nan : is_nan crumb ≡ true → r ≡ Err (CholeskyNan q)
       pub leaves : lt plus_zero crumb ≡ false → L q q ≡ crumb
       -- above zero: row q is accepted, and the crumb's root stands there
       pub accepted : lt plus_zero crumb ≡ true → Answered crate_rule (q + 1) n r

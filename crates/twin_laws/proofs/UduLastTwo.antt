@@ -4,6 +4,7 @@
 --     left_at_first        what a call refused at the first leaves
 --     udu_two              order 2: the whole answer
 --     twins_meet           the rows of a pair n − 2, n − 1 of `first_twin` meet in one number
+use Rattle.std.specs.Prelude.{Err}
 use mathlib.Core.Path.{◌≡◌, refl, sym, ◌∙◌, ap, ap₂, subst}
 use mathlib.Core.Bool.{Bool, true, false, cond, true≢false}
 use mathlib.Core.List.{List}
@@ -16,8 +17,8 @@ use lib.ListN.{get_or}
 use borrow.Author.Tests.{eq-eqb, ne_eqb, le-leb}
 use lib.Ieee.{Float, nan, inf, fin, binary64, of_bits, mul, div, eq, fits, is_nan, up}
 use lib.Ieee.Fits.{up_pos}
-use Rattle.answer.specs.declared.Answer.{Answer}
-use Rattle.answer.specs.declared.Answer.TheVariants.{Done, ZeroDiagonal}
+use Rattle.answer.specs.declared.Refusal.TheVariants.{ZeroDiagonal}
+use Rattle.answer.specs.Answer.{Answer, Done}
 use Rattle.matrix.specs.Matrix.{Matrix}
 use Rattle.matrix.specs.Loop.{for, falling}
 use Rattle.matrix.specs.Grid.{load}
@@ -53,8 +54,8 @@ rest x = x ⊖ (plus_zero ⊕ x ⊗ (side x ⊗ side x))
 
 -- by x alone: refused at the second twin, at the first, or at neither
 pub record Decided (n : ℕ) (x : Float) (r : Answer) : Type 0 where
-  pub second : eq x plus_zero ≡ true → r ≡ ZeroDiagonal (n - 1)
-  pub first : eq x plus_zero ≡ false → eq (rest x) plus_zero ≡ true → r ≡ ZeroDiagonal (n - 2)
+  pub second : eq x plus_zero ≡ true → r ≡ Err (ZeroDiagonal (n - 1))
+  pub first : eq x plus_zero ≡ false → eq (rest x) plus_zero ≡ true → r ≡ Err (ZeroDiagonal (n - 2))
   pub neither : eq x plus_zero ≡ false → eq (rest x) plus_zero ≡ false → Past (n - 2) r
 
 -- refused at the first: in d stands x, before it the zero found, before that zeros; in u the last column, (1/x)·p, and zeros
@@ -199,11 +200,11 @@ module _ {p u₀ d₀ u d : List Float} {n : ℕ} {x : Float} {r : Answer} (allo
       answered = (columned allowed call).answer
 
   -- x an f64; it is then finite and not zero
-  pub one_means_refused : T (fits binary64 x) → side x ≡ one → r ≡ ZeroDiagonal (n - 2)
+  pub one_means_refused : T (fits binary64 x) → side x ≡ one → r ≡ Err (ZeroDiagonal (n - 2))
   one_means_refused held back = let tests = by_one x held back in udu_last_two.first tests.0 tests.1
 
   -- only these tests refuse the first
-  first_only : r ≡ ZeroDiagonal (n - 2) → (eq x plus_zero ≡ false) × (eq (rest x) plus_zero ≡ true)
+  first_only : r ≡ Err (ZeroDiagonal (n - 2)) → (eq x plus_zero ≡ false) × (eq (rest x) plus_zero ≡ true)
   first_only is = by (eq x plus_zero) (eq (rest x) plus_zero) refl refl
     where
       by : (b c : Bool) → eq x plus_zero ≡ b → eq (rest x) plus_zero ≡ c → (eq x plus_zero ≡ false) × (eq (rest x) plus_zero ≡ true)
@@ -211,13 +212,13 @@ module _ {p u₀ d₀ u d : List Float} {n : ℕ} {x : Float} {r : Answer} (allo
       by false true e f = (e, f)
       by false false e f = absurd (not_from (udu_last_two.neither e f) (omega arith) is)
 
-  pub left_at_first : r ≡ ZeroDiagonal (n - 2) → LeftAtFirst n p x u d
+  pub left_at_first : r ≡ Err (ZeroDiagonal (n - 2)) → LeftAtFirst n p x u d
   left_at_first is =
       let tests = first_only is in
       left_by n p x twins (subst (λ (R : UduRun). Holding n (factors_of R) u d) (refused_first n p x twins tests.0 tests.1) (columned allowed call).slices)
 
 pub udu_two : {p u₀ d₀ u d : List Float} {x : Float} {r : Answer} → UduSized 2 p u₀ d₀ → LastTwins 2 p x → UduFactored p u₀ d₀ 2 r u d
-    → r ≡ cond (eq x plus_zero) (ZeroDiagonal 1) (cond (eq (rest x) plus_zero) (ZeroDiagonal 0) Done)
+    → r ≡ cond (eq x plus_zero) (Err (ZeroDiagonal 1)) (cond (eq (rest x) plus_zero) (Err (ZeroDiagonal 0)) Done)
 udu_two {x = x} {r = r} allowed twins call = by (eq x plus_zero) (eq (rest x) plus_zero) refl refl
   where
     decided : Decided 2 x r
@@ -227,7 +228,7 @@ udu_two {x = x} {r = r} allowed twins call = by (eq x plus_zero) (eq (rest x) pl
     past_all finished = refl
     past_all (refused_before less) = absurd (omega arith)
 
-    by : (b c : Bool) → eq x plus_zero ≡ b → eq (rest x) plus_zero ≡ c → r ≡ cond b (ZeroDiagonal 1) (cond c (ZeroDiagonal 0) Done)
+    by : (b c : Bool) → eq x plus_zero ≡ b → eq (rest x) plus_zero ≡ c → r ≡ cond b (Err (ZeroDiagonal 1)) (cond c (Err (ZeroDiagonal 0)) Done)
     by true c e f = decided.second e
     by false true e f = decided.first e f
     by false false e f = past_all (decided.neither e f)

@@ -1,17 +1,17 @@
 -- There is always an answer that meets the promise of `first_twin_since`. Assumes nothing.
-use Rattle.std.proofs.Common.{◌≡◌, ℕ, zero, suc, ◌<◌, ◌≤◌, List, sym, refl, ◌∙◌, true≢false, add-one, arith, below_none, below_more}
+use Rattle.std.proofs.Common.{◌≡◌, ℕ, zero, suc, ◌<◌, ◌≤◌, List, Option, Some, None, Ok, Err, sym, refl, add-one, arith, below_none, below_more, Float}
 use mathlib.Core.Bool.{Bool-discrete}
 use mathlib.Core.HLevel.{Discrete, dec→stable}
 use mathlib.Core.Logic.Dec
 use native.Mathlib.Decide.{ℕ_discrete, dec_le, map_dec}
-use lib.Ieee.{Float, nan, inf, fin}
+use lib.Ieee.{nan, inf, fin}
 use lib.IntN.{ℤ_discrete}
-use Rattle.answer.proofs.Done.{done_or_refused}
+use Rattle.answer.specs.Answer.{Answer}
 use Rattle.matrix.specs.Matrix.{Matrix}
-use Rattle.twins.specs.declared.Twin.{Twin}
-use Rattle.twins.specs.declared.Twin.TheVariants.{Nothing, Pair, Refused}
+use Rattle.twins.specs.declared.Pair.{Pair}
 use Rattle.twins.specs.Twins.{symmetric, Twins}
-use Rattle.twins.specs.First.{First, FirstTwinSince, rows_in, size_answer, none, pair}
+use Rattle.twins.specs.First.{Found, First, FirstTwinSince, rows_in, size_answer, none, pair}
+use Rattle.twins.proofs.Answered.{refused_by_size, found_in_size}
 
 -- ---- floats are equal or not
 
@@ -72,12 +72,12 @@ module _ (n : ℕ) (M : Matrix) (m : ℕ) where
       go (yes since) (no_one f) = no (λ again. f again.row again.before again.twins)
       go (no early) x = no (λ again. early again.since)
 
-  pub some_first : (t : Twin) × First n M m t
+  pub some_first : (t : Option Pair) × First n M m t
   some_first = go (search_least (Again n M m) again_or_not n)
     where
-      at : (q : ℕ) → q < n → Again n M m q → ((s : ℕ) → s < q → Again n M m s → ⊥) → Least (λ p. Twins n M p q) q → (t : Twin) × First n M m t
+      at : (q : ℕ) → q < n → Again n M m q → ((s : ℕ) → s < q → Again n M m s → ⊥) → Least (λ p. Twins n M p q) q → (t : Option Pair) × First n M m t
       at q h again earlier (least p apart twins nearest) = (
-        Pair p q,
+        Some (record { first = p; second = q }),
         pair (record {
           apart = apart;
           since = again.since;
@@ -89,12 +89,13 @@ module _ (n : ℕ) (M : Matrix) (m : ℕ) where
       )
       at q h again earlier (no_one f) = absurd (f again.row again.before again.twins)
 
-      go : Least (Again n M m) n → (t : Twin) × First n M m t
+      go : Least (Again n M m) n → (t : Option Pair) × First n M m t
       go (least q h again earlier) = at q h again earlier (first_before q)
-      go (no_one f) = (Nothing, none (λ r s before since below same. f s below (record { row = r; before = before; since = since; twins = same })))
+      go (no_one f) = (None, none (λ r s before since below same. f s below (record { row = r; before = before; since = since; twins = same })))
 
-pub some_first_twin_since : (l : List Float) (room m n : ℕ) → (t : Twin) × FirstTwinSince l room m n t
-some_first_twin_since l room m n =
-    done_or_refused (size_answer l room m n)
-    (λ fits. let some = some_first n (rows_in room n l) m in (some.0, record { refused = λ e. absurd (true≢false (sym fits ∙ e)); found = λ e. some.1 }))
-    (λ wrong. (Refused (size_answer l room m n), record { refused = λ e. refl; found = λ e. absurd (true≢false (sym e ∙ wrong)) }))
+pub some_first_twin_since : (l : List Float) (room m n : ℕ) → (t : Found) × FirstTwinSince l room m n t
+some_first_twin_since l room m n = by (size_answer l room m n) refl
+  where
+    by : (r : Answer) → size_answer l room m n ≡ r → (t : Found) × FirstTwinSince l room m n t
+    by (Ok done) fits = let some = some_first n (rows_in room n l) m in (Ok some.0, found_in_size (sym fits) some.1)
+    by (Err fault) wrong = (Err fault, refused_by_size (sym wrong))

@@ -24,22 +24,12 @@ fingerprints_differ {n} {M} {fingerprints} {p} {q} printed within differ = recor
 
 -- ---- fingerprints that are other ones
 
-apart_one : {fingerprints : List ℕ} {fingerprint p hi : ℕ} → hi ≡ p + 1 → (get_or fingerprints p 0 ≡ fingerprint → ⊥) → Apart fingerprints fingerprint p hi
-apart_one {fingerprints} {fingerprint} {p} next other = record {
-  each = λ i from below is. other (subst (λ (k : ℕ). get_or fingerprints k 0 ≡ fingerprint) (let here : i ≡ p = omega arith in here) is);
-}
-
 apart_join : {fingerprints : List ℕ} {fingerprint lo p hi : ℕ} → Apart fingerprints fingerprint lo p → Apart fingerprints fingerprint p hi → Apart fingerprints fingerprint lo hi
 apart_join {fingerprints} {fingerprint} {lo} {p} {hi} before after = record { each = λ i from below. by i from below (dec_lt i p) }
   where
     by : (i : ℕ) → lo ≤ i → i < hi → Dec (i < p) → get_or fingerprints i 0 ≡ fingerprint → ⊥
     by i from below (yes lt) = before.each i from lt
     by i from below (no nlt) = after.each i (omega arith) below
-
-pub apart_four : (fingerprints : List ℕ) (fingerprint p : ℕ) → (get_or fingerprints p 0 ≡ fingerprint → ⊥) → (get_or fingerprints (p + 1) 0 ≡ fingerprint → ⊥) → (get_or fingerprints (p + 2) 0 ≡ fingerprint → ⊥) → (get_or fingerprints (p + 3) 0 ≡ fingerprint → ⊥)
-    → Apart fingerprints fingerprint p (p + 4)
-apart_four fingerprints fingerprint p first second third fourth =
-    apart_join (apart_one refl first) (apart_join (apart_one (omega arith) second) (apart_join (apart_one (omega arith) third) (apart_one (omega arith) fourth)))
 
 pub passed_none : {fingerprints : List ℕ} {q : ℕ} → OthersPassed fingerprints q 0
 passed_none = record { upto = omega arith; apart = record { each = λ i from below. absurd (omega arith) } }

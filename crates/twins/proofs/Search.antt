@@ -1,7 +1,6 @@
 -- The search for the first pair. Assumes nothing.
-use Rattle.std.proofs.Common.{◌≡◌, ℕ, ◌+◌, ◌<◌, ◌≤◌, Bool, true, false, List, sym, refl, subst, ⊎_elim, eq-or-lt_of_le, arith, below_more}
+use Rattle.std.proofs.Common.{◌≡◌, ℕ, ◌+◌, ◌<◌, ◌≤◌, Bool, true, false, List, Some, None, sym, refl, subst, ⊎_elim, eq-or-lt_of_le, arith, below_more}
 use Rattle.matrix.specs.Matrix.{Matrix}
-use Rattle.twins.specs.declared.Twin.TheVariants.{Nothing, Pair}
 use Rattle.twins.specs.Twins.{Twins}
 use Rattle.twins.specs.inner.Fingerprints.{Fingerprinted, OthersPassed}
 use Rattle.twins.specs.First.{NoneBefore, NoneBetween, First, none, pair}
@@ -50,9 +49,9 @@ between_next {n} {M} {m} {q} {p} b within first past =
           (eq-or-lt_of_le (omega arith));
     }
 
-pub between_found : {n : ℕ} {M : Matrix} {m q p : ℕ} → Between n M m q → q < n → FirstBefore n M q p → p < q → First n M m (Pair p q)
+pub between_found : {n : ℕ} {M : Matrix} {m q p : ℕ} → Between n M m q → q < n → FirstBefore n M q p → p < q → First n M m (Some (record { first = p; second = q }))
 between_found b within first before =
     pair (record { apart = before; since = b.since; within = within; twins = first.twins before; least = b.least; nearest = first.nearest })
 
-pub between_all : {n : ℕ} {M : Matrix} {m q : ℕ} → Between n M m q → n ≤ q → First n M m Nothing
+pub between_all : {n : ℕ} {M : Matrix} {m q : ℕ} → Between n M m q → n ≤ q → First n M m None
 between_all b past = none (λ r s apart from h. b.least r s apart from (omega arith))

@@ -11,26 +11,27 @@ ghost use Rattle.twins.specs.inner.Search.{Told, FirstBefore};
 ghost use Rattle.twins.specs.Number.{twin_number};
 ghost use Rattle.twins.specs.inner.Fingerprints.{mixed, Fingerprinted, Brought, Cleared, Apart, OthersPassed};
 
-use answer::Answer;
+use answer::Refusal;
 use matrix::Layout;
 
-#[derive(Clone, Copy)]
-pub enum Twin {
-    Nothing,
-    // Rows first < second are twins.
-    Pair(u32, u32),
-    Refused(Answer),
+// Rows first < second are twins.
+#[derive(Clone, Copy, Debug, PartialEq, Eq)]
+pub struct Pair {
+    pub first: u32,
+    pub second: u32,
 }
 
-impl Twin {
-    pub fn number(self) -> u64
-        ensures { result ≡ twin_number self }
-    {
-        match self {
-            Twin::Nothing => 0,
-            Twin::Pair(first, second) => (4096 + (second as u64)) * 4096 + (first as u64),
-            Twin::Refused(answer) => answer.number(),
-        }
+// What a search answers: the first pair, none where no row has a twin, or a refusal.
+pub type Found = Result<Option<Pair>, Refusal>;
+
+// The one number of what was found: 0 for none, a refusal's own, and a pair's above all of those.
+pub fn number(found: Found) -> u64
+    ensures { result ≡ twin_number found }
+{
+    match found {
+        Ok(None) => 0,
+        Ok(Some(pair)) => (4096 + (pair.second as u64)) * 4096 + (pair.first as u64),
+        Err(refusal) => refusal.number(),
     }
 }
 
@@ -179,7 +180,7 @@ fn first_before(y: Layout, a: &[f64], fingerprints: &[u64], q: usize) -> usize
     p
 }
 
-fn first_pair(y: Layout, a: &[f64], fingerprints: &mut [u64], earlier: usize) -> Twin
+fn first_pair(y: Layout, a: &[f64], fingerprints: &mut [u64], earlier: usize) -> Option<Pair>
     requires laid { Laid y a.now }
     requires order_in_bounds { y.order ≤ length fingerprints.old }
     requires cleared { Cleared y.order fingerprints.old }
@@ -192,14 +193,17 @@ fn first_pair(y: Layout, a: &[f64], fingerprints: &mut [u64], earlier: usize) ->
     while q < n {
         let p = first_before(y, a, fingerprints, q);
         if p < q {
-            return Twin::Pair(p as u32, q as u32);
+            return Some(Pair {
+                first: p as u32,
+                second: q as u32,
+            });
         }
         q += 1;
     }
-    Twin::Nothing
+    None
 }
 
-fn first_of_few(y: Layout, a: &[f64], earlier: usize) -> Twin
+fn first_of_few(y: Layout, a: &[f64], earlier: usize) -> Option<Pair>
     requires laid { Laid y a.now }
     requires order_bound { y.order ≤ 32 }
     requires earlier_le_order { earlier ≤ y.order }
@@ -209,7 +213,7 @@ fn first_of_few(y: Layout, a: &[f64], earlier: usize) -> Twin
     first_pair(y, a, &mut fingerprints, earlier)
 }
 
-fn first_of_many(y: Layout, a: &[f64], earlier: usize) -> Twin
+fn first_of_many(y: Layout, a: &[f64], earlier: usize) -> Option<Pair>
     requires laid { Laid y a.now }
     requires earlier_le_order { earlier ≤ y.order }
     ensures { First y.order (load (lower y) a.now) earlier result }
@@ -219,28 +223,25 @@ fn first_of_many(y: Layout, a: &[f64], earlier: usize) -> Twin
 }
 
 // The first pair of twin rows, the second of them at or after `earlier`, of the symmetric matrix whose lower part stands in a layout.
-pub fn first_twin_on(y: Layout, a: &[f64], earlier: usize) -> Twin
+pub fn first_twin_on(y: Layout, a: &[f64], earlier: usize) -> Found
     ensures { FirstTwinOn y earlier a.now result }
 {
-    let answer = y.check(earlier, a.len());
-    if answer.code() != 0 {
-        return Twin::Refused(answer);
-    }
+    y.check(earlier, a.len())?;
     if y.order <= 32 {
-        return first_of_few(y, a, earlier);
+        return Ok(first_of_few(y, a, earlier));
     }
-    first_of_many(y, a, earlier)
+    Ok(first_of_many(y, a, earlier))
 }
 
 // The same of the first n rows of a room.
-pub fn first_twin_since(a: &[f64], room: usize, earlier: usize, n: usize) -> Twin
+pub fn first_twin_since(a: &[f64], room: usize, earlier: usize, n: usize) -> Found
     ensures { FirstTwinSince a.now room earlier n result }
 {
     first_twin_on(Layout::in_room(n, room), a, earlier)
 }
 
 // The first pair of twin rows of all n.
-pub fn first_twin(a: &[f64], room: usize, n: usize) -> Twin
+pub fn first_twin(a: &[f64], room: usize, n: usize) -> Found
     ensures { FirstTwin a.now room n result }
 {
     first_twin_since(a, room, 0, n)

@@ -4,6 +4,7 @@
 --     columned_all              after the first column
 --     refused_stays             a refusal stands
 -- Assumes nothing.
+use Rattle.std.specs.Prelude.{Err}
 use mathlib.Core.Bool.{Bool, true, false, cond}
 use mathlib.Core.List.{List}
 use mathlib.Core.Path.{◌≡◌, refl, sym, ◌∙◌, ap, ap₂, subst}
@@ -13,7 +14,8 @@ use lib.Dec.{eqb}
 use lib.ListN.{set}
 use lib.Seq.{ext_get_or}
 use lib.Ieee.{Float, nan, eq}
-use Rattle.answer.specs.declared.Answer.TheVariants.{Done, ZeroDiagonal}
+use Rattle.answer.specs.declared.Refusal.TheVariants.{ZeroDiagonal}
+use Rattle.answer.specs.Answer.{Done}
 use Rattle.matrix.specs.Matrix.{Matrix}
 use Rattle.matrix.specs.Loop.{falling}
 use Rattle.matrix.specs.Grid.{load}
@@ -104,7 +106,7 @@ module _ {p : List Float} {n : ℕ} (j : ℕ) {u₀ d₀ : List Float} (before :
     zeros = record { cells = λ i k row column. kept n j step.column (omega (arith, below)) i k row (λ e. omega arith) ∙ before.zeros.cells i k row (omega arith) };
   }
 
-  stopped : {u d : List Float} → ColumnStep n j p u₀ d₀ true u d → Columned n (udu_of n p) (ZeroDiagonal j) u d
+  stopped : {u d : List Float} → ColumnStep n j p u₀ d₀ true u d → Columned n (udu_of n p) (Err (ZeroDiagonal j)) u d
   unfolding udu_of udu_columns
   stopped {u} {d} step = record {
     answer = ap udu_answer whole;
@@ -125,5 +127,5 @@ module _ {p : List Float} {n k : ℕ} (j : ℕ) {u₀ d₀ u d : List Float} {r 
   pub accepted_on : r ≡ false → Reached p n j u d
   accepted_on e = reached j here (subst (λ (b : Bool). ColumnStep n j p u₀ d₀ b u d) e step)
 
-  pub refused_on : r ≡ true → Columned n (udu_of n p) (ZeroDiagonal j) u d
+  pub refused_on : r ≡ true → Columned n (udu_of n p) (Err (ZeroDiagonal j)) u d
   refused_on e = stopped j here (subst (λ (b : Bool). ColumnStep n j p u₀ d₀ b u d) e step)

@@ -1,24 +1,23 @@
 -- The promise of `factor` by the ways out of it. Assumes nothing.
 --     unfactored             a test fails: nothing is written
 --     factored, columned     the sizes are right: from what the columns leave, and back
-use mathlib.Core.Bool.{false}
+use Rattle.std.specs.Prelude.{Err}
 use mathlib.Core.List.{List}
-use mathlib.Core.Path.{◌≡◌, refl, sym, ◌∙◌, ap}
+use mathlib.Core.Path.{refl, sym, ◌∙◌, ap}
 use Prim.Native.Nat.{ℕ, ◌*◌}
 use borrow.Author.Tests.{le-leb, lt-ltb, eq-eqb}
 use lib.ListN.{length}
 use lib.Ieee.{Float}
-use Rattle.answer.specs.declared.Answer.{Answer}
-use Rattle.answer.specs.declared.Answer.TheVariants.{Done}
-use Rattle.answer.specs.Number.{is_done}
+use Rattle.answer.specs.declared.Refusal.{Refusal}
+use Rattle.answer.specs.Answer.{Answer, Done, is_done}
 use Rattle.answer.proofs.Tested.{AllHold, Fails, tested_all, tested_at, leaving_done, leaving_refused}
 use Rattle.udu.specs.Promise.{udu_tests, UduSized, udu_of, UduFactored}
 use Rattle.udu.specs.inner.Contracts.{Columned}
 
-pub unfactored : {p u d : List Float} {n : ℕ} (a : Answer) → is_done a ≡ false → Fails a (udu_tests n (length p) (length u) (length d)) → UduFactored p u d n a u d
-unfactored a refused fails = record {
+pub unfactored : {p u d : List Float} {n : ℕ} (fault : Refusal) → Fails fault (udu_tests n (length p) (length u) (length d)) → UduFactored p u d n (Err fault) u d
+unfactored fault fails = record {
   answer = sym (tested_at _ _ fails);
-  slices = leaving_refused (ap is_done (tested_at _ _ fails) ∙ refused) (record { upper = refl; diagonal = refl });
+  slices = leaving_refused (ap is_done (tested_at _ Done fails)) (record { upper = refl; diagonal = refl });
 }
 
 module _ {p u₀ d₀ : List Float} {n : ℕ} (right : UduSized n p u₀ d₀) where

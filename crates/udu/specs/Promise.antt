@@ -1,8 +1,8 @@
 -- What `factor` answers and leaves, on every input.
-use Rattle.std.specs.Prelude.{List, [], ◌∷◌, ◌≡◌, ℕ, ◌*◌, ◌≤◌, ◌<◌, leb, ltb, eqb, length, get_or, Float}
+use Rattle.std.specs.Prelude.{List, [], ◌∷◌, ◌≡◌, ℕ, ◌*◌, ◌≤◌, ◌<◌, leb, ltb, eqb, length, get_or, Float, Err}
 use Rattle.std.specs.Float.{nan}
-use Rattle.answer.specs.declared.Answer.{Answer}
-use Rattle.answer.specs.declared.Answer.TheVariants.{Done, OutOfRange, MatrixLength, SliceLength, ZeroDiagonal}
+use Rattle.answer.specs.declared.Refusal.TheVariants.{OutOfRange, MatrixLength, SliceLength, ZeroDiagonal}
+use Rattle.answer.specs.Answer.{Answer, Done}
 use Rattle.answer.specs.Refusals.{Test, ◌otherwise◌, tested, Leaving}
 use Rattle.matrix.specs.Grid.{load, mask}
 use Rattle.matrix.specs.Layouts.{upper, square, Fills}
@@ -33,7 +33,7 @@ udu_of n p = udu_columns n (load (upper n) p)
 
 abbrev pub udu_answer : UduRun → Answer
 udu_answer (accepted F) = Done
-udu_answer (refused j F) = ZeroDiagonal j
+udu_answer (refused j F) = Err (ZeroDiagonal j)
 
 abbrev pub factors_of : UduRun → Factors
 factors_of (accepted F) = F

@@ -5,7 +5,7 @@ ghost use Rattle.udu.specs.Columns.{nothing};
 ghost use Rattle.udu.specs.Promise.{UduSized, UduFactored, Holding, udu_of};
 ghost use Rattle.udu.specs.inner.Contracts.{Columned};
 
-use answer::Answer;
+use answer::{Answer, Refusal};
 
 mod column;
 
@@ -14,20 +14,20 @@ pub fn factor(p: &[f64], u: &mut [f64], d: &mut [f64], n: usize) -> Answer
     ensures { UduFactored p.now u.old d.old n result u.new d.new }
 {
     if 1024 < n {
-        return Answer::OutOfRange;
+        return Err(Refusal::OutOfRange);
     }
     if n == 0 {
-        return Answer::OutOfRange;
+        return Err(Refusal::OutOfRange);
     }
     let size = n * n;
     if p.len() != size {
-        return Answer::MatrixLength;
+        return Err(Refusal::MatrixLength);
     }
     if u.len() != size {
-        return Answer::SliceLength;
+        return Err(Refusal::SliceLength);
     }
     if d.len() != n {
-        return Answer::SliceLength;
+        return Err(Refusal::SliceLength);
     }
     strips::clear(d, 0, 0, n);
     strips::clear(u, 0, 0, size);
@@ -42,13 +42,13 @@ fn columns(p: &[f64], u: &mut [f64], d: &mut [f64], n: usize) -> Answer
 {
     let mut j = n - 1;
     if column::last(p, u, d, n) {
-        return Answer::ZeroDiagonal(j as u32);
+        return Err(Refusal::ZeroDiagonal(j as u32));
     }
     while 0 < j {
         j -= 1;
         if column::further(p, u, d, j, n) {
-            return Answer::ZeroDiagonal(j as u32);
+            return Err(Refusal::ZeroDiagonal(j as u32));
         }
     }
-    Answer::Done
+    Ok(())
 }

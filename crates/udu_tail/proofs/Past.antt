@@ -1,11 +1,12 @@
 -- A run past column m stays so. Assumes nothing.
+use Rattle.std.specs.Prelude.{Err}
 use mathlib.Core.Bool.{Bool, true, false}
 use mathlib.Core.Path.{◌≡◌}
 use Prim.Native.Nat.{ℕ, ◌≤◌, ◌<◌}
 use native.Mathlib.Omega.{arith}
 use lib.Ieee.{Float, eq}
-use Rattle.answer.specs.declared.Answer.{Answer}
-use Rattle.answer.specs.declared.Answer.TheVariants.{ZeroDiagonal}
+use Rattle.answer.specs.declared.Refusal.TheVariants.{ZeroDiagonal}
+use Rattle.answer.specs.Answer.{Answer}
 use Rattle.matrix.specs.Matrix.{Matrix}
 use Rattle.matrix.specs.Loop.{falling}
 use Rattle.matrix.specs.Rounded.{plus_zero}
@@ -15,7 +16,7 @@ use Rattle.udu.specs.Promise.{udu_answer}
 use Rattle.udu_tail.specs.Tail.{Past, finished, refused_before}
 
 -- refused neither at m nor at a column behind it
-pub not_from : {m j : ℕ} {r : Answer} → Past m r → m ≤ j → r ≡ ZeroDiagonal j → ⊥
+pub not_from : {m j : ℕ} {r : Answer} → Past m r → m ≤ j → r ≡ Err (ZeroDiagonal j) → ⊥
 not_from finished from e = let z : ◌≡◌ {A = ℕ} 0 1 = cc in omega arith
 not_from {m} {j} (refused_before {j = i} less) from e = let same : i ≡ j = cc in omega arith
 

@@ -1,5 +1,6 @@
 -- The run on the block of rows and columns m to n − 1, and the run on the whole. Assumes nothing.
 --     block_run     the block's factors are those rows and columns of the whole's; the two answers
+use Rattle.std.specs.Prelude.{Err}
 use mathlib.Core.Bool.{Bool, true, false, cond, ◌&&◌}
 use mathlib.Core.Path.{◌≡◌, refl, sym, ◌∙◌, ap, ap₂, subst, fun_ext}
 use Prim.Native.Nat.{ℕ, ◌+◌, ◌-◌, ◌≤◌, ◌<◌}
@@ -8,7 +9,7 @@ use borrow.Author.Tests.{ne_eqb}
 use lib.Dec.{T, leb, leb→le, eqb}
 use lib.Ieee.{Float, eq}
 use lib.Ieee.Fits.{and_r}
-use Rattle.answer.specs.declared.Answer.TheVariants.{ZeroDiagonal}
+use Rattle.answer.specs.declared.Refusal.TheVariants.{ZeroDiagonal}
 use Rattle.answer.proofs.Tests.{where_tested, eqb_shift, leb_shift}
 use Rattle.matrix.specs.Matrix.{Matrix}
 use Rattle.matrix.specs.Loop.{for, falling}
@@ -127,8 +128,8 @@ module _ (m w n : ℕ) (sum : m + w ≡ n) (P Q : Matrix) (same : (i j : ℕ) �
   block_by_law B S (both_accepted F) = (sym (tail_stays n P m (accepted F)), block_done (past_more n P m (accepted F) finished))
   block_by_law B S (both_refused j F) =
       let place : m + j - m ≡ j = omega arith in
-      subst (λ (R : UduRun). (tail m F ≡ tail m (factors_of R)) × Beside m (udu_answer R) (ZeroDiagonal j)) (sym (refused_stays n P m (m + j) F))
-      (refl, subst (λ (k : ℕ). Beside m (ZeroDiagonal (m + j)) (ZeroDiagonal k)) place (block_refused (omega arith)))
+      subst (λ (R : UduRun). (tail m F ≡ tail m (factors_of R)) × Beside m (udu_answer R) (Err (ZeroDiagonal j))) (sym (refused_stays n P m (m + j) F))
+      (refl, subst (λ (k : ℕ). Beside m (Err (ZeroDiagonal (m + j))) (Err (ZeroDiagonal k))) place (block_refused (omega arith)))
 
   pub block_run : (factors_of (udu_columns w Q) ≡ tail m (factors_of (udu_columns n P))) × Beside m (udu_answer (udu_columns n P)) (udu_answer (udu_columns w Q))
   block_run =

@@ -1,13 +1,14 @@
 -- UDU of the block of rows and columns m to n − 1 beside UDU of the whole, for calls that meet the promise of `udu::factor`. Assumes nothing.
 --     keeps_tail        what the call on the block answers and leaves
 --     tail_suffices     what is kept of the whole meets the promise of the call on the block
+use Rattle.std.specs.Prelude.{Err}
 use mathlib.Core.List.{List}
 use mathlib.Core.Path.{◌≡◌, refl, sym, ◌∙◌, ap, subst}
 use Prim.Native.Nat.{ℕ, ◌+◌, ◌-◌, ◌≤◌, ◌<◌}
 use native.Mathlib.Omega.{arith}
 use lib.Ieee.{Float}
-use Rattle.answer.specs.declared.Answer.{Answer}
-use Rattle.answer.specs.declared.Answer.TheVariants.{ZeroDiagonal}
+use Rattle.answer.specs.declared.Refusal.TheVariants.{ZeroDiagonal}
+use Rattle.answer.specs.Answer.{Answer}
 use Rattle.matrix.specs.Grid.{load}
 use Rattle.matrix.specs.Layouts.{upper}
 use Rattle.matrix.proofs.Places.{square_at}
@@ -30,9 +31,9 @@ holding_as {n} {F} {G} {u} h upper diagonal = record {
 }
 
 -- the answer to the whole fixes the answer to the block
-beside_refused : {m j : ℕ} {r s : Answer} → Beside m r s → m ≤ j → r ≡ ZeroDiagonal j → s ≡ ZeroDiagonal (j - m)
+beside_refused : {m j : ℕ} {r s : Answer} → Beside m r s → m ≤ j → r ≡ Err (ZeroDiagonal j) → s ≡ Err (ZeroDiagonal (j - m))
 beside_refused (block_done past) from e = absurd (not_from past from e)
-beside_refused {m} {j} (block_refused {j = k} from') from e = let same : k ≡ j = cc in ap (λ (i : ℕ). ZeroDiagonal (i - m)) same
+beside_refused {m} {j} (block_refused {j = k} from') from e = let same : k ≡ j = cc in ap (λ (i : ℕ). Err (ZeroDiagonal (i - m))) same
 
 beside_once : {m : ℕ} {r s s' : Answer} → Beside m r s → Beside m r s' → s ≡ s'
 beside_once (block_done past) (block_done past') = refl

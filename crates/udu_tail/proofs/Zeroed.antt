@@ -1,4 +1,5 @@
 -- What a call that is refused at column j leaves up to that column. Assumes nothing.
+use Rattle.std.specs.Prelude.{Err}
 use mathlib.Core.Bool.{Bool, true, false}
 use mathlib.Core.List.{List}
 use mathlib.Core.Path.{◌≡◌, refl, sym, ◌∙◌, ap, subst}
@@ -6,8 +7,8 @@ use Prim.Native.Nat.{ℕ, suc, ◌+◌, ◌<◌}
 use native.Mathlib.Omega.{arith}
 use borrow.Author.Tests.{eq-eqb, ne_eqb}
 use lib.Ieee.{Float, eq}
-use Rattle.answer.specs.declared.Answer.{Answer}
-use Rattle.answer.specs.declared.Answer.TheVariants.{ZeroDiagonal}
+use Rattle.answer.specs.declared.Refusal.TheVariants.{ZeroDiagonal}
+use Rattle.answer.specs.Answer.{Answer}
 use Rattle.matrix.specs.Matrix.{Matrix}
 use Rattle.matrix.specs.Grid.{load}
 use Rattle.matrix.specs.Layouts.{upper}
@@ -62,11 +63,11 @@ module _ (n : ℕ) (P : Matrix) where
       falling_keeps (Left n) n (udu_column n P) (accepted nothing) (record { d = λ k less. refl; u = λ i k less. refl })
       (λ j R below is. left_column j R below is)
 
-stopped_at : (n j : ℕ) (R : UduRun) → Left n 0 R → udu_answer R ≡ ZeroDiagonal j → Stopped n j (factors_of R)
+stopped_at : (n j : ℕ) (R : UduRun) → Left n 0 R → udu_answer R ≡ Err (ZeroDiagonal j) → Stopped n j (factors_of R)
 stopped_at n j (accepted F) clear e = absurd (let z : ◌≡◌ {A = ℕ} 0 1 = cc in omega arith)
 stopped_at n j (refused k F) stopped e = let same : k ≡ j = cc in subst (λ (i : ℕ). Stopped n i F) same stopped
 
-pub zeroed : {p u₀ d₀ u d : List Float} {n j : ℕ} {r : Answer} → UduSized n p u₀ d₀ → UduFactored p u₀ d₀ n r u d → r ≡ ZeroDiagonal j → Zeroed n j u d
+pub zeroed : {p u₀ d₀ u d : List Float} {n j : ℕ} {r : Answer} → UduSized n p u₀ d₀ → UduFactored p u₀ d₀ n r u d → r ≡ Err (ZeroDiagonal j) → Zeroed n j u d
 unfolding udu_of
 zeroed {p} {u = u} {d = d} {n = n} {j = j} sized call is = record {
   within = stopped.within;

@@ -1,10 +1,10 @@
 -- UDU of a block beside UDU of the whole, as the promise of `udu::factor` gives them. The block is rows and columns m to n − 1: its entry (i, k) is
 -- the whole's (m + i, m + k).
-use Rattle.std.specs.Prelude.{true, List, ◌≡◌, ℕ, ◌+◌, ◌-◌, ◌≤◌, ◌<◌, get_or, Float}
+use Rattle.std.specs.Prelude.{true, List, ◌≡◌, ℕ, ◌+◌, ◌-◌, ◌≤◌, ◌<◌, get_or, Float, Err}
 use Rattle.std.specs.Float.{nan}
 use Rattle.std.specs.Float.Ieee.{eq}
-use Rattle.answer.specs.declared.Answer.{Answer}
-use Rattle.answer.specs.declared.Answer.TheVariants.{Done, ZeroDiagonal}
+use Rattle.answer.specs.declared.Refusal.TheVariants.{ZeroDiagonal}
+use Rattle.answer.specs.Answer.{Answer, Done}
 use Rattle.matrix.specs.Grid.{load}
 use Rattle.matrix.specs.Layouts.{upper, square}
 use Rattle.matrix.specs.Rounded.{plus_zero}
@@ -18,12 +18,12 @@ pub record BlockOf (n m : ℕ) (p q : List Float) : Type 0 where
 -- the call goes past column m: it is done, or refused at a column before m
 pub data Past (m : ℕ) : Answer → Type 0 where
   finished : Past m Done
-  refused_before : {j : ℕ} → j < m → Past m (ZeroDiagonal j)
+  refused_before : {j : ℕ} → j < m → Past m (Err (ZeroDiagonal j))
 
 -- the answer to the block beside the answer to the whole
 pub data Beside (m : ℕ) : Answer → Answer → Type 0 where
   block_done : {r : Answer} → Past m r → Beside m r Done
-  block_refused : {j : ℕ} → m ≤ j → Beside m (ZeroDiagonal j) (ZeroDiagonal (j - m))
+  block_refused : {j : ℕ} → m ≤ j → Beside m (Err (ZeroDiagonal j)) (Err (ZeroDiagonal (j - m)))
 
 -- the block's rows and columns of what stands in u and d
 abbrev pub tail_in : ℕ → ℕ → List Float → List Float → Factors
@@ -42,4 +42,4 @@ pub record KeepsTail (n m : ℕ) (r : Answer) (u d : List Float) (s : Answer) (v
   -- accepted or refused, the block's slices are its rows and columns of the whole's, and nothing else
   pub slices : Holding (n - m) (tail_in n m u d) v e
   -- so that both, refused, hold zeros up to the same column
-  pub refused : (j : ℕ) → m ≤ j → r ≡ ZeroDiagonal j → Zeroed n j u d × Zeroed (n - m) (j - m) v e
+  pub refused : (j : ℕ) → m ≤ j → r ≡ Err (ZeroDiagonal j) → Zeroed n j u d × Zeroed (n - m) (j - m) v e

@@ -1,15 +1,9 @@
 -- The places that Cholesky's calls answer. Assumes nothing.
-use mathlib.Core.List.{List}
-use mathlib.Core.Path.{refl, sym, subst}
-use Prim.Native.Nat.{ℕ, ◌≤◌}
-use native.Mathlib.Omega.{arith}
-use lib.Dec.{leb}
-use lib.ListN.{length}
-use lib.Ieee.{Float}
+use Rattle.std.proofs.Common.{Result, Ok, Err, List, refl, sym, subst, ℕ, ◌≤◌, arith, leb, length, Float}
 use borrow.Author.Tests.{leb-true}
-use Rattle.answer.specs.declared.Answer.{Answer}
-use Rattle.answer.specs.declared.Answer.TheVariants.{Done, OutOfRange}
-use Rattle.answer.specs.declared.Valued.{Valued}
+use Rattle.answer.specs.declared.Refusal.{Refusal}
+use Rattle.answer.specs.declared.Refusal.TheVariants.{OutOfRange}
+use Rattle.answer.specs.Answer.{Answer, Done}
 use Rattle.answer.specs.Refusals.{tested}
 use Rattle.answer.proofs.Done.{done_is, done_or_refused}
 use Rattle.answer.proofs.Within.{Within, within_none, within_test, within_tested}
@@ -53,7 +47,7 @@ pub taught_within : {room n : ℕ} {l₀ l : List Float} {r : Answer} → Taught
 unfolding tested
 taught_within {room} {n} {l₀} x =
     subst (Within 1024) (sym x.answer)
-    (within_test 1024 (leb n 64) (tested (size_tests (in_room n room) 0 (length l₀)) (batch (in_room n room) 0 l₀).answer) OutOfRange
+    (within_test 1024 (leb n 64) (tested (size_tests (in_room n room) 0 (length l₀)) (batch (in_room n room) 0 l₀).answer) (Err OutOfRange)
     (λ small. sizes_within (in_room n room) 0 (length l₀) _ (columns_within crate_names 0 n (load (lower (in_room n room)) l₀)))
     (λ large. omega arith))
 
@@ -70,8 +64,8 @@ copied_within {y} {a} {l₀} x =
 pub unpacked_within : {y : Layout} {l₀ l : List Float} {r : Answer} → Unpacked y l₀ l r → Within 1024 r
 unpacked_within {y} {l₀} x = subst (Within 1024) (sym x.answer) (sizes_within y 0 (length l₀) Done (within_none y.order))
 
-pub determined_within : {y : Layout} {l : List Float} {r : Valued} → CholeskyDetermined y l r → Within 1024 r.answer
-determined_within {y} {l} x = subst (Within 1024) (sym x.answer) (sizes_within y 0 (length l) Done (within_none y.order))
+pub determined_within : {y : Layout} {l : List Float} {r : Result Float Refusal} → CholeskyDetermined y l r → Within 1024 r
+determined_within {y} {l} x = subst (Within 1024) (sym x.answer) (sizes_within y 0 (length l) (Ok _) (within_none y.order))
 
 pub grown_within : {m n : ℕ} {old rows fresh fresh' : List Float} {r : Answer} → Grown m n old rows fresh r fresh' → Within 1024 r
 grown_within {m} {n} {old} {rows} {fresh} x =

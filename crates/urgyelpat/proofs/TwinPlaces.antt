@@ -1,38 +1,37 @@
 -- The rows and the places that `first_twin_on` answers. Assumes nothing.
-use mathlib.Core.Bool.{true}
-use mathlib.Core.List.{List}
-use mathlib.Core.Path.{◌≡◌, sym, subst}
-use Prim.Native.Nat.{ℕ, ◌≤◌, ◌<◌}
-use native.Mathlib.Omega.{arith}
-use lib.ListN.{length}
-use lib.Ieee.{Float}
-use Rattle.answer.specs.declared.Answer.TheVariants.{Done}
-use Rattle.answer.specs.Number.{is_done}
-use Rattle.answer.proofs.Done.{done_or_refused}
+use Rattle.std.proofs.Common.{◌≡◌, true, List, ℕ, ◌≤◌, ◌<◌, Float, length, Option, None, Some, Ok, Err, IsOkAnd, refl, sym, ap, subst, arith}
+use Rattle.answer.specs.Answer.{Answer, Done, is_done}
+use Rattle.answer.specs.Number.{refusal_place}
 use Rattle.answer.proofs.Within.{Within, within_none}
 use Rattle.matrix.specs.Matrix.{Matrix}
+use Rattle.matrix.specs.Grid.{load}
+use Rattle.matrix.specs.Layouts.{lower}
 use Rattle.matrix.specs.declared.Layout.{Layout}
 use Rattle.matrix.specs.Sizes.{sizes_of}
 use Rattle.matrix.proofs.Sizes.{done_fits, sizes_within}
-use Rattle.twins.specs.declared.Twin.{Twin}
-use Rattle.twins.specs.declared.Twin.TheVariants.{Nothing, Pair, Refused}
-use Rattle.twins.specs.First.{First, FirstTwinOn, none, pair}
+use Rattle.twins.specs.declared.Pair.{Pair}
+use Rattle.twins.specs.First.{Found, First, FirstTwinOn, none, pair}
 
 -- the first row of a pair, or the place of a refusal, is at most 1,024
-abbrev pub Small : Twin → Type 0
-Small Nothing = Unit {0}
-Small (Pair p q) = p ≤ 1024
-Small (Refused r) = Within 1024 r
+abbrev pub Small : Found → Type 0
+Small (Ok None) = Unit {0}
+Small (Ok (Some rows)) = rows.first ≤ 1024
+Small (Err refusal) = refusal_place refusal ≤ 1024
 
 order_small : (y : Layout) (m : ℕ) (l : List Float) → is_done (sizes_of y m l) ≡ true → y.order ≤ 1024
 order_small y m l done = let roomy = (done_fits y m (length l) Done done).roomy in omega (arith, roomy.ordered, roomy.small)
 
-first_small : {n : ℕ} {M : Matrix} {m : ℕ} {t : Twin} → n ≤ 1024 → First n M m t → Small t
+first_small : {n : ℕ} {M : Matrix} {m : ℕ} {t : Option Pair} → n ≤ 1024 → First n M m t → Small (Ok t)
 first_small small (none a) = tt
 first_small small (pair {p} {q} f) = let rows : p < q = f.apart in let last : q < _ = f.within in omega (arith, rows, last, small)
 
-pub twin_small : (y : Layout) (m : ℕ) (l : List Float) {t : Twin} → FirstTwinOn y m l t → Small t
-twin_small y m l x =
-    done_or_refused (sizes_of y m l)
-    (λ fits. first_small (order_small y m l fits) (x.found fits))
-    (λ wrong. subst Small (sym (x.refused wrong)) (sizes_within y m (length l) Done (within_none y.order)))
+found_small : (n : ℕ) (M : Matrix) (m : ℕ) (r : Found) → n ≤ 1024 → IsOkAnd r (First n M m) → Small r
+found_small n M m (Ok t) small first = first_small small first
+found_small n M m (Err refusal) small never = absurd never
+
+pub twin_small : (y : Layout) (m : ℕ) (l : List Float) {r : Found} → FirstTwinOn y m l r → Small r
+twin_small y m l {r = r} x = by (sizes_of y m l) refl
+  where
+    by : (sizes : Answer) → sizes_of y m l ≡ sizes → Small r
+    by (Ok done) fits = found_small y.order (load (lower y) l) m r (order_small y m l (ap is_done fits)) (x.found (ap is_done fits))
+    by (Err refusal) wrong = subst Small (sym (x.refused wrong)) (subst (Within 1024) wrong (sizes_within y m (length l) Done (within_none y.order)))

@@ -1,15 +1,8 @@
 -- Two results that meet the promise of an exported call on one input are equal, and so are the slices; for calls that both layouts have, of any layout.
 -- Assumes nothing.
-use mathlib.Core.List.{List}
-use mathlib.Core.Path.{◌≡◌, sym, ◌∙◌, ap}
-use Prim.Native.Nat.{ℕ}
-use lib.IntN.{ℤ}
-use lib.Ieee.{Float}
-use Rattle.answer.specs.declared.Answer.{Answer}
-use Rattle.answer.specs.declared.Valued.{Valued}
+use Rattle.std.proofs.Common.{List, ◌≡◌, sym, ◌∙◌, ap, ℕ, ℤ, Float}
 use Rattle.matrix.specs.declared.Layout.{Layout}
-use Rattle.pivots_lapack.specs.declared.Listed as lapack
-use Rattle.pivots_lapack.proofs.Once.{WrittenOnce, read_once, written_once}
+use Rattle.pivots_lapack.proofs.Once.{read_once, written_once}
 use Rattle.lblt.proofs.Done as lblt
 use Rattle.lblt_read.proofs.Once.{determined_once, filled_once}
 use Rattle.lblt_solve.proofs.Once.{solved_once}
@@ -44,12 +37,6 @@ use Rattle.urgyelpat.specs.Calls.{UduFactor, PackedCholeskyExtend}
 passed_same : {A B : Type 0} {numbers : A → B} {G H : A → Type 0} {r s : B} (p : Passed numbers G r) (q : Passed numbers H s) → p.below ≡ q.below → r ≡ s
 passed_same {numbers = numbers} p q e = p.result ∙ ap numbers e ∙ sym q.result
 
-abbrev valued_by : Answer → Float → Valued
-valued_by answer value = record { answer = answer; value = value }
-
-valued_same : {v w : Valued} → (v.answer ≡ w.answer) × (v.value ≡ w.value) → v ≡ w
-valued_same {v} {w} (answer, value) = ap (λ (x : Answer). valued_by x v.value) answer ∙ ap (valued_by w.answer) value
-
 -- ---- LBLT
 
 module _ {y : Layout} {run : ℕ} {a : List Float} {words : List ℕ} where
@@ -64,7 +51,7 @@ module _ {y : Layout} {run : ℕ} {a : List Float} {words : List ℕ} where
       (passed_same p q same.0, same.1)
 
   pub lblt_determinant_unique : {r s : Determined} → DeterminantOn y run a words r → DeterminantOn y run a words s → r ≡ s
-  lblt_determinant_unique p q = passed_same p q (valued_same (determined_once p.given q.given))
+  lblt_determinant_unique p q = passed_same p q (determined_once p.given q.given)
 
 pub lblt_tray_unique
     : {n count : ℕ} {a : List Float} {words : List ℕ} {b : List Float} {runs answers : List ℕ} {r s : ℕ} {a₁ a₂ : List Float} {words₁ words₂ : List ℕ} {b₁ b₂ : List Float} {answers₁ answers₂ : List ℕ}
@@ -112,20 +99,12 @@ pivots_from_lapack_unique p q =
     let same = read_once p.given q.given in
     (passed_same p q same.0, same.1)
 
-abbrev listed_by : Answer → ℤ → ℕ → lapack.Listed
-listed_by answer info run = record { answer = answer; info = info; run = run }
-
-listed_same : {v w : lapack.Listed} {list₁ list₂ : List ℤ} → WrittenOnce v w list₁ list₂ → v ≡ w
-listed_same {v} {w} once =
-    ap (λ (x : Answer). listed_by x v.info v.run) once.answer ∙ ap (λ (x : ℤ). listed_by w.answer x v.run) once.info
-    ∙ ap (listed_by w.answer w.info) once.run
-
 pub pivots_to_lapack_unique
     : {n : ℕ} {words : List ℕ} {list list₁ list₂ : List ℤ} {r s : Listed} → PivotsToLapack n words list r list₁ → PivotsToLapack n words list s list₂
     → (r ≡ s) × (list₁ ≡ list₂)
 pivots_to_lapack_unique p q =
-    let once = written_once p.given q.given in
-    (passed_same p q (listed_same once), once.numbers)
+    let same = written_once p.given q.given in
+    (passed_same p q same.0, same.1)
 
 -- ---- Cholesky
 
@@ -164,7 +143,7 @@ module _ {room n : ℕ} {a : List Float} where
       (passed_same p q same.0, same.1)
 
   pub cholesky_determinant_unique : {r s : Determined} → CholeskyDeterminant room n a r → CholeskyDeterminant room n a s → r ≡ s
-  cholesky_determinant_unique p q = passed_same p q (valued_same (determined_unique p.given q.given))
+  cholesky_determinant_unique p q = passed_same p q (determined_unique p.given q.given)
 
 -- ---- UDU and twins
 

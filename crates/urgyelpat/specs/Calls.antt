@@ -1,6 +1,6 @@
 -- What each exported call promises: the numbers of an answer that, with the slices at exit, meets the promise of the call below.
 use Rattle.std.specs.Prelude.{List, ℕ, ℤ, Float}
-use Rattle.answer.specs.declared.Answer.{Answer}
+use Rattle.answer.specs.Answer.{Answer}
 use Rattle.answer.specs.Number.{number_of}
 use Rattle.matrix.specs.declared.Layout.{Layout}
 use Rattle.matrix.specs.Grid.{load}
@@ -83,7 +83,7 @@ abbrev pub HandheldFactor : Matrix3 → Factored3 → Type 0
 HandheldFactor matrix r = Passed factored3_of (FactoredByValue matrix.column) r
 
 abbrev pub HandheldSolve : Matrix3 → Pivots3 → Column3 → Solved3 → Type 0
-HandheldSolve matrix pivots side r = Passed solved3_of (SolvedByValue matrix.column pivots side) r
+HandheldSolve matrix pivots side r = Passed (solved3_of side) (SolvedByValue matrix.column pivots side) r
 
 -- ---- LAPACK pivot lists
 

@@ -9,8 +9,9 @@ ghost use Rattle.urgyelpat.specs.Calls.{CholeskyExtend, CholeskyExtendFloored, C
 ghost use Rattle.urgyelpat.specs.Calls.{UduFactor, FirstTwinPair};
 ghost use Rattle.urgyelpat.specs.Calls.{PackedLbltFactor, PackedLbltSolve, PackedLbltDeterminant, PackedCholeskyFactor, PackedCholeskyExtend, PackedCholeskySolve, PackedFirstTwin};
 
-use answer::Valued;
+use answer::Refusal;
 use handheld::{Column3, Pivots3};
+use pivots_lapack::Stamp;
 
 // A determinant, +0 where refused, and the number of its answer.
 #[repr(C)]
@@ -20,13 +21,15 @@ pub struct Determined {
     pub value: f64,
 }
 
-fn numbered(valued: Valued) -> Determined
-    ensures { result ≡ determined_of valued }
+fn numbered(determinant: Result<f64, Refusal>) -> Determined
+    ensures { result ≡ determined_of determinant }
 {
-    let answer = valued.answer;
-    Determined {
-        answer: answer.number(),
-        value: valued.value,
+    match determinant {
+        Ok(value) => Determined { answer: 0, value },
+        Err(refusal) => Determined {
+            answer: refusal.number(),
+            value: 0.0,
+        },
     }
 }
 
@@ -39,14 +42,20 @@ pub struct Listed {
     pub run: u32,
 }
 
-fn list_numbered(list: pivots_lapack::Listed) -> Listed
+fn list_numbered(list: Result<Stamp, Refusal>) -> Listed
     ensures { result ≡ listed_of list }
 {
-    let answer = list.answer;
-    Listed {
-        answer: answer.number(),
-        info: list.info,
-        run: list.run,
+    match list {
+        Ok(stamp) => Listed {
+            answer: 0,
+            info: stamp.info,
+            run: stamp.run,
+        },
+        Err(refusal) => Listed {
+            answer: refusal.number(),
+            info: 0,
+            run: 0,
+        },
     }
 }
 
@@ -61,9 +70,8 @@ pub struct Floored {
 fn floored_numbered(floored: cholesky::Floored) -> Floored
     ensures { result ≡ floored_of floored }
 {
-    let answer = floored.answer;
     Floored {
-        answer: answer.number(),
+        answer: answer::number(floored.answer),
         used: floored.used as u64,
     }
 }
@@ -77,7 +85,7 @@ pub extern "C" fn urgyelpat_lblt_factor(
 ) -> u64
     ensures { LbltFactor n run a.old «record».old result a.new «record».new }
 {
-    lblt::factor(a, record, n, run).number()
+    answer::number(lblt::factor(a, record, n, run))
 }
 
 #[unsafe(no_mangle)]
@@ -91,7 +99,7 @@ pub extern "C" fn urgyelpat_lblt_solve(
 ) -> u64
     ensures { LbltSolve n columns run a.now «record».now b.old result b.new }
 {
-    lblt_solve::solve_mut(a, record, b, n, columns, run).number()
+    answer::number(lblt_solve::solve_mut(a, record, b, n, columns, run))
 }
 
 // The columns of b whose number in `benches` is `bench`.
@@ -108,7 +116,7 @@ pub extern "C" fn urgyelpat_lblt_solve_bench(
 ) -> u64
     ensures { LbltSolveBench n columns bench run a.now «record».now b.old benches.now result b.new }
 {
-    lblt_bench::solve_bench(a, record, b, benches, n, columns, bench, run).number()
+    answer::number(lblt_bench::solve_bench(a, record, b, benches, n, columns, bench, run))
 }
 
 // `count` systems of order n, each factored and solved; the number of each one's answer goes to `answers`.
@@ -124,7 +132,7 @@ pub extern "C" fn urgyelpat_lblt_tray(
 ) -> u64
     ensures { LbltTray n count a.old records.old b.old runs.now answers.old result a.new records.new b.new answers.new }
 {
-    lblt_tray::tray(a, records, b, runs, answers, n, count).number()
+    answer::number(lblt_tray::tray(a, records, b, runs, answers, n, count))
 }
 
 #[unsafe(no_mangle)]
@@ -149,7 +157,7 @@ pub extern "C" fn urgyelpat_lblt_d(
 ) -> u64
     ensures { LbltD n run a.now «record».now d.old result d.new }
 {
-    lblt_read::d(a, record, d, n, run).number()
+    answer::number(lblt_read::d(a, record, d, n, run))
 }
 
 #[unsafe(no_mangle)]
@@ -162,7 +170,7 @@ pub extern "C" fn urgyelpat_lblt_l_permuted(
 ) -> u64
     ensures { LbltLPermuted n run a.now «record».now l.old result l.new }
 {
-    lblt_read::l_permuted(a, record, l, n, run).number()
+    answer::number(lblt_read::l_permuted(a, record, l, n, run))
 }
 
 // Three columns of three numbers.
@@ -211,13 +219,15 @@ pub extern "C" fn urgyelpat_handheld_solve(
 ) -> Solved3
     ensures { HandheldSolve matrix pivots side result }
 {
-    let given = matrix.column;
-    let solved = handheld::solve(given, pivots, side);
-    let answer = solved.answer;
-    let side = solved.side;
-    Solved3 {
-        answer: answer.number(),
-        side,
+    match handheld::solve(matrix.column, pivots, side) {
+        Ok(solution) => Solved3 {
+            answer: 0,
+            side: solution,
+        },
+        Err(refusal) => Solved3 {
+            answer: refusal.number(),
+            side,
+        },
     }
 }
 
@@ -232,7 +242,7 @@ pub extern "C" fn urgyelpat_pivots_from_lapack(
 ) -> u64
     ensures { PivotsFromLapack n run list.now info «record».old result «record».new }
 {
-    pivots_lapack::from_lapack(list, info, record, n, run).number()
+    answer::number(pivots_lapack::from_lapack(list, info, record, n, run))
 }
 
 // The LAPACK pivot list of a record.
@@ -247,7 +257,7 @@ pub extern "C" fn urgyelpat_pivots_to_lapack(record: &[u32], list: &mut [i32], n
 pub extern "C" fn urgyelpat_cholesky_factor(a: &mut [f64], room: usize, n: usize) -> u64
     ensures { CholeskyExtend room 0 n a.old result a.new }
 {
-    cholesky::factor(a, room, n).number()
+    answer::number(cholesky::factor(a, room, n))
 }
 
 // The first `earlier` rows are factored already.
@@ -260,7 +270,7 @@ pub extern "C" fn urgyelpat_cholesky_extend(
 ) -> u64
     ensures { CholeskyExtend room earlier n a.old result a.new }
 {
-    cholesky::extend(a, room, earlier, n).number()
+    answer::number(cholesky::extend(a, room, earlier, n))
 }
 
 // With a floor for the diagonal: its root stands where a diagonal fails its test and the floor does not.
@@ -294,7 +304,7 @@ pub extern "C" fn urgyelpat_cholesky_extend_floored(
 pub extern "C" fn urgyelpat_cholesky_teaching(a: &mut [f64], room: usize, n: usize) -> u64
     ensures { CholeskyTeaching room n a.old result a.new }
 {
-    teaching::cholesky(a, room, n).number()
+    answer::number(teaching::cholesky(a, room, n))
 }
 
 // n numbers of b a column.
@@ -308,21 +318,21 @@ pub extern "C" fn urgyelpat_cholesky_solve(
 ) -> u64
     ensures { CholeskySolve room n columns a.now b.old result b.new }
 {
-    cholesky::solve_mut(a, b, room, n, columns).number()
+    answer::number(cholesky::solve_mut(a, b, room, n, columns))
 }
 
 #[unsafe(no_mangle)]
 pub extern "C" fn urgyelpat_cholesky_l(a: &[f64], l: &mut [f64], room: usize, n: usize) -> u64
     ensures { CholeskyL room n a.now l.old result l.new }
 {
-    cholesky::l(a, l, room, n).number()
+    answer::number(cholesky::l(a, l, room, n))
 }
 
 #[unsafe(no_mangle)]
 pub extern "C" fn urgyelpat_cholesky_unpack(a: &mut [f64], room: usize, n: usize) -> u64
     ensures { CholeskyUnpack room n a.old result a.new }
 {
-    cholesky::unpack(a, room, n).number()
+    answer::number(cholesky::unpack(a, room, n))
 }
 
 #[unsafe(no_mangle)]
@@ -336,7 +346,7 @@ pub extern "C" fn urgyelpat_cholesky_determinant(a: &[f64], room: usize, n: usiz
 pub extern "C" fn urgyelpat_udu_factor(p: &[f64], u: &mut [f64], d: &mut [f64], n: usize) -> u64
     ensures { UduFactor n p.now u.old d.old result u.new d.new }
 {
-    udu::factor(p, u, d, n).number()
+    answer::number(udu::factor(p, u, d, n))
 }
 
 // 0 for no twins, (4,096 + q)·4,096 + p for the rows p < q, or a refusal.
@@ -344,7 +354,7 @@ pub extern "C" fn urgyelpat_udu_factor(p: &[f64], u: &mut [f64], d: &mut [f64], 
 pub extern "C" fn urgyelpat_first_twin(a: &[f64], room: usize, n: usize) -> u64
     ensures { FirstTwinPair room 0 n a.now result }
 {
-    twins::first_twin(a, room, n).number()
+    twins::number(twins::first_twin(a, room, n))
 }
 
 // The same of the pairs whose second row is at or after `earlier`.
@@ -357,7 +367,7 @@ pub extern "C" fn urgyelpat_first_twin_since(
 ) -> u64
     ensures { FirstTwinPair room earlier n a.now result }
 {
-    twins::first_twin_since(a, room, earlier, n).number()
+    twins::number(twins::first_twin_since(a, room, earlier, n))
 }
 
 // A packed lower triangle of order n: n·(n + 1)/2 numbers, entry (i, j) at i + j·(2n − j − 1)/2.
@@ -370,7 +380,7 @@ pub extern "C" fn urgyelpat_packed_lblt_factor(
 ) -> u64
     ensures { PackedLbltFactor n run a.old «record».old result a.new «record».new }
 {
-    packed::lblt_factor(a, record, n, run).number()
+    answer::number(packed::lblt_factor(a, record, n, run))
 }
 
 #[unsafe(no_mangle)]
@@ -384,7 +394,7 @@ pub extern "C" fn urgyelpat_packed_lblt_solve(
 ) -> u64
     ensures { PackedLbltSolve n columns run a.now «record».now b.old result b.new }
 {
-    packed::lblt_solve(a, record, b, n, columns, run).number()
+    answer::number(packed::lblt_solve(a, record, b, n, columns, run))
 }
 
 #[unsafe(no_mangle)]
@@ -403,7 +413,7 @@ pub extern "C" fn urgyelpat_packed_lblt_determinant(
 pub extern "C" fn urgyelpat_packed_cholesky_factor(a: &mut [f64], n: usize) -> u64
     ensures { PackedCholeskyFactor n a.old result a.new }
 {
-    packed::cholesky_factor(a, n).number()
+    answer::number(packed::cholesky_factor(a, n))
 }
 
 // `old` is the factor of the first `earlier` rows, `rows` the others, i + 1 numbers for row i.
@@ -417,7 +427,7 @@ pub extern "C" fn urgyelpat_packed_cholesky_extend(
 ) -> u64
     ensures { PackedCholeskyExtend earlier n old.now rows.now fresh.old result fresh.new }
 {
-    packed::cholesky_extend(old, rows, fresh, earlier, n).number()
+    answer::number(packed::cholesky_extend(old, rows, fresh, earlier, n))
 }
 
 #[unsafe(no_mangle)]
@@ -429,12 +439,12 @@ pub extern "C" fn urgyelpat_packed_cholesky_solve(
 ) -> u64
     ensures { PackedCholeskySolve n columns a.now b.old result b.new }
 {
-    packed::cholesky_solve(a, b, n, columns).number()
+    answer::number(packed::cholesky_solve(a, b, n, columns))
 }
 
 #[unsafe(no_mangle)]
 pub extern "C" fn urgyelpat_packed_first_twin(a: &[f64], n: usize) -> u64
     ensures { PackedFirstTwin n a.now result }
 {
-    packed::first_twin(a, n).number()
+    twins::number(packed::first_twin(a, n))
 }

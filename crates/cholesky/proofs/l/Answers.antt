@@ -1,32 +1,25 @@
 -- `l` meets its contract. Assumes nothing.
-use native.Mathlib.Omega.{arith}
-use lib.ListN.{length}
-use Rattle.answer.proofs.Done.{code_refused}
-use Rattle.matrix.proofs.Sizes.{code_fits, laid_fits}
+use Rattle.std.proofs.Common.{arith, length}
+use mathlib.Core.Path.{sym}
+use Rattle.answer.proofs.Done.{handed_on}
+use Rattle.matrix.proofs.Sizes.{passed_fits, laid_fits}
 use Rattle.matrix.proofs.Places.{product_small}
-use Rattle.cholesky.proofs.ReaderPromises.{copied_unfit, copied_short, copied_fit, copied_at}
+use Rattle.cholesky.proofs.ReaderPromises.{copied_unfit, copied_short, copied_fit}
 use Rattle.cholesky.proofs.l.Goals as goal
 
-pub returns-then-code-ne0 : goal.returns-then-code-ne0
-returns-then-code-ne0 c = copied_at c.in_room-y.ensures (copied_unfit c.check-fault.ensures (code_refused c.check-fault.result c.code.ensures c.if-code-ne0.true))
+pub returns-in_err-check : goal.returns-in_err-check
+returns-in_err-check c = rw (handed_on _ c.from_residual.ensures.1) (rw c.in_room-y.ensures at (copied_unfit c.in_err-check.ensures {l = c.args.l.now}))
 
 pub overflow_mul-y : goal.overflow_mul-y
 overflow_mul-y c =
-    let roomy = (code_fits c.in_room-y.result 0 (length c.args.a.now) c.check-fault.ensures c.code.ensures c.if-code-ne0.false).roomy in
+    let roomy = (passed_fits c.in_room-y.result 0 (length c.args.a.now) (sym c.in_ok-check.ensures)).roomy in
     omega (arith, product_small c.in_room-y.result.order c.in_room-y.result.order (omega arith) (omega arith))
 
 pub returns-then-l-y : goal.returns-then-l-y
-returns-then-l-y c =
-    let f = code_fits c.in_room-y.result 0 (length c.args.a.now) c.check-fault.ensures c.code.ensures c.if-code-ne0.false in
-    copied_at c.in_room-y.ensures (copied_short f c.if-l-y.true)
+returns-then-l-y c = rw c.in_room-y.ensures at (copied_short (passed_fits c.in_room-y.result 0 (length c.args.a.now) (sym c.in_ok-check.ensures)) c.if-l-y.true)
 
 pub copy-requires-clause-laid : goal.copy-requires-clause-laid
-copy-requires-clause-laid c = laid_fits (code_fits c.in_room-y.result 0 (length c.args.a.now) c.check-fault.ensures c.code.ensures c.if-code-ne0.false)
-
-pub copy-requires-clause-l_len : goal.copy-requires-clause-l_len
-copy-requires-clause-l_len c = c.if-l-y.false
+copy-requires-clause-laid c = laid_fits (passed_fits c.in_room-y.result 0 (length c.args.a.now) (sym c.in_ok-check.ensures))
 
 pub returns : goal.returns
-returns c =
-    let f = code_fits c.in_room-y.result 0 (length c.args.a.now) c.check-fault.ensures c.code.ensures c.if-code-ne0.false in
-    copied_at c.in_room-y.ensures (copied_fit f c.if-l-y.false c.copy.ensures)
+returns c = rw c.in_room-y.ensures at (copied_fit (passed_fits c.in_room-y.result 0 (length c.args.a.now) (sym c.in_ok-check.ensures)) c.if-l-y.false c.copy.ensures)

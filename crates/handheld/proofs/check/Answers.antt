@@ -1,25 +1,19 @@
 -- `check` answers as the lent solve does. Assumes nothing.
-use mathlib.Core.Path.{refl, sym, ◌∙◌, ap}
-use mathlib.Core.List.{[], ◌∷◌}
-use Prim.Native.Nat.{ℕ}
-use native.Mathlib.Omega.{arith}
-use lib.ListN.{length}
-use Rattle.answer.specs.Number.{is_done}
-use Rattle.pivots.specs.Words.{Sized}
+use Rattle.std.proofs.Common.{◌∙◌, ap, length, Err}
+use Rattle.answer.specs.Answer.{Done}
+use Rattle.answer.proofs.Done.{handed_on}
 use Rattle.handheld.specs.Shapes.{numbers_of, record_of}
 use Rattle.handheld.proofs.Answers.{check_answers}
 use Rattle.handheld.proofs.check.Goals as goal
 
--- eight words
-sized : {index0 size0 index1 size1 index2 size2 mark run : ℕ} → Sized 3 (index0 ∷ size0 ∷ index1 ∷ size1 ∷ index2 ∷ size2 ∷ mark ∷ run ∷ [])
-sized = record { order = omega arith; total = refl }
-
-pub check-fault-requires : goal.check-fault-requires
-check-fault-requires c = sized
-
-pub check_mark-requires : goal.check_mark-requires
-check_mark-requires c = λ passed. record { sized = sized; done = ap is_done (sym c.check-fault.ensures) ∙ passed }
+pub returns-in_err-check : goal.returns-in_err-check
+unfolding record_of
+returns-in_err-check c = λ run.
+    handed_on _ c.from_residual.ensures.1
+    ∙ check_answers (numbers_of c.args.matrix) c.args.side.row (ap length c.of_columns.ensures) (ap length c.of_column.ensures) c.args.p run (Err _) c.in_err-check.ensures
 
 pub returns : goal.returns
 unfolding record_of
-returns c = check_answers (numbers_of c.args.matrix) c.args.side.row (ap length c.of_columns.ensures) (ap length c.of_column.ensures) c.args.p c.check-fault.ensures c.check_mark.ensures
+returns c = λ run.
+    c.check_mark.ensures
+    ∙ check_answers (numbers_of c.args.matrix) c.args.side.row (ap length c.of_columns.ensures) (ap length c.of_column.ensures) c.args.p run Done c.in_ok-check.ensures

@@ -1,23 +1,32 @@
 -- `check`: the slices, the list, the record, then the mark.
-use Rattle.answer.specs.declared.Answer.TheVariants.{Done}
-use Rattle.answer.specs.Refusals.{tested}
-use Rattle.answer.proofs.Tested.{then_done}
-use Rattle.lblt_read.specs.Calls.{word_tests}
+use Rattle.answer.proofs.Done.{handed_on}
 use Rattle.lblt_read.proofs.Admitted.{sides_small, words_accepted}
-use Rattle.lblt_bench.specs.Bench.{list_tests}
-use Rattle.lblt_bench.proofs.Listed.{bench_answers}
+use Rattle.lblt_bench.proofs.Listed.{sides_answer, list_answers, words_answer, mark_answers}
 use Rattle.lblt_bench.proofs.check.Goals as goal
 
-pub check_record-read-requires : goal.check_record-read-requires
-check_record-read-requires c = λ passed.
-    sides_small c.args.y c.args.columns c.args.a.now c.args.b.now c.check_sides-sides.ensures (then_done c.check_sides-sides.result (tested (list_tests c.args.columns c.args.benches.now) Done) c.check_list-sizes.ensures passed).0
+pub returns-in_err-check_sides : goal.returns-in_err-check_sides
+returns-in_err-check_sides c =
+    rw (handed_on _ c.from_residual.ensures.1) (sides_answer c.args.y c.args.columns c.args.run c.args.a.now c.args.words.now c.args.b.now c.args.benches.now c.in_err-check_sides.ensures)
+
+pub returns-in_err-check_list : goal.returns-in_err-check_list
+returns-in_err-check_list c =
+    rw (handed_on _ c.from_residual-in_err-check_list.ensures.1)
+    (list_answers c.args.y c.args.columns c.args.run c.args.a.now c.args.words.now c.args.b.now c.args.benches.now c.in_ok-check_sides.ensures c.in_err-check_list.ensures)
+
+pub check_record-requires : goal.check_record-requires
+check_record-requires c = sides_small c.args.y c.args.columns c.args.a.now c.args.b.now c.in_ok-check_sides.ensures
+
+pub returns-in_err-check_record : goal.returns-in_err-check_record
+returns-in_err-check_record c =
+    rw (handed_on _ c.from_residual-in_err-check_record.ensures.1)
+    (words_answer c.args.y c.args.columns c.args.run c.args.a.now c.args.words.now c.args.b.now c.args.benches.now c.in_ok-check_sides.ensures c.in_ok-check_list.ensures c.in_err-check_record.ensures)
 
 pub check_mark-requires : goal.check_mark-requires
-check_mark-requires c = λ passed.
-    let recorded = then_done c.check_list-sizes.result (tested (word_tests c.args.y.order c.args.run c.args.words.now) Done) c.check_record-read.ensures passed in
-    let small = sides_small c.args.y c.args.columns c.args.a.now c.args.b.now c.check_sides-sides.ensures (then_done c.check_sides-sides.result (tested (list_tests c.args.columns c.args.benches.now) Done) c.check_list-sizes.ensures recorded.0).0 in
-    words_accepted c.args.y.order c.args.run c.args.words.now small recorded.1
+check_mark-requires c =
+    words_accepted c.args.y.order c.args.run c.args.words.now
+    (sides_small c.args.y c.args.columns c.args.a.now c.args.b.now c.in_ok-check_sides.ensures) c.in_ok-check_record.ensures
 
 pub returns : goal.returns
 returns c =
-    bench_answers c.args.y c.args.columns c.args.run c.args.a.now c.args.words.now c.args.b.now c.args.benches.now c.check_sides-sides.ensures c.check_list-sizes.ensures c.check_record-read.ensures c.check_mark.ensures
+    mark_answers c.args.y c.args.columns c.args.run c.args.a.now c.args.words.now c.args.b.now c.args.benches.now
+    c.in_ok-check_sides.ensures c.in_ok-check_list.ensures c.in_ok-check_record.ensures c.check_mark.ensures

@@ -1,10 +1,22 @@
 -- `check_factor`: the tests of size, then the record's.
-use Rattle.lblt_read.proofs.Admitted.{order_small, factor_answers}
+use Rattle.std.proofs.Common.{length, sym, ◌∙◌}
+use Rattle.answer.specs.Answer.{Done}
+use Rattle.answer.proofs.Done.{handed_on}
+use Rattle.answer.proofs.Tested.{joined_passed, joined_refused}
+use Rattle.matrix.specs.Sizes.{size_tests}
+use Rattle.lblt_read.specs.Calls.{word_tests}
+use Rattle.lblt_read.proofs.Admitted.{order_small}
 use Rattle.lblt_read.proofs.check_factor.Goals as goal
 
+pub returns-in_err-check : goal.returns-in_err-check
+returns-in_err-check c =
+    rw (handed_on _ c.from_residual.ensures.1)
+    (sym (joined_refused (size_tests c.args.y 0 (length c.args.a.now)) (word_tests c.args.y.order c.args.run c.args.words.now) Done (sym c.in_err-check.ensures)))
+
 pub check_record-requires : goal.check_record-requires
-check_record-requires c = order_small c.args.y c.args.a.now c.check-sizes.ensures
+check_record-requires c = order_small c.args.y c.args.a.now c.in_ok-check.ensures
 
 pub returns : goal.returns
 returns c =
-    factor_answers c.args.y c.args.a.now c.check-sizes.ensures c.args.run c.args.words.now c.check_record.ensures
+    c.check_record.ensures
+    ∙ sym (joined_passed (size_tests c.args.y 0 (length c.args.a.now)) (word_tests c.args.y.order c.args.run c.args.words.now) Done (sym c.in_ok-check.ensures))

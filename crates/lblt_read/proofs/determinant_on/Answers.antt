@@ -1,15 +1,24 @@
--- `determinant_on` multiplies where its checks admit it, and gives +0 where they do not.
-use mathlib.Core.Path.{sym, ap, ◌∙◌}
-use Rattle.answer.specs.Number.{is_done}
-use Rattle.answer.proofs.Done.{code_done, code_refused}
+-- `determinant_on` multiplies where its checks admit it.
+use Rattle.std.proofs.Common.{sym, ap, ◌∙◌, Ok}
+use Rattle.answer.proofs.Done.{handed_on}
+use Rattle.answer.proofs.Tested.{tested_passed, tested_refused}
+use Rattle.lblt_read.specs.Calls.{reader_tests}
 use Rattle.lblt_read.proofs.Admitted.{read_done}
 use Rattle.lblt_read.proofs.determinant_on.Goals as goal
 
-pub returns-then-code-ne0 : goal.returns-then-code-ne0
-returns-then-code-ne0 c = record { answer = c.check_factor-answer.ensures; value = rw (code_refused c.check_factor-answer.result c.code.ensures c.if-code-ne0.true) }
+pub returns-in_err-check_factor : goal.returns-in_err-check_factor
+returns-in_err-check_factor c =
+    record {
+      answer = handed_on _ c.from_residual.ensures.1
+          ∙ sym (tested_refused (reader_tests c.args.y c.args.run c.args.a.now c.args.words.now) _ (sym c.in_err-check_factor.ensures));
+    }
 
-pub product-value-requires : goal.product-value-requires
-product-value-requires c = read_done _ _ _ _ (ap is_done (sym c.check_factor-answer.ensures) ∙ code_done c.check_factor-answer.result c.code.ensures c.if-code-ne0.false)
+pub product-requires : goal.product-requires
+product-requires c = read_done _ _ _ _ c.in_ok-check_factor.ensures
 
 pub returns : goal.returns
-returns c = record { answer = c.check_factor-answer.ensures; value = rw (code_done c.check_factor-answer.result c.code.ensures c.if-code-ne0.false) c.product-value.ensures }
+returns c =
+    record {
+      answer = ap Ok c.product.ensures
+          ∙ sym (tested_passed (reader_tests c.args.y c.args.run c.args.a.now c.args.words.now) _ (sym c.in_ok-check_factor.ensures));
+    }

@@ -1,38 +1,33 @@
 -- `l_permuted` fills its matrix where its checks admit it, and leaves it as it was where they do not.
-use mathlib.Core.Path.{refl, sym, ap, ◌∙◌}
+use Rattle.answer.proofs.Done.{handed_on}
 use Rattle.matrix.specs.Layouts.{full}
-use Rattle.answer.specs.Number.{is_done}
-use Rattle.answer.proofs.Done.{code_done, code_refused}
-use Rattle.answer.proofs.Tested.{leaving_done, leaving_refused}
-use Rattle.lblt_read.proofs.Admitted.{columns_done, sides_small, columns_answers}
+use Rattle.lblt_read.proofs.Admitted.{sides_small, sides_refuse, words_refuse, fills_readable, fills_squared, fills}
 use Rattle.lblt_read.proofs.l_permuted.Goals as goal
 
-pub check_record-answer-requires : goal.check_record-answer-requires
-check_record-answer-requires c =
-    sides_small (full c.args.n) c.args.n c.args.a.now c.args.l.now (rw c.full-y.ensures at c.check_sides-sizes.ensures)
+pub returns-in_err-check_sides : goal.returns-in_err-check_sides
+returns-in_err-check_sides c =
+    rw (handed_on _ c.from_residual.ensures.1)
+    (sides_refuse (full c.args.n) _ _ _ _ (rw c.full-y.ensures at c.in_err-check_sides.ensures))
 
-pub returns-then-code-ne0 : goal.returns-then-code-ne0
-returns-then-code-ne0 c =
-    record {
-      answer = columns_answers (full c.args.n) c.args.n c.args.a.now c.args.l.now (rw c.full-y.ensures at c.check_sides-sizes.ensures) c.args.run c.args.words.now c.check_record-answer.ensures;
-      left = leaving_refused (code_refused c.check_record-answer.result c.code.ensures c.if-code-ne0.true) refl;
-    }
+pub check_record-requires : goal.check_record-requires
+check_record-requires c =
+    sides_small (full c.args.n) c.args.n c.args.a.now c.args.l.now (rw c.full-y.ensures at c.in_ok-check_sides.ensures)
+
+pub returns-in_err-check_record : goal.returns-in_err-check_record
+returns-in_err-check_record c =
+    rw (handed_on _ c.from_residual-in_err-check_record.ensures.1)
+    (words_refuse (full c.args.n) _ _ _ _ (rw c.full-y.ensures at c.in_ok-check_sides.ensures) c.in_err-check_record.ensures)
 
 pub fill-requires-clause-readable : goal.fill-requires-clause-readable
 fill-requires-clause-readable c =
-    let answer = columns_answers (full c.args.n) c.args.n c.args.a.now c.args.l.now (rw c.full-y.ensures at c.check_sides-sizes.ensures) c.args.run c.args.words.now c.check_record-answer.ensures in
-    let known = columns_done (full c.args.n) c.args.n c.args.run c.args.a.now c.args.words.now c.args.l.now (ap is_done (sym answer) ∙ code_done c.check_record-answer.result c.code.ensures c.if-code-ne0.false) in
-    rw c.full-y.ensures known.readable
+    rw c.full-y.ensures
+    (fills_readable (full c.args.n) _ c.args.a.now _ c.args.l.now (rw c.full-y.ensures at c.in_ok-check_sides.ensures) c.in_ok-check_record.ensures)
 
 pub fill-requires-clause-squared : goal.fill-requires-clause-squared
 fill-requires-clause-squared c =
-    let answer = columns_answers (full c.args.n) c.args.n c.args.a.now c.args.l.now (rw c.full-y.ensures at c.check_sides-sizes.ensures) c.args.run c.args.words.now c.check_record-answer.ensures in
-    let known = columns_done (full c.args.n) c.args.n c.args.run c.args.a.now c.args.words.now c.args.l.now (ap is_done (sym answer) ∙ code_done c.check_record-answer.result c.code.ensures c.if-code-ne0.false) in
-    rw c.full-y.ensures (record { small = known.few; long = known.long })
+    rw c.full-y.ensures
+    (fills_squared (full c.args.n) _ c.args.a.now _ c.args.l.now (rw c.full-y.ensures at c.in_ok-check_sides.ensures) c.in_ok-check_record.ensures)
 
 pub returns : goal.returns
 returns c =
-    record {
-      answer = columns_answers (full c.args.n) c.args.n c.args.a.now c.args.l.now (rw c.full-y.ensures at c.check_sides-sizes.ensures) c.args.run c.args.words.now c.check_record-answer.ensures;
-      left = leaving_done (code_done c.check_record-answer.result c.code.ensures c.if-code-ne0.false) (rw c.full-y.ensures at c.fill.ensures);
-    }
+    fills (full c.args.n) _ _ _ _ (rw c.full-y.ensures at c.in_ok-check_sides.ensures) c.in_ok-check_record.ensures (rw c.full-y.ensures at c.fill.ensures)

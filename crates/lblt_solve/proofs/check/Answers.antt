@@ -1,23 +1,35 @@
 -- `check` refuses what a reader refuses, and then a mark.
-use Rattle.answer.specs.declared.Answer.TheVariants.{Done}
-use Rattle.answer.specs.Refusals.{tested}
-use Rattle.answer.proofs.Tested.{then_done}
-use Rattle.lblt_read.specs.Calls.{word_tests}
+use Rattle.std.proofs.Common.{sym}
+use Rattle.answer.specs.Answer.{Done}
+use Rattle.answer.proofs.Done.{handed_on}
+use Rattle.answer.proofs.Tested.{joined_refused}
+use Rattle.lblt_read.specs.Calls.{side_tests, word_tests}
 use Rattle.lblt_read.proofs.Admitted.{sides_small, words_accepted, columns_answers}
-use Rattle.lblt_solve.proofs.Marked.{solve_answers}
+use Rattle.lblt_solve.proofs.Marked.{solve_refused, solve_answers}
 use Rattle.lblt_solve.proofs.check.Goals as goal
 
-pub check_record-read-requires : goal.check_record-read-requires
-check_record-read-requires c =
-    sides_small c.args.y c.args.columns c.args.a.now c.args.b.now c.check_sides-sizes.ensures
+pub returns-in_err-check_sides : goal.returns-in_err-check_sides
+returns-in_err-check_sides c =
+    rw (handed_on _ c.from_residual.ensures.1)
+    (solve_refused c.args.y c.args.columns c.args.run c.args.a.now c.args.words.now c.args.b.now
+    (sym (joined_refused (side_tests c.args.y c.args.columns c.args.a.now c.args.b.now) (word_tests c.args.y.order c.args.run c.args.words.now) Done (sym c.in_err-check_sides.ensures))))
+
+pub check_record-requires : goal.check_record-requires
+check_record-requires c = sides_small c.args.y c.args.columns c.args.a.now c.args.b.now c.in_ok-check_sides.ensures
+
+pub returns-in_err-check_record : goal.returns-in_err-check_record
+returns-in_err-check_record c =
+    rw (handed_on _ c.from_residual-in_err-check_record.ensures.1)
+    (solve_refused c.args.y c.args.columns c.args.run c.args.a.now c.args.words.now c.args.b.now
+    (columns_answers c.args.y c.args.columns c.args.run c.args.a.now c.args.words.now c.args.b.now c.in_ok-check_sides.ensures c.in_err-check_record.ensures))
 
 pub check_mark-requires : goal.check_mark-requires
-check_mark-requires c = λ passed.
-    let recorded = then_done c.check_sides-sizes.result (tested (word_tests c.args.y.order c.args.run c.args.words.now) Done) c.check_record-read.ensures passed in
-    let small = sides_small c.args.y c.args.columns c.args.a.now c.args.b.now c.check_sides-sizes.ensures recorded.0 in
-    words_accepted c.args.y.order c.args.run c.args.words.now small recorded.1
+check_mark-requires c =
+    words_accepted c.args.y.order c.args.run c.args.words.now
+    (sides_small c.args.y c.args.columns c.args.a.now c.args.b.now c.in_ok-check_sides.ensures) c.in_ok-check_record.ensures
 
 pub returns : goal.returns
 returns c =
-    let read = columns_answers c.args.y c.args.columns c.args.a.now c.args.b.now c.check_sides-sizes.ensures c.args.run c.args.words.now c.check_record-read.ensures in
-    solve_answers c.args.y c.args.columns c.args.run c.args.a.now c.args.words.now c.args.b.now read c.check_mark.ensures
+    solve_answers c.args.y c.args.columns c.args.run c.args.a.now c.args.words.now c.args.b.now
+    (columns_answers c.args.y c.args.columns c.args.run c.args.a.now c.args.words.now c.args.b.now c.in_ok-check_sides.ensures c.in_ok-check_record.ensures)
+    c.check_mark.ensures

@@ -1,6 +1,6 @@
 use mathlib.Core.Path.{ap, ◌∙◌}
 use native.Mathlib.Omega.{arith}
-use Rattle.answer.specs.Number.{is_done}
+use Rattle.answer.specs.Answer.{is_done}
 use Rattle.sheet_page.proofs.PutLaws.{put_same}
 use Rattle.sheet.proofs.Factor.{answer_done, page_is}
 use Rattle.sheet.proofs.factor_and_write.Goals as goal

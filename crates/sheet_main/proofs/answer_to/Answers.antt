@@ -1,7 +1,6 @@
 -- The digit is that of the answer, or 2.
 use Rattle.std.proofs.Common.{◌≡◌, ℕ, Bool, true, false, cond, List}
-use Rattle.answer.specs.declared.Answer.{Answer}
-use Rattle.answer.specs.Number.{is_done}
+use Rattle.answer.specs.Answer.{Answer, is_done}
 use Rattle.sheet.specs.Respond.{Response}
 use Rattle.sheet_main.specs.Status.{Status, not_written, answered}
 use Rattle.sheet_main.proofs.answer_to.Goals as goal

@@ -23,8 +23,5 @@ loop-c-preserved c = turned_more c.loop-c.invariant c.loop-c-test.true (left_fou
 pub diagonal-requires-clause-laid : goal.diagonal-requires-clause-laid
 diagonal-requires-clause-laid c = laid_after c.requires.laid c.loop-c.invariant.holds
 
-pub diagonal-requires-clause-r_lt_order : goal.diagonal-requires-clause-r_lt_order
-diagonal-requires-clause-r_lt_order c = c.requires.r_lt_order
-
 pub returns : goal.returns
 returns c = row_found c.args.r (turned_all c.loop-c.invariant c.loop-c-test.false) c.diagonal.ensures

@@ -1,5 +1,4 @@
 -- `last_row` meets its contract. Assumes nothing.
-use Prim.Native.Nat.{◌-◌}
 use Rattle.matrix.specs.Layouts.{lower}
 use Rattle.matrix.proofs.Grids.{Turned}
 use Rattle.teaching.specs.inner.Rows.{left_of}
@@ -7,6 +6,3 @@ use Rattle.teaching.proofs.last_row.Given as goal
 
 abbrev pub invariant-loop-c : goal.invariant-loop-c
 invariant-loop-c l = Turned (lower l.y) 0 l.r (left_of l.r) l.initial.a l.c l.a
-
-abbrev pub decreases-loop-c : goal.decreases-loop-c
-decreases-loop-c l = l.r - l.c

@@ -12,12 +12,6 @@ use Rattle.teaching.proofs.updated.Goals as goal
 pub loop-k-init : goal.loop-k-init
 loop-k-init c = subst (Ran 0 c.args.c (less (load (lower c.args.y) c.args.a.now) c.args.r c.args.c) (load (lower c.args.y) c.args.a.now c.args.r c.args.c) 0) (sym c.get-x.ensures) (ran_none (omega arith))
 
-pub get-requires-clause-laid : goal.get-requires-clause-laid
-get-requires-clause-laid c = c.requires.laid
-
-pub get-requires-in-loop-k-clause-laid : goal.get-requires-in-loop-k-clause-laid
-get-requires-in-loop-k-clause-laid c = c.requires.laid
-
 pub loop-k-preserved : goal.loop-k-preserved
 unfolding less
 loop-k-preserved c = ran_more c.loop-k.invariant c.loop-k-test.true (ap (◌⊕◌ c.loop-k.x) (ap₂ (λ (p q : Float). neg p ⊗ q) c.get.ensures c.get-in-loop-k.ensures))

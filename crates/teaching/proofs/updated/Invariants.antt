@@ -1,5 +1,4 @@
 -- `updated` meets its contract. Assumes nothing.
-use Prim.Native.Nat.{◌-◌}
 use Rattle.matrix.specs.Grid.{load}
 use Rattle.matrix.specs.Layouts.{lower}
 use Rattle.matrix.proofs.Loops.{Ran}
@@ -8,6 +7,3 @@ use Rattle.teaching.proofs.updated.Given as goal
 
 abbrev pub invariant-loop-k : goal.invariant-loop-k
 invariant-loop-k l = Ran 0 l.c (less (load (lower l.y) l.a) l.r l.c) (load (lower l.y) l.a l.r l.c) l.k l.x
-
-abbrev pub decreases-loop-k : goal.decreases-loop-k
-decreases-loop-k l = l.c - l.k

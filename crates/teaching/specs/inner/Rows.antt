@@ -1,8 +1,6 @@
 -- Row after row: what the engine's parts promise to each other, over a rule for the diagonal.
 use Rattle.std.specs.Prelude.{◌≡◌, cond, List, ℕ, Float}
-use Rattle.answer.specs.declared.Answer.{Answer}
-use Rattle.answer.specs.declared.Answer.TheVariants.{Done}
-use Rattle.answer.specs.Number.{is_done}
+use Rattle.answer.specs.Answer.{Answer, Done, is_done}
 use Rattle.matrix.specs.declared.Layout.{Layout}
 use Rattle.matrix.specs.Matrix.{Matrix, entry}
 use Rattle.matrix.specs.Loop.{for}

@@ -1,18 +1,11 @@
 -- `item`: the factor is done, and its mark tells whether the side is solved.
 use mathlib.Core.Path.{sym, ◌∙◌}
-use native.Mathlib.Omega.{arith}
-use Rattle.lblt_tray.proofs.Items.{item_laid, item_sized, item_factored}
-use Rattle.lblt_tray.proofs.Own.{item_readable, item_sides, item_unmarked, item_marked}
+use Rattle.lblt_tray.proofs.Items.{item_laid, item_factored}
+use Rattle.lblt_tray.proofs.Own.{item_readable, item_unmarked, item_marked}
 use Rattle.lblt_tray.proofs.general.item.Goals as goal
 
 pub fill-mark-requires-clause-laid : goal.fill-mark-requires-clause-laid
 fill-mark-requires-clause-laid c = rw c.full-y.ensures (item_laid c.requires)
-
-pub fill-mark-requires-clause-sized : goal.fill-mark-requires-clause-sized
-fill-mark-requires-clause-sized c = rw c.full-y.ensures (item_sized c.requires)
-
-pub overflow_sub-mark : goal.overflow_sub-mark
-overflow_sub-mark c = omega (arith, c.if-mark-ne0.true)
 
 pub returns-then-mark-ne0 : goal.returns-then-mark-ne0
 returns-then-mark-ne0 c =
@@ -23,11 +16,6 @@ pub solve_column-requires-clause-readable : goal.solve_column-requires-clause-re
 solve_column-requires-clause-readable c =
     let filled = rw c.full-y.ensures at c.fill-mark.ensures in
     rw c.full-y.ensures (item_readable (item_factored c.requires filled) c.args.b.now c.requires.side)
-
-pub solve_column-requires-clause-sides : goal.solve_column-requires-clause-sides
-solve_column-requires-clause-sides c =
-    let filled = rw c.full-y.ensures at c.fill-mark.ensures in
-    rw c.full-y.ensures (item_sides (item_factored c.requires filled) c.args.b.now c.requires.side)
 
 pub returns : goal.returns
 returns c =

@@ -4,9 +4,6 @@ use Rattle.lblt_choice.proofs.Range.{one_range}
 use Rattle.handheld.proofs.Reaching.{second_one, second_two}
 use Rattle.lblt_tray.proofs.three.after_one.Goals as goal
 
-pub item-requires : goal.item-requires
-item-requires c = c.requires.item
-
 pub one_second-requires-clause-p_nonzero : goal.one_second-requires-clause-p_nonzero
 one_second-requires-clause-p_nonzero c =
     let range = one_range _ (omega arith) c.choose_second.ensures c.in-One.is in
@@ -19,12 +16,6 @@ one_second-requires-clause-p_bound c =
 
 pub overflow_cast-p : goal.overflow_cast-p
 overflow_cast-p c = let range = one_range _ (omega arith) c.choose_second.ensures c.in-One.is in omega (arith, range.1)
-
-pub after_ones-requires-clause-item : goal.after_ones-requires-clause-item
-after_ones-requires-clause-item c = c.requires.item
-
-pub after_ones-requires-clause-index0_bound : goal.after_ones-requires-clause-index0_bound
-after_ones-requires-clause-index0_bound c = c.requires.index0_bound
 
 pub after_ones-requires-clause-index1_nonzero : goal.after_ones-requires-clause-index1_nonzero
 after_ones-requires-clause-index1_nonzero c =
@@ -39,20 +30,5 @@ after_ones-requires-clause-index1_bound c =
 pub after_ones-requires-clause-onward : goal.after_ones-requires-clause-onward
 after_ones-requires-clause-onward c = λ s comes. c.requires.onward s (second_one c.args.t c.args.index0 0 c.choose_second.ensures c.in-One.is c.one_second.ensures comes)
 
-pub one_two-requires-clause-item : goal.one_two-requires-clause-item
-one_two-requires-clause-item c = c.requires.item
-
-pub one_two-requires-clause-index0_bound : goal.one_two-requires-clause-index0_bound
-one_two-requires-clause-index0_bound c = c.requires.index0_bound
-
 pub one_two-requires-clause-ends : goal.one_two-requires-clause-ends
 one_two-requires-clause-ends c = c.requires.onward _ (second_two c.args.t c.args.index0 0 c.choose_second.ensures c.in-Two.is)
-
-pub returns-in-ZeroColumn : goal.returns-in-ZeroColumn
-returns-in-ZeroColumn c = c.item.ensures
-
-pub returns-in-One : goal.returns-in-One
-returns-in-One c = c.after_ones.ensures
-
-pub returns-in-Two : goal.returns-in-Two
-returns-in-Two c = c.one_two.ensures

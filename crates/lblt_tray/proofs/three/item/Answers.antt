@@ -4,20 +4,11 @@ use Rattle.lblt_choice.proofs.Range.{one_range, two_range}
 use Rattle.handheld.proofs.Reaching.{first_one, first_two}
 use Rattle.lblt_tray.proofs.three.item.Goals as goal
 
-pub triangle-t-requires : goal.triangle-t-requires
-triangle-t-requires c = c.requires.matrix
-
-pub item-requires : goal.item-requires
-item-requires c = c.requires
-
 pub one_first-requires : goal.one_first-requires
 one_first-requires c = let range = one_range _ (omega arith) c.choose_first.ensures c.in-One.is in range.1
 
 pub overflow_cast-p : goal.overflow_cast-p
 overflow_cast-p c = let range = one_range _ (omega arith) c.choose_first.ensures c.in-One.is in omega (arith, range.1)
-
-pub after_one-requires-clause-item : goal.after_one-requires-clause-item
-after_one-requires-clause-item c = c.requires
 
 pub after_one-requires-clause-index0_bound : goal.after_one-requires-clause-index0_bound
 after_one-requires-clause-index0_bound c =
@@ -36,9 +27,6 @@ two_first-requires-clause-p_bound c = (two_range _ (omega arith) c.choose_first.
 pub overflow_cast-p-in-Two : goal.overflow_cast-p-in-Two
 overflow_cast-p-in-Two c = let range = two_range _ (omega arith) c.choose_first.ensures c.in-Two.is in omega (arith, range.1)
 
-pub after_two-requires-clause-item : goal.after_two-requires-clause-item
-after_two-requires-clause-item c = c.requires
-
 pub after_two-requires-clause-index0_nonzero : goal.after_two-requires-clause-index0_nonzero
 after_two-requires-clause-index0_nonzero c =
     let range = two_range _ (omega arith) c.choose_first.ensures c.in-Two.is in
@@ -51,12 +39,3 @@ after_two-requires-clause-index0_bound c =
 
 pub after_two-requires-clause-onward : goal.after_two-requires-clause-onward
 after_two-requires-clause-onward c = λ s comes. rw c.triangle-t.ensures at (first_two c.triangle-t.result c.choose_first.ensures c.in-Two.is c.two_first.ensures comes)
-
-pub returns-in-ZeroColumn : goal.returns-in-ZeroColumn
-returns-in-ZeroColumn c = c.item.ensures
-
-pub returns-in-One : goal.returns-in-One
-returns-in-One c = c.after_one.ensures
-
-pub returns-in-Two : goal.returns-in-Two
-returns-in-Two c = c.after_two.ensures

@@ -1,5 +1,0 @@
--- `cholesky_solve` meets its contract. Assumes nothing.
-use Rattle.packed.proofs.cholesky_solve.Goals as goal
-
-pub returns : goal.returns
-returns c = rw c.packed.ensures at c.solve_on.ensures
