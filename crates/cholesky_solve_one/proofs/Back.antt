@@ -1,26 +1,33 @@
--- The way back, the number that was found last carried from row to row.
+-- The way back, the row that was found last carried from row to row.
 --     found                     a row's step
+--     row_stored                what a row is that was stored
 --     back_none, back_all       no rows; the last row divided, and then the others
-use mathlib.Core.List.{List}
-use mathlib.Core.Path.{◌≡◌, sym, ap, ◌∙◌}
-use Prim.Native.Nat.{ℕ, suc, ◌+◌, ◌-◌, ◌<◌}
-use native.Mathlib.Omega.{arith}
-use lib.Ieee.{Float, nan}
-use lib.ListN.{length, set}
-use lib.Seq.{get_or-set_same, set-get_or}
+use Rattle.std.specs.Prelude.{List, ◌≡◌, ℕ, suc, ◌+◌, ◌-◌, ◌*◌, ◌<◌, Float, length, set}
+use Rattle.std.specs.Float.{nan}
+use Rattle.std.proofs.Common.{arith, sym, ap, ◌∙◌, get_or-set_same}
+use Rattle.std.proofs.Math.Path.{fun_ext}
+use Rattle.std.proofs.Math.Seq.{set-get_or}
 use Rattle.matrix.specs.Rounded.{◌⊖◌, ◌⊗◌, ◌⊘◌}
 use Rattle.matrix.specs.Matrix.{Matrix}
 use Rattle.matrix.specs.Loop.{turns, for, falling}
+use Rattle.matrix.specs.Columns.{at, column, each_column}
 use Rattle.matrix.proofs.Loops.{for_one, for_join}
-use Rattle.matrix.specs.Columns.{at}
+use Rattle.matrix.proofs.Columns.{each_loop, each_none, column_length, column_within}
+use Rattle.matrix.proofs.ColumnsLoops.{sinking, falling_uniform}
 use Rattle.substitution_one.specs.Steps.{divide_one, less_product, gather_row}
+use Rattle.substitution_one.proofs.Rows.{put_first}
 use Rattle.cholesky_solve_one.specs.Triangles.{transposed_row, solve_transposed}
-use Rattle.cholesky_solve_one.specs.inner.Engine.{Found}
+use Rattle.cholesky_solve_one.proofs.Keeps.{transposed_row_keeps}
 use Rattle.cholesky_solve_one.proofs.Pairs.{store_again}
 
--- the row found last is the one after the row before it
-pub last_found_law : (b : List Float) {i : ℕ} {last : Float} → last ≡ at b i → 0 < i → last ≡ at b (i - 1 + 1)
-last_found_law b {i} e positive = let same : i ≡ i - 1 + 1 = omega arith in e ∙ ap (at b) same
+-- what a row is that was stored
+pub row_stored
+    : (n columns i : ℕ) (b : List Float) → length b ≡ n * columns → i < n → (r : ℕ → Float) (b' : List Float)
+    → ((j : ℕ) → j < columns → column n j b' ≡ set (column n j b) i (r j))
+    → (j : ℕ) → j < columns → r j ≡ at (column n j b') i
+row_stored n columns i b long inside r b' put j below =
+    let whole : length (column n j b) ≡ n = column_length n j b (omega (arith, column_within n columns j below, long)) in
+    sym (ap (λ (l : List Float). at l i) (put j below) ∙ get_or-set_same (column n j b) i _ nan (omega (arith, whole)))
 
 module _ (n : ℕ) (L : Matrix) where
   -- the first product by itself
@@ -35,19 +42,9 @@ module _ (n : ℕ) (L : Matrix) where
       ∙ ap (λ (lo : ℕ). for lo n (less_product L b i) (less_product L b i (i + 1) (at b i))) place
 
   -- the row gathered and divided is stored once
-  row_is : (i : ℕ) (b : List Float) → transposed_row n L i b ≡ set b i (for (i + 1) n (less_product L b i) (at b i) ⊘ L i i)
+  row_is : (i : ℕ) (b : List Float) → set b i (for (i + 1) n (less_product L b i) (at b i) ⊘ L i i) ≡ transposed_row n L i b
   unfolding transposed_row divide_one gather_row
-  row_is i b = store_again b i (for (i + 1) n (less_product L b i) (at b i)) (λ v. v ⊘ L i i)
-
-  pub found
-      : (i : ℕ) (b : List Float) {g last less d : Float} → length b ≡ n → i + 1 < n → g ≡ L (i + 1) i → last ≡ at b (i + 1)
-      → less ≡ for (i + 2) n (less_product L b i) (at b i ⊖ g ⊗ last) → d ≡ L i i
-      → Found i (transposed_row n L i b) (less ⊘ d) (set b i (less ⊘ d))
-  found i b {g} {last} {less} {d} long inside eg el es ed =
-      record { column = ap (set b i) value ∙ sym (row_is i b); number = sym (get_or-set_same b i (less ⊘ d) nan (omega arith)) }
-    where
-      value : less ⊘ d ≡ for (i + 1) n (less_product L b i) (at b i) ⊘ L i i
-      value = rw (es, eg, el, ed, first_product i inside b)
+  row_is i b = sym (store_again b i (for (i + 1) n (less_product L b i) (at b i)) (λ v. v ⊘ L i i))
 
   -- the last row has none after it
   last_row_law : 0 < n → (b : List Float) → transposed_row n L (n - 1) b ≡ divide_one L (n - 1) b
@@ -57,12 +54,39 @@ module _ (n : ℕ) (L : Matrix) where
       ap (λ (c : ℕ). divide_one L (n - 1) (set b (n - 1) (turns (n - 1 + 1) (less_product L b (n - 1)) (at b (n - 1)) c))) none
       ∙ ap (divide_one L (n - 1)) (set-get_or b (n - 1) nan)
 
-  pub back_none : n ≡ 0 → (b : List Float) → b ≡ solve_transposed n L b
-  unfolding solve_transposed falling
-  back_none none b = ap (λ (m : ℕ). falling m (transposed_row n L) b) (sym none)
+  module _ (columns : ℕ) (b : List Float) (long : length b ≡ n * columns) where
+    pub found
+        : (i : ℕ) {x last first less r : ℕ → Float} {g d : Float} {b' : List Float} → i + 1 < n → ((j : ℕ) → j < columns → x j ≡ at (column n j b) i)
+        → ((j : ℕ) → j < columns → last j ≡ at (column n j b) (i + 1)) → g ≡ L (i + 1) i → ((j : ℕ) → j < columns → first j ≡ x j ⊖ g ⊗ last j)
+        → ((j : ℕ) → j < columns → less j ≡ for (i + 2) n (less_product L (column n j b) i) (first j)) → d ≡ L i i → ((j : ℕ) → j < columns → r j ≡ less j ⊘ d)
+        → length b' ≡ length b → ((j : ℕ) → j < columns → column n j b' ≡ set (column n j b) i (r j))
+        → b' ≡ each_column n columns (transposed_row n L i) b
+    found i inside ex el eg ef es ed er kept put =
+        put_first long i
+        (record {
+          number = λ j below.
+              er j below ∙ rw (es j below, ef j below, ex j below, el j below, eg, ed) (ap (λ (v : Float). v ⊘ L i i) (sym (first_product i inside (column n j b))));
+        })
+        kept
+        put
+        ∙ ap (λ (f : List Float → List Float). each_column n columns f b) (fun_ext (row_is i))
 
-  pub back_all : 0 < n → (b : List Float) {b₁ b₂ : List Float} → b₁ ≡ divide_one L (n - 1) b → b₂ ≡ falling (n - 1) (transposed_row n L) b₁ → b₂ ≡ solve_transposed n L b
-  unfolding solve_transposed falling
-  back_all positive b e₁ e₂ =
-      let rows : suc (n - 1) ≡ n = omega arith in
-      e₂ ∙ ap (falling (n - 1) (transposed_row n L)) (e₁ ∙ sym (last_row_law positive b)) ∙ ap (λ (m : ℕ). falling m (transposed_row n L) b) rows
+    pub back_none : n ≡ 0 → b ≡ each_column n columns (solve_transposed n L) b
+    unfolding solve_transposed falling
+    back_none none =
+        sym
+        (ap (λ (f : List Float → List Float). each_column n columns f b) (fun_ext (λ l. ap (λ (m : ℕ). falling m (transposed_row n L) l) none))
+        ∙ each_none n columns b long)
+
+    pub back_all
+        : 0 < n → {b₁ b₂ : List Float} → b₁ ≡ each_column n columns (divide_one L (n - 1)) b
+        → b₂ ≡ falling (n - 1) (λ i. each_column n columns (transposed_row n L i)) b₁
+        → b₂ ≡ each_column n columns (solve_transposed n L) b
+    unfolding solve_transposed falling
+    back_all positive e₁ e₂ =
+        let rows : suc (n - 1) ≡ n = omega arith in
+        e₂
+        ∙ ap (falling (n - 1) (λ i. each_column n columns (transposed_row n L i)))
+        (e₁ ∙ ap (λ (f : List Float → List Float). each_column n columns f b) (fun_ext (λ l. sym (last_row_law positive l))))
+        ∙ ap (λ (m : ℕ). falling m (λ i. each_column n columns (transposed_row n L i)) b) rows
+        ∙ each_loop n columns (sinking n) (falling_uniform n) (transposed_row n L) (transposed_row_keeps n L) b long

@@ -1,7 +1,6 @@
 -- A column keeps its length through every step of `solve_triangles`.
-use mathlib.Core.Path.{◌∙◌}
-use Prim.Native.Nat.{ℕ, ◌+◌}
-use lib.ListN.{length-set}
+use Rattle.std.specs.Prelude.{ℕ, ◌+◌}
+use Rattle.std.proofs.Common.{◌∙◌, length-set}
 use Rattle.matrix.specs.Matrix.{Matrix}
 use Rattle.substitution_one.specs.Steps.{less_one}
 use Rattle.matrix.proofs.ColumnsLoops.{Keeping, Keeps, sinking, falling_uniform, loop_keeps, for_long}

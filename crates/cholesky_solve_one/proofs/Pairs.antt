@@ -2,13 +2,9 @@
 --     lower_row_law       a row's step by the steps of LBLT's solve
 --     lower_pair      the steps of rows k and k + 1, the rows below going through both at once
 --     lower_last      the last row has none below
-use mathlib.Core.List.{List, [], ◌∷◌}
-use mathlib.Core.Path.{◌≡◌, refl, sym, ap, ◌∙◌}
-use Prim.Native.Nat.{ℕ, zero, suc, ◌+◌, ◌-◌, ◌<◌, ◌≤◌}
-use native.Mathlib.Omega.{arith}
-use lib.Ieee.{Float, nan, binary64}
-use lib.ListN.{set}
-use lib.Seq.{get_or-set_other}
+use Rattle.std.specs.Prelude.{List, [], ◌∷◌, ◌≡◌, refl, ℕ, zero, suc, ◌+◌, ◌-◌, ◌<◌, ◌≤◌, Float, set}
+use Rattle.std.specs.Float.{nan, binary64}
+use Rattle.std.proofs.Common.{sym, ap, ◌∙◌, arith, get_or-set_other}
 use Rattle.matrix.specs.Rounded.{◌⊖◌, ◌⊗◌}
 use Rattle.matrix.specs.Matrix.{Matrix}
 use Rattle.matrix.specs.Loop.{turns, for}

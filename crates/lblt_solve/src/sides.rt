@@ -6,8 +6,7 @@ ghost use Rattle.matrix.specs.Columns.{each_column, Lined};
 ghost use Rattle.lblt_solve_one.specs.Column.{solve_column};
 ghost use Rattle.lblt_solve_one.specs.inner.Engine.{Readable};
 
-use lblt_solve_four::solve_fours;
-use lblt_solve_one::solve_columns;
+use lblt_solve_one::{solve_columns, solve_fours};
 use lblt_solve_rows::solve_rows;
 use matrix::Layout;
 

@@ -3,11 +3,9 @@
 --     columns_reduced_one, columns_reduced_two         a block eliminated and divided
 --     columns_backed_one, columns_backed_two           a block on the way back
 --     columns_reduced, columns_backed, columns_solved  all blocks: there, back, and both
-use mathlib.Core.List.{List}
-use mathlib.Core.Path.{◌≡◌, refl, sym, ap, fun_ext, ◌∙◌}
-use Prim.Native.Nat.{ℕ, ◌+◌, ◌-◌, ◌*◌}
-use lib.Ieee.{Float}
-use lib.ListN.{length}
+use Rattle.std.specs.Prelude.{List, ◌≡◌, refl, ℕ, ◌+◌, ◌-◌, ◌*◌, Float, length}
+use Rattle.std.proofs.Common.{sym, ap, ◌∙◌}
+use Rattle.std.proofs.Math.Path.{fun_ext}
 use Rattle.matrix.specs.Matrix.{Matrix}
 use Rattle.matrix.specs.Columns.{each_column}
 use Rattle.matrix.proofs.Columns.{each_none, each_then, each_loop}
@@ -22,7 +20,7 @@ use Rattle.lblt_solve_one.specs.Column.{swap_rows, divide_two, backward_block, s
 use Rattle.lblt_solve_one.specs.inner.Engine.{Moved, reduce_block}
 use Rattle.lblt_solve_one.proofs.Early.{early}
 use Rattle.lblt_solve_one.proofs.Keeps.{Forwards, Backwards, divide_two_keeps, swap_keeps, reduce_keeps, backward_keeps, reduced_keeps, backed_keeps}
-use Rattle.lblt_solve_one.proofs.Steps.{reduce_one, reduce_two, back_one, back_two, swap_none}
+use Rattle.lblt_solve_one.proofs.Blocks.{reduce_one, reduce_two, back_one, back_two, swap_none}
 
 module _ (n columns : ℕ) (b₀ : List Float) (long : length b₀ ≡ n * columns) where
   -- a row exchanged with itself

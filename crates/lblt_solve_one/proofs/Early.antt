@@ -1,13 +1,9 @@
 -- A block may be divided as soon as it is eliminated: the blocks after it leave its rows alone.
 --     early     the division pass after the forward pass is the walk of `reduce_block`
-use mathlib.Core.List.{List}
-use mathlib.Core.Logic.{◌⊎◌, inl, inr}
-use mathlib.Core.Path.{◌≡◌, sym, ap, ◌∙◌}
-use Prim.Native.Nat.{ℕ, ◌+◌, ◌<◌, ◌≤◌}
-use native.Mathlib.Omega.{arith}
-use lib.Ieee.{Float, nan}
-use lib.ListN.{set}
-use lib.Seq.{get_or-set_other, set_comm}
+use Rattle.std.specs.Prelude.{List, ◌⊎◌, ◌≡◌, ℕ, ◌+◌, ◌<◌, ◌≤◌, Float, set}
+use Rattle.std.specs.Float.{nan}
+use Rattle.std.proofs.Common.{inl, inr, sym, ap, ◌∙◌, arith, get_or-set_other}
+use Rattle.std.proofs.Math.Seq.{set_comm}
 use Rattle.answer.proofs.Tests.{eq_or_ne}
 use Rattle.matrix.specs.Matrix.{Matrix}
 use Rattle.matrix.specs.Columns.{at}

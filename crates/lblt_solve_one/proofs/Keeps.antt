@@ -1,11 +1,6 @@
 -- A column keeps its length through every step of `solve_column`.
-use mathlib.Core.Bool.{Bool, true, false, cond}
-use mathlib.Core.List.{List}
-use mathlib.Core.Path.{◌≡◌, ◌∙◌}
-use Prim.Native.Nat.{ℕ, ◌+◌, ◌-◌}
-use lib.Dec.{eqb}
-use lib.Ieee.{Float}
-use lib.ListN.{length, length-set}
+use Rattle.std.specs.Prelude.{Bool, true, false, cond, List, ◌≡◌, ℕ, ◌+◌, ◌-◌, eqb, Float, length}
+use Rattle.std.proofs.Common.{◌∙◌, length-set}
 use Rattle.matrix.specs.Matrix.{Matrix}
 use Rattle.matrix.proofs.ColumnsLoops.{Keeping, Keeps, Loop, loop_keeps}
 use Rattle.pivots.specs.Words.{index_at, size_at}

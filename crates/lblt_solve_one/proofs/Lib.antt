@@ -1,4 +1,5 @@
 pub mod Keeps
-pub mod Steps
+pub mod Blocks
+pub mod Rows
 pub mod Early
 pub mod ColumnBlocks

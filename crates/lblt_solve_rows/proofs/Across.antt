@@ -1,10 +1,7 @@
 -- The loops over the rows, told by what they do to each column: `eliminated_one`, `eliminated_two`, `gathered`.
-use mathlib.Core.List.{List}
-use mathlib.Core.Path.{◌≡◌, refl, ◌∙◌}
-use Prim.Native.Nat.{ℕ, ◌+◌, ◌*◌, ◌<◌, ◌≤◌}
-use native.Mathlib.Omega.{arith}
-use lib.Ieee.{Float, nan}
-use lib.ListN.{length, get_or}
+use Rattle.std.specs.Prelude.{List, ◌≡◌, refl, ℕ, ◌+◌, ◌*◌, ◌<◌, ◌≤◌, Float, length, get_or}
+use Rattle.std.specs.Float.{nan}
+use Rattle.std.proofs.Common.{◌∙◌, arith}
 use Rattle.matrix.specs.declared.Layout.{Layout}
 use Rattle.matrix.specs.Grid.{load}
 use Rattle.matrix.specs.Layouts.{lower, start_of}
@@ -17,7 +14,7 @@ use Rattle.matrix.specs.Columns.{each_column}
 use Rattle.matrix.proofs.ColumnsLoops.{Keeping, rising, for_uniform, for_long}
 use Rattle.matrix.proofs.Columns.{each_same, each_loop}
 use Rattle.lblt_solve_rows.specs.inner.Rows.{less_row}
-use Rattle.lblt_solve_rows.proofs.RowSteps.{less_keeps, eliminate_rows, eliminate_rows_two, gather_rows}
+use Rattle.lblt_solve_rows.proofs.ByRow.{less_keeps, eliminate_rows, eliminate_rows_two, gather_rows}
 
 module _ (y : Layout) (a : List Float) (columns : ℕ) (b : List Float) (lined : length b ≡ y.order * columns) (k start : ℕ) (starts : start ≡ start_of y k) where
   pub eliminated_one

@@ -1,3 +1,3 @@
 pub mod Stores
-pub mod RowSteps
+pub mod ByRow
 pub mod Across

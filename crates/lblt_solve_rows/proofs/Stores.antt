@@ -1,27 +1,14 @@
 -- Writing into the columns of a slice: number i of column j stands at j·n + i.
---     Room, room                    column j lies within the slice
 --     store_one, store_two          one number of a column stored, and two
-use mathlib.Core.List.{List, ◌++◌}
-use mathlib.Core.Path.{◌≡◌, refl, sym, ap, ◌∙◌}
-use Prim.Native.Nat.{ℕ, ◌+◌, ◌*◌, ◌<◌, ◌≤◌}
-use native.Mathlib.Omega.{arith}
-use lib.Ieee.{Float, nan}
+use Rattle.std.specs.Prelude.{List, ◌++◌, ◌≡◌, refl, ℕ, ◌+◌, ◌*◌, ◌<◌, Float, get_or, set, take, drop}
+use Rattle.std.specs.Float.{nan}
+use Rattle.std.proofs.Common.{sym, ap, ◌∙◌, arith, take-append-drop, drop-set-lt}
+use Rattle.std.proofs.Math.Seq.{take-set-le, drop-set-add, take-set-lt}
 use Rattle.matrix.specs.Rounded.{◌⊖◌, ◌⊗◌, ◌⊘◌}
-use lib.ListN.{length, get_or, set, take, drop, take-append-drop}
-use lib.Seq.{take-set-le, drop-set-add, take-set-lt, drop-set-lt}
-use Rattle.matrix.specs.Columns.{at, column, at_column, Lined}
+use Rattle.matrix.specs.Columns.{at, column, at_column}
 use Rattle.lblt_solve_one.specs.Column.{swap_rows}
 use Rattle.lblt_solve_rows.specs.inner.Rows.{less_row}
-use Rattle.matrix.proofs.Columns.{column_within}
-use Rattle.matrix.proofs.ColumnsLent.{column_small, number_at}
-
-pub record Room (n j : ℕ) (b : List Float) : Type 0 where
-  pub within : j * n + n ≤ length b
-  pub small : j * n + n ≤ 1048576
-
-pub room : {n columns j : ℕ} {b₀ : List Float} (b : List Float) → n ≤ 1024 → Lined n columns b₀ → length b ≡ length b₀ → j < columns → Room n j b
-room {n} {columns} {j} b few lined long below =
-    record { within = omega (arith, column_within n columns j below, lined.long); small = column_small few lined j below }
+use Rattle.matrix.proofs.ColumnsLent.{number_at}
 
 -- `divide_one` and `divide_two`, given the numbers of the block
 abbrev pub divide_by : ℕ → Float → List Float → List Float

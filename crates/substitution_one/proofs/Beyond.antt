@@ -2,13 +2,10 @@
 --     beyond_less, beyond_then, beyond_set, beyond_for, beyond_same, over_two
 --     eliminate_one_beyond, eliminate_two_beyond      the rows below are eliminated
 --     divide_one_early                                such a step may come after the division of an earlier row
-use mathlib.Core.List.{List}
-use mathlib.Core.Path.{◌≡◌, refl, sym, ap, ◌∙◌}
-use Prim.Native.Nat.{ℕ, zero, suc, ◌+◌, ◌-◌, ◌<◌, ◌≤◌}
-use native.Mathlib.Omega.{arith}
-use lib.Ieee.{Float, nan}
-use lib.ListN.{set}
-use lib.Seq.{get_or-set_other, set_comm}
+use Rattle.std.specs.Prelude.{List, ◌≡◌, refl, ℕ, zero, suc, ◌+◌, ◌-◌, ◌<◌, ◌≤◌, Float, set}
+use Rattle.std.specs.Float.{nan}
+use Rattle.std.proofs.Common.{sym, ap, ◌∙◌, arith, get_or-set_other}
+use Rattle.std.proofs.Math.Seq.{set_comm}
 use Rattle.matrix.specs.Matrix.{Matrix}
 use Rattle.matrix.specs.Loop.{turns, for}
 use Rattle.matrix.specs.Columns.{at}

@@ -1,9 +1,6 @@
 -- A column keeps its length through every step.
-use mathlib.Core.List.{List}
-use mathlib.Core.Path.{◌≡◌}
-use Prim.Native.Nat.{ℕ, ◌+◌}
-use lib.Ieee.{Float}
-use lib.ListN.{length, length-set}
+use Rattle.std.specs.Prelude.{List, ◌≡◌, ℕ, ◌+◌, Float, length}
+use Rattle.std.proofs.Common.{length-set}
 use Rattle.matrix.specs.Matrix.{Matrix}
 use Rattle.matrix.proofs.ColumnsLoops.{Keeps, for_long}
 use Rattle.substitution_one.specs.Steps.{less_one, less_two, eliminate_one, eliminate_two, divide_one, gather_row}

@@ -1,10 +1,7 @@
 -- Entries of the factor at plain offsets, i + start with `start` where column k starts.
-use mathlib.Core.List.{List}
-use mathlib.Core.Path.{◌≡◌}
-use Prim.Native.Nat.{ℕ, ◌+◌, ◌≤◌, ◌<◌}
-use native.Mathlib.Omega.{arith}
-use lib.Ieee.{Float, nan}
-use lib.ListN.{length, get_or, set}
+use Rattle.std.specs.Prelude.{List, ◌≡◌, ℕ, ◌+◌, ◌≤◌, ◌<◌, Float, length, get_or, set}
+use Rattle.std.specs.Float.{nan}
+use Rattle.std.proofs.Common.{arith}
 use Rattle.matrix.specs.declared.Layout.{Layout}
 use Rattle.matrix.specs.Grid.{load}
 use Rattle.matrix.specs.Rounded.{◌⊖◌, ◌⊗◌}

@@ -1,45 +1,22 @@
 -- `solve_lower` goes forward two rows at a time, and then takes the row that is left.
-use native.Mathlib.Omega.{arith}
-use mathlib.Core.Path.{◌∙◌}
-use Rattle.matrix.proofs.Turning.{turning_none, turning_on, turning_all}
-use Rattle.cholesky_solve_one.specs.Triangles.{solve_lower}
-use Rattle.cholesky_solve_one.proofs.Forward.{lowered_last}
+use Rattle.std.specs.Prelude.{◌≡◌, ◌+◌, ◌-◌, ◌*◌}
+use Rattle.std.proofs.Common.{arith}
+use Rattle.matrix.proofs.Turning.{turning_none, turning_on}
+use Rattle.cholesky_solve_one.proofs.Forward.{lowered, lowered_last}
 use Rattle.cholesky_solve_one.proofs.solve_lower.Goals as goal
 
-pub loop-k-init : goal.loop-k-init
-loop-k-init c = turning_none (omega arith)
+pub loop-pair-init : goal.loop-pair-init
+loop-pair-init g c = turning_none (omega arith)
 
-pub overflow_add-k : goal.overflow_add-k
-overflow_add-k c =
-    omega (arith, c.loop-k.invariant.ran.upto, c.requires.factor.roomy)
+pub loop-pair-preserved : goal.loop-pair-preserved
+loop-pair-preserved g c =
+    let next : 2 * (c.loop-pair.pair + 1) ≡ 2 * c.loop-pair.pair + 2 = omega arith in
+    rw next (turning_on c.loop-pair.invariant 2 (omega arith) c.lower_two.ensures c.lower_two.auto.b)
 
-pub lower_two-requires-clause-sides : goal.lower_two-requires-clause-sides
-lower_two-requires-clause-sides c = record { factor = c.requires.factor; long = c.loop-k.invariant.long ∙ c.requires.long }
+pub returns-then-n-eq1 : goal.returns-then-n-eq1
+returns-then-n-eq1 g c =
+    let last : c.args.y.order - 1 ≡ 2 * c.loop-pair.pair = omega arith in
+    lowered_last _ _ _ _ c.requires.long c.loop-pair.invariant (omega arith) (omega arith) (rw last at c.divide_one.ensures) c.divide_one.auto.b
 
-pub lower_two-requires-clause-k_bound : goal.lower_two-requires-clause-k_bound
-lower_two-requires-clause-k_bound c = c.loop-k-test.true
-
-pub overflow_add-k-in-loop-k : goal.overflow_add-k-in-loop-k
-overflow_add-k-in-loop-k c =
-    omega (arith, c.loop-k.invariant.ran.upto, c.requires.factor.roomy)
-
-pub loop-k-preserved : goal.loop-k-preserved
-loop-k-preserved c =
-    turning_on c.loop-k.invariant 2 (omega (arith, c.loop-k-test.true)) c.lower_two.ensures c.lower_two.auto.b
-
-pub shape_of-b-then-n-k : goal.shape_of-b-then-n-k
-shape_of-b-then-n-k c = c.loop-k.invariant.long
-
-pub returns-then-n-k : goal.returns-then-n-k
-unfolding solve_lower
-returns-then-n-k c = turning_all c.loop-k.invariant c.if-n-k.true
-
-pub divide_one-requires-clause-sides : goal.divide_one-requires-clause-sides
-divide_one-requires-clause-sides c = record { factor = c.requires.factor; long = c.loop-k.invariant.long ∙ c.requires.long }
-
-pub divide_one-requires-clause-k_lt_order : goal.divide_one-requires-clause-k_lt_order
-divide_one-requires-clause-k_lt_order c = c.if-n-k.false
-
-pub returns : goal.returns
-returns c =
-    lowered_last _ _ c.loop-k.invariant c.if-n-k.false c.loop-k-test.false c.divide_one.ensures
+pub returns-else-n-eq1 : goal.returns-else-n-eq1
+returns-else-n-eq1 g c = lowered _ _ _ _ c.requires.long c.loop-pair.invariant (omega arith)

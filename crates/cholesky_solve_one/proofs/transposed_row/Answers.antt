@@ -1,26 +1,12 @@
 -- `transposed_row` takes a row's step of the way back.
-use native.Mathlib.Omega.{arith}
-use Rattle.cholesky_solve_one.proofs.Back.{found}
+use Rattle.std.proofs.Common.{arith}
+use Rattle.cholesky_solve_one.proofs.Back.{found, row_stored}
 use Rattle.cholesky_solve_one.proofs.transposed_row.Goals as goal
 
-pub get-requires-clause-laid : goal.get-requires-clause-laid
-get-requires-clause-laid c = c.requires.sides.factor
+pub returns-clause-columns : goal.returns-clause-columns
+returns-clause-columns g c =
+    found _ _ _ _ c.requires.sides.long _ c.requires.i_bound c.of.ensures c.requires.last_value c.get.ensures c.less-first.ensures c.less_rows.ensures
+    c.get-2.ensures c.over-x.ensures c.put.auto.b c.put.ensures
 
-pub get-requires-clause-i_lt_order : goal.get-requires-clause-i_lt_order
-get-requires-clause-i_lt_order c = c.requires.i_bound
-
-pub less_rows-requires-clause-sides : goal.less_rows-requires-clause-sides
-less_rows-requires-clause-sides c = c.requires.sides
-
-pub less_rows-requires-clause-from_le_order : goal.less_rows-requires-clause-from_le_order
-less_rows-requires-clause-from_le_order c = omega (arith, c.requires.i_bound)
-
-pub get-requires-2-clause-laid : goal.get-requires-2-clause-laid
-get-requires-2-clause-laid c = c.requires.sides.factor
-
-pub get-requires-2-clause-i_lt_order : goal.get-requires-2-clause-i_lt_order
-get-requires-2-clause-i_lt_order c = omega (arith, c.requires.i_bound)
-
-pub returns : goal.returns
-returns c =
-    found _ _ _ _ c.requires.sides.long c.requires.i_bound c.get.ensures c.requires.last_value c.less_rows.ensures c.get-2.ensures
+pub returns-clause-row : goal.returns-clause-row
+returns-clause-row g c = row_stored _ _ _ _ c.requires.sides.long (omega (arith, c.requires.i_bound)) _ _ c.put.ensures

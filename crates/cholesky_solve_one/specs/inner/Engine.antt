@@ -1,5 +1,5 @@
 -- What the engine's parts promise to each other.
-use Rattle.std.specs.Prelude.{List, ◌≡◌, ℕ, ◌+◌, Float}
+use Rattle.std.specs.Prelude.{List, ℕ, ◌+◌, Float}
 use Rattle.matrix.specs.Matrix.{Matrix}
 use Rattle.matrix.specs.Columns.{at}
 use Rattle.substitution_one.specs.Steps.{less_one}
@@ -8,8 +8,3 @@ use Rattle.substitution_one.specs.Steps.{less_one}
 unfoldable pub next_row : Matrix → ℕ → List Float → List Float
 unfolding less_one
 next_row L k b = less_one L k (at b k) (k + 1) b
-
--- a step that leaves the column as said and answers its number at row i
-pub record Found (i : ℕ) (left : List Float) (x : Float) (b : List Float) : Type 0 where
-  pub column : b ≡ left
-  pub number : x ≡ at b i

@@ -1,32 +1,11 @@
 -- `backward_block` takes the rows below from one block.
-use Rattle.pivots.proofs.Walks.{reads_two}
-use Rattle.lblt_solve_one.proofs.Steps.{backed_one, backed_two}
-use native.Mathlib.Omega.{arith}
-use mathlib.Core.Path.{◌∙◌}
-use Prim.Native.Nat.{◌-◌}
+use Rattle.lblt_solve_one.proofs.ColumnBlocks.{columns_backed_one, columns_backed_two}
 use Rattle.lblt_solve_one.proofs.backward_block.Goals as goal
 
 pub returns-then-size-eq1 : goal.returns-then-size-eq1
-returns-then-size-eq1 c =
-    backed_one _ _ _ _ c.size.ensures c.index-p.ensures _ c.if-size-eq1.true c.gather_row.ensures c.swap_rows.ensures
-
-pub overflow_sub-k : goal.overflow_sub-k
-overflow_sub-k c =
-    omega (arith, c.requires.block_before.rows, reads_two c.args.words.now (c.args.k - 1) c.size.ensures c.if-size-eq1.false)
-
-pub gather_row-requires-2-clause-sides : goal.gather_row-requires-2-clause-sides
-gather_row-requires-2-clause-sides c = record { factor = c.requires.sides.factor; long = c.gather_row.auto.b ∙ c.requires.sides.long }
-
-pub gather_row-requires-2-clause-row_lt_from : goal.gather_row-requires-2-clause-row_lt_from
-gather_row-requires-2-clause-row_lt_from c = omega (arith, c.requires.block_before.inside)
-
-pub gather_row-requires-2-clause-from_le_order : goal.gather_row-requires-2-clause-from_le_order
-gather_row-requires-2-clause-from_le_order c = c.requires.block_before.end
-
-pub overflow_sub-result-2 : goal.overflow_sub-result-2
-overflow_sub-result-2 c =
-    omega (arith, c.requires.block_before.rows, reads_two c.args.words.now (c.args.k - 1) c.size.ensures c.if-size-eq1.false)
+returns-then-size-eq1 g c =
+    columns_backed_one _ _ _ c.requires.sides.long _ _ _ c.size.ensures c.index-p.ensures c.if-size-eq1.true c.gather_row.ensures c.swap_rows.ensures
 
 pub returns : goal.returns
-returns c =
-    backed_two _ _ _ _ c.size.ensures c.index-p.ensures _ c.if-size-eq1.false c.gather_row.ensures c.gather_row-2.ensures c.swap_rows-2.ensures
+returns g c =
+    columns_backed_two _ _ _ c.requires.sides.long _ _ _ c.size.ensures c.index-p.ensures c.if-size-eq1.false c.gather_row.ensures c.gather_row-2.ensures c.swap_rows-2.ensures

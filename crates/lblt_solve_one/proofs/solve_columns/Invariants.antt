@@ -4,11 +4,7 @@ use Rattle.matrix.specs.Columns.{at_column}
 use Rattle.lblt_solve_one.specs.Column.{solve_column}
 use Rattle.matrix.specs.Layouts.{lower}
 use Rattle.matrix.specs.Grid.{load}
-use Prim.Native.Nat.{◌-◌}
 use Rattle.lblt_solve_one.proofs.solve_columns.Given as goal
 
 abbrev pub invariant-loop-j : goal.invariant-loop-j
 invariant-loop-j l = Turning 0 l.columns (at_column l.y.order (solve_column l.y.order (load (lower l.y) l.a) l.words)) l.initial.b l.j l.b
-
-abbrev pub decreases-loop-j : goal.decreases-loop-j
-decreases-loop-j l = l.columns - l.j

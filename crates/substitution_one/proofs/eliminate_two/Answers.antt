@@ -1,45 +1,14 @@
 -- `eliminate_two` takes columns k and k + 1 of the factor, times their rows, from the rows below.
-use Rattle.substitution_one.proofs.Offsets.{less_two_law, offset_small, offset_within}
-use Rattle.matrix.proofs.Turning.{turning_none, turning_more, turning_all}
-use Rattle.substitution_one.specs.Steps.{eliminate_two}
-use lib.ListN.{length-set}
-use native.Mathlib.Omega.{arith}
-use mathlib.Core.Path.{refl, ◌∙◌}
-use borrow.Author.Rules.{rules}
+use Rattle.std.proofs.Common.{arith}
+use Rattle.substitution_one.proofs.Sweeps.{sweeping_none, sweep_two, swept_two}
 use Rattle.substitution_one.proofs.eliminate_two.Goals as goal
 
 pub loop-i-init : goal.loop-i-init
-loop-i-init c = turning_none (search rules)
-
-pub overflow_add-b : goal.overflow_add-b
-overflow_add-b c =
-    omega (arith, offset_small _ _ _ _ c.start-start.ensures (omega arith) c.requires.sides.factor)
-
-pub offset_bounds-a-i : goal.offset_bounds-a-i
-offset_bounds-a-i c =
-    omega (arith, offset_small _ _ _ _ c.start-start.ensures (omega arith) c.requires.sides.factor)
-
-pub bounds-a-i : goal.bounds-a-i
-bounds-a-i c =
-    offset_within _ _ _ _ _ c.start-start.ensures (omega arith) c.loop-i-test.true c.requires.sides.factor
-
-pub overflow_add-b-in-loop-i : goal.overflow_add-b-in-loop-i
-overflow_add-b-in-loop-i c =
-    omega (arith, offset_small _ _ _ _ c.start-next.ensures (omega arith) c.requires.sides.factor)
-
-pub offset_bounds-a-i-in-loop-i : goal.offset_bounds-a-i-in-loop-i
-offset_bounds-a-i-in-loop-i c =
-    omega (arith, offset_small _ _ _ _ c.start-next.ensures (omega arith) c.requires.sides.factor)
-
-pub bounds-a-i-in-loop-i : goal.bounds-a-i-in-loop-i
-bounds-a-i-in-loop-i c =
-    offset_within _ _ _ _ _ c.start-next.ensures (omega arith) c.loop-i-test.true c.requires.sides.factor
-
-pub loop-i-preserved : goal.loop-i-preserved
-loop-i-preserved c =
-    turning_more c.loop-i.invariant c.loop-i-test.true refl (simp length-set)
+loop-i-init g c = sweeping_none c.requires.sides.long
 
 pub returns : goal.returns
-unfolding eliminate_two
-returns c =
-    turning_all c.loop-i.invariant c.loop-i-test.false ∙ less_two_law _ _ _ _ c.start-start.ensures _ c.start-next.ensures _ _ _
+returns g c = swept_two _ _ _ _ c.start-start.ensures (omega (arith, c.loop-i.auto, c.loop-i-test.false, c.requires.k_bound)) _ c.start-next.ensures c.loop-i.invariant
+
+pub loop-i-preserved : goal.loop-i-preserved
+loop-i-preserved g c =
+    sweep_two _ _ _ _ c.loop-i.invariant c.loop-i.auto.i c.of-x.ensures c.of-z.ensures c.of.ensures c.less-once.ensures c.less.ensures c.put.auto.b c.put.ensures

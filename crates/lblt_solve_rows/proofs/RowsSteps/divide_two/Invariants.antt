@@ -1,0 +1,8 @@
+-- `divide_two` solves a block of size 2, one column after the other.
+use Rattle.matrix.proofs.Turning.{Turning}
+use Rattle.matrix.specs.Columns.{at_column}
+use Rattle.lblt_solve_rows.proofs.Stores.{divide_two_by}
+use Rattle.lblt_solve_rows.proofs.RowsSteps.divide_two.Given as goal
+
+abbrev pub invariant-loop-j : goal.invariant-loop-j
+invariant-loop-j l = Turning 0 l.fn.self.columns (at_column l.n (divide_two_by l.k l.d11 l.d22 l.d21 l.det)) l.initial.b l.j l.b

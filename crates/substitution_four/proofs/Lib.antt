@@ -1,3 +1,0 @@
-pub mod Rows
-pub mod Sweeps
-pub mod Gathers
