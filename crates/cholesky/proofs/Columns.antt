@@ -1,5 +1,5 @@
 -- The laws of the engine's work on one column. Assumes nothing.
-use mathlib.Core.Path.{◌≡◌, sym, ◌∙◌, ap, ap₂, subst}
+use mathlib.Core.Path.{◌≡◌, refl, sym, ◌∙◌, ap, ap₂, subst}
 use mathlib.Core.List.{List}
 use mathlib.Core.Logic.{inl}
 use Prim.Native.Nat.{ℕ, ◌+◌, ◌-◌, ◌≤◌, ◌<◌}
@@ -12,16 +12,17 @@ use Rattle.matrix.specs.Loop.{for}
 use Rattle.matrix.specs.Grid.{Sound, load}
 use Rattle.matrix.specs.Layouts.{start_of, lower, Laid}
 use Rattle.matrix.specs.Rounded.{◌⊕◌, ◌⊗◌, ◌⊘◌}
-use Rattle.matrix.proofs.Loops.{for_none, for_same, for_one, for_four, for_join}
+use Rattle.matrix.proofs.Loops.{for_none, for_same, for_join}
 use Rattle.matrix.proofs.Triangles.{columns_apart}
 use Rattle.matrix.proofs.Places.{lower_at, lower_within}
 use Rattle.strips.specs.declared.Source.{Source}
 use Rattle.cholesky.specs.Column.{less, updated, divided, part}
 use Rattle.cholesky.specs.Run.{updates, below}
-use Rattle.strips.specs.inner.Strip.{row_at, Strip, Elsewhere, plus, axpy_of, axpy4_of, ratio_of}
+use Rattle.strips.specs.inner.Strip.{row_at, Strip, Elsewhere, plus, axpy_of, ratio_of}
 use Rattle.strips.proofs.Strips.{strip_at}
+use Rattle.strips.proofs.Gathering.{fold_for}
 use Rattle.cholesky.specs.Leaves.{Leaves}
-use Rattle.cholesky.specs.inner.Engine.{Reach, Sourced, less_columns, TakenOff}
+use Rattle.cholesky.specs.inner.Engine.{Reach, Sourced, less_columns}
 use Rattle.cholesky.proofs.Parts.{Where, within, above, beside, where?, part_in, part_above, part_beside, Agree, agree_same, part_agree, leaves_agree, leaves_none, leaves_as, leaves_then, strip_leaves}
 
 -- ---- places
@@ -35,7 +36,15 @@ source_elsewhere {y} {l} {r} {j} {k} {to} {s} laid reach before is at = record {
   beside = inl (let apart = columns_apart y k j before (omega (arith, laid.roomy.ordered, reach.column)) in omega (arith, is.start, reach.from, laid.roomy.ordered));
 }
 
--- ---- one column taken off, all columns, the division
+-- column k on its way to column j
+column_on : Layout → List Float → ℕ → ℕ → Source
+column_on y l j k = record { start = start_of y k; scale = neg (load (lower y) l j k) }
+
+sourced_is : {y : Layout} {l : List Float} {j k : ℕ} {s : Source} → Sourced y l j k s → s ≡ column_on y l j k
+unfolding column_on
+sourced_is is = ap₂ (λ (start : ℕ) (scale : Float). record { start = start; scale = scale }) is.start is.scale
+
+-- ---- some columns taken off, all columns, the division
 
 module _ (y : Layout) (j : ℕ) (l₀ : List Float) where
   -- row i of column j, as the strip reads it
@@ -56,24 +65,16 @@ module _ {y : Layout} {r j : ℕ} {l₀ l : List Float} (laid : Laid y l₀) whe
       leaves_as (strip_leaves y r j v l₀ l laid.sound from (strip_at is strip))
       (part_agree r j v w agree_same (λ i a b. same i (omega arith) b))
 
-  pub subtract_leaves : {k to : ℕ} {s : Source} → Reach y r j → k < j → to ≡ start_of y j → Sourced y l₀ j k s
-      → Strip to r y.order (axpy_of l₀ to s) l₀ l → Leaves y l₀ l (part r j (less_columns (load (lower y) l₀) j k (k + 1)) (load (lower y) l₀))
-  unfolding axpy_of less_columns
-  subtract_leaves {k} {to} {s} reach before is at-s strip =
-      part_leaves reach.from to (axpy_of l₀ to s) (less_columns (load (lower y) l₀) j k (k + 1)) is strip (λ i a b.
-      plus_less y j l₀ k s before at-s i _ _ a b (given y j l₀ to is i a b) ∙ sym (for_one k (less (load (lower y) l₀) i j) (load (lower y) l₀ i j)))
-
-  pub subtract4_leaves : {k to : ℕ} {s t u v : Source} → Reach y r j → k + 3 < j → to ≡ start_of y j
-      → Sourced y l₀ j k s → Sourced y l₀ j (k + 1) t → Sourced y l₀ j (k + 2) u → Sourced y l₀ j (k + 3) v
-      → Strip to r y.order (axpy4_of l₀ to s t u v) l₀ l → Leaves y l₀ l (part r j (less_columns (load (lower y) l₀) j k (k + 4)) (load (lower y) l₀))
-  unfolding axpy4_of less_columns
-  subtract4_leaves {k} {to} {s} {t} {u} {v} reach before is at-s at-t at-u at-v strip =
-      part_leaves reach.from to (axpy4_of l₀ to s t u v) (less_columns (load (lower y) l₀) j k (k + 4)) is strip (λ i a b.
-      plus_less y j l₀ (k + 3) v (omega arith) at-v i _ _ a b
-      (plus_less y j l₀ (k + 2) u (omega arith) at-u i _ _ a b
-      (plus_less y j l₀ (k + 1) t (omega arith) at-t i _ _ a b
-      (plus_less y j l₀ k s (omega arith) at-s i _ _ a b (given y j l₀ to is i a b))))
-      ∙ sym (for_four k (less (load (lower y) l₀) i j) (load (lower y) l₀ i j)))
+  pub subtract_leaves : (k w : ℕ) {to : ℕ} (ss : List Source) → Reach y r j → k + w ≤ j → to ≡ start_of y j → length ss ≡ w → ((c : ℕ) (s : Source) → c < w → Sourced y l₀ j (k + c) (get_or ss c s))
+      → Strip to r y.order (axpy_of l₀ to ss) l₀ l → Leaves y l₀ l (part r j (less_columns (load (lower y) l₀) j k (k + w)) (load (lower y) l₀))
+  unfolding axpy_of less_columns column_on
+  subtract_leaves k w {to} ss reach before is long each strip =
+      part_leaves reach.from to (axpy_of l₀ to ss) (less_columns (load (lower y) l₀) j k (k + w)) is strip (λ i a b.
+      fold_for (column_on y l₀ j) (λ s x. plus l₀ s i x) ss k (row_at l₀ to i) (λ c s below. sourced_is (each c s (omega arith)))
+      ∙ ap (λ (hi : ℕ). for k hi (λ c. plus l₀ (column_on y l₀ j c) i) (row_at l₀ to i)) (omega arith)
+      ∙ for_same k (k + w) (λ c. plus l₀ (column_on y l₀ j c) i) (less (load (lower y) l₀) i j) (row_at l₀ to i) (λ c x low high.
+      plus_less y j l₀ c (column_on y l₀ j c) (omega arith) (record { start = refl; scale = refl }) i x x a b refl)
+      ∙ ap (for k (k + w) (less (load (lower y) l₀) i j)) (given y j l₀ to is i a b))
 
   pub divide_leaves : {at : ℕ} {d : Float} → j ≤ r → at ≡ start_of y j → d ≡ load (lower y) l₀ j j
       → Strip at r y.order (ratio_of l₀ at d) l₀ l → Leaves y l₀ l (below r j (load (lower y) l₀))
@@ -102,11 +103,15 @@ updating_none {y} {r} {j} {l} good = record { upto = omega arith; leaves = leave
     cell i c (above h) = sym (part_above r j (updated M j 0) M i c h)
     cell i c (beside h) = sym (part_beside r j (updated M j 0) M i c h)
 
-pub updating_more : {y : Layout} {r j : ℕ} {l₀ : List Float} {k : ℕ} {l l' : List Float} {next : ℕ} → Updating y r j l₀ k l → Reach y r j → TakenOff y r j k l l' next → Updating y r j l₀ next l'
+pub updating_more : {y : Layout} {r j : ℕ} {l₀ : List Float} {k : ℕ} {l l' : List Float} (w : ℕ) → Updating y r j l₀ k l → Reach y r j → k + w ≤ j
+    → Leaves y l l' (part r j (less_columns (load (lower y) l) j k (k + w)) (load (lower y) l)) → Updating y r j l₀ (k + w) l'
 unfolding less_columns updated
-updating_more {y} {r} {j} {l₀} {k} {l} {l'} {next} u reach step =
-    record { upto = step.within; leaves = leaves_then u.leaves step.leaves (record { at = λ i c le lt. cell i c le lt (where? r j i c) }) }
+updating_more {y} {r} {j} {l₀} {k} {l} {l'} w u reach room step =
+    record { upto = room; leaves = leaves_then u.leaves step (record { at = λ i c le lt. cell i c le lt (where? r j i c) }) }
   where
+    next : ℕ
+    next = k + w
+
     M : Matrix
     M = load (lower y) l₀
 
@@ -123,8 +128,6 @@ updating_more {y} {r} {j} {l₀} {k} {l} {l'} {next} u reach step =
     row : (i : ℕ) → r ≤ i → i < y.order → less_columns L j k next i ≡ updated M j next i
     row i from lt =
         let low = reach.from in
-        let onward = step.onward in
-        let within = step.within in
         for_same k next (less L i j) (less M i j) (L i j) (λ c x a b. less_same L M i j c x (other j c (omega arith) reach.column (λ e. omega arith)) (other i c (omega arith) lt (λ e. omega arith)))
         ∙ ap (for k next (less M i j)) (was.at i j (omega arith) lt ∙ part_in r j (updated M j k) M i from)
         ∙ for_join 0 k next (less M i j) (M i j) (omega arith) (omega arith)
@@ -135,6 +138,10 @@ updating_more {y} {r} {j} {l₀} {k} {l} {l'} {next} u reach step =
         (part_in r j (less_columns L j k next) L i from ∙ row i from lt ∙ sym (part_in r j (updated M j next) M i from))
     cell i c le lt (above h) = part_above r j (less_columns L j k next) L i c h ∙ was.at i c le lt ∙ part_above r j (updated M j k) M i c h ∙ sym (part_above r j (updated M j next) M i c h)
     cell i c le lt (beside h) = part_beside r j (less_columns L j k next) L i c h ∙ other i c le lt h ∙ sym (part_beside r j (updated M j next) M i c h)
+
+-- the same count of columns and the same slice, under other names
+pub updating_at : {y : Layout} {r j : ℕ} {l₀ : List Float} {k k' : ℕ} {l l' : List Float} → k ≡ k' → l' ≡ l → Updating y r j l₀ k l → Updating y r j l₀ k' l'
+updating_at count same u = rw (← count, same) u
 
 pub updating_all : {y : Layout} {r j : ℕ} {l₀ : List Float} {k : ℕ} {l : List Float} → Updating y r j l₀ k l → j ≤ k → Leaves y l₀ l (updates r j (load (lower y) l₀))
 unfolding updates

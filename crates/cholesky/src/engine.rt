@@ -1,5 +1,5 @@
 // The columns of a batch, one after the other.
-ghost use Rattle.std.specs.Prelude.{◌≡◌, ◌+◌, ◌≤◌, ◌<◌};
+ghost use Rattle.std.specs.Prelude.{◌≡◌, ℕ, ◌+◌, ◌≤◌, ◌<◌, slice_index_or};
 ghost use Rattle.leaf.specs.Root.{root_of};
 ghost use Rattle.matrix.specs.Grid.{load};
 ghost use Rattle.matrix.specs.Layouts.{lower, Laid};
@@ -8,11 +8,12 @@ ghost use Rattle.cholesky.specs.Run.{updates, below};
 ghost use Rattle.cholesky.specs.Crate.{answer_to};
 ghost use Rattle.cholesky.specs.Floor.{floor_rule};
 ghost use Rattle.cholesky.specs.Leaves.{Leaves};
-ghost use Rattle.cholesky.specs.inner.Engine.{Reach, Sourced, less_columns, TakenOff, Judgement, Finished, Advanced, RanThrough};
+ghost use Rattle.cholesky.specs.inner.Engine.{Reach, Sourced, less_columns, Judgement, Finished, Advanced, RanThrough};
 
 use crate::Floored;
 use answer::{Answer, Refusal};
 use matrix::Layout;
+use std::array;
 use strips::Source;
 
 // What stands for a diagonal that is let through, and how many columns used the floor there: 1 if it stood in, else 0.
@@ -73,55 +74,39 @@ fn source(y: Layout, a: &[f64], j: usize, k: usize) -> Source
     }
 }
 
-// The rows from r on of column j, less what column k takes.
-fn subtract(y: Layout, a: &mut [f64], r: usize, j: usize, k: usize)
-    requires laid { Laid y a.old }
-    requires reach { Reach y r j }
-    requires k_lt_j { k < j }
-    ensures { Leaves y a.old a.new (part r j (less_columns (load (lower y) a.old) j k (k + 1)) (load (lower y) a.old)) }
+// The W columns from k on, and what they are multiplied by.
+fn sources<const W: usize>(y: Layout, a: &[f64], j: usize, k: usize) -> [Source; W]
+    requires laid { Laid y a.now }
+    requires k_bound { k + W ≤ j }
+    requires j_lt_order { j < y.order }
+    ensures { (c : ℕ) (s : _) → c < W → Sourced y a.now j (k + c) (slice_index_or result c s) }
 {
-    let s = source(y, a, j, k);
-    strips::axpy(a, y.start(j), r, y.order, s);
+    array::from_fn(|c| source(y, a, j, k + c))
 }
 
-// The same for the four columns from k on.
-fn subtract4(y: Layout, a: &mut [f64], r: usize, j: usize, k: usize)
+// The rows from r on of column j, less what the W columns from k on take.
+fn subtract<const W: usize>(y: Layout, a: &mut [f64], r: usize, j: usize, k: usize)
     requires laid { Laid y a.old }
     requires reach { Reach y r j }
-    requires k_bound { k + 3 < j }
-    ensures { Leaves y a.old a.new (part r j (less_columns (load (lower y) a.old) j k (k + 4)) (load (lower y) a.old)) }
+    requires k_bound { k + W ≤ j }
+    ensures { Leaves y a.old a.new (part r j (less_columns (load (lower y) a.old) j k (k + W)) (load (lower y) a.old)) }
 {
-    let s = source(y, a, j, k);
-    let t = source(y, a, j, k + 1);
-    let u = source(y, a, j, k + 2);
-    let v = source(y, a, j, k + 3);
-    strips::axpy4(a, y.start(j), r, y.order, s, t, u, v);
+    let columns: [Source; W] = sources(y, a, j, k);
+    strips::axpy(a, y.start(j), r, y.order, columns);
 }
 
-// Takes off one column or four from k on, and answers the next.
-fn take(y: Layout, a: &mut [f64], r: usize, j: usize, k: usize) -> usize
-    requires laid { Laid y a.old }
-    requires reach { Reach y r j }
-    requires k_lt_j { k < j }
-    ensures { TakenOff y r j k a.old a.new result }
-{
-    if k + 3 < j {
-        subtract4(y, a, r, j, k);
-        return k + 4;
-    }
-    subtract(y, a, r, j, k);
-    k + 1
-}
-
-// The rows from r on of column j, less what the columns before it take.
+// The rows from r on of column j, less what the columns before it take: four at a time, then the others.
 fn update(y: Layout, a: &mut [f64], r: usize, j: usize)
     requires laid { Laid y a.old }
     requires reach { Reach y r j }
     ensures { Leaves y a.old a.new (updates r j (load (lower y) a.old)) }
 {
-    let mut k: usize = 0;
-    while k < j {
-        k = take(y, a, r, j, k);
+    let others = j - j % 4;
+    for k in (0..others).step_by(4) {
+        subtract::<4>(y, a, r, j, k);
+    }
+    for k in others..j {
+        subtract::<1>(y, a, r, j, k);
     }
 }
 

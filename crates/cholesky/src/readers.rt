@@ -14,12 +14,9 @@ pub fn diagonal(y: Layout, a: &[f64]) -> f64
     requires { Laid y a.now }
     ensures { result ≡ product_of y.order (load (lower y) a.now) }
 {
-    let n = y.order;
     let mut product = 1.0;
-    let mut i: usize = 0;
-    while i < n {
-        product = product * matrix::get(y, a, i, i);
-        i += 1;
+    for i in 0..y.order {
+        product *= matrix::get(y, a, i, i);
     }
     product
 }
@@ -30,11 +27,8 @@ pub fn clear_above(y: Layout, a: &mut [f64])
     requires packed_value { y.packed ≡ false }
     ensures { Holds (strict y) a.old a.new (mask (strict y) all_zero) }
 {
-    let n = y.order;
-    let mut j: usize = 0;
-    while j < n {
+    for j in 0..y.order {
         strips::clear(a, y.start(j), 0, j);
-        j += 1;
     }
 }
 
@@ -55,10 +49,7 @@ pub fn copy(y: Layout, a: &[f64], l: &mut [f64])
     requires l_len { length l.old ≡ y.order * y.order }
     ensures { Fills y.order l.new (mask (square y.order) (triangle (load (lower y) a.now))) }
 {
-    let n = y.order;
-    let mut j: usize = 0;
-    while j < n {
+    for j in 0..y.order {
         copy_column(y, a, l, j);
-        j += 1;
     }
 }

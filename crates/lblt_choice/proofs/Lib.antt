@@ -1,3 +1,2 @@
-pub mod NoNan
 pub mod Choices
 pub mod Range

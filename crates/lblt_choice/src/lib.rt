@@ -7,7 +7,7 @@ ghost use Rattle.matrix.specs.Layouts.{lower, Laid};
 ghost use Rattle.std.specs.Float.Ieee.{is_nan};
 ghost use Rattle.leaf.specs.Abs.{abs_of};
 ghost use Rattle.leaf.specs.Maximum.{maximum_of};
-ghost use Rattle.lblt_choice.specs.Choice.{greater, column_max, along_row, down_column, row_max, contest, choose};
+ghost use Rattle.lblt_choice.specs.Choice.{greater, column_max, along_row, row_max, contest, choose};
 
 use leaf::{abs, maximum};
 use matrix::{Layout, get};
@@ -31,20 +31,23 @@ pub enum Choice {
     Two(usize),
 }
 
-fn greater(y: Layout, a: &[f64], k: usize, i: usize, top: Largest) -> Largest
-    requires laid { Laid y a.now }
-    requires k_le_i { k ≤ i }
-    requires i_lt_order { i < y.order }
-    ensures { result ≡ greater (load (lower y) a.now) k i top }
-{
-    let magnitude = abs(get(y, a, i, k));
-    if magnitude > top.colmax {
-        return Largest {
-            imax: i,
-            colmax: magnitude,
-        };
+impl Largest {
+    // Row i replaces it only if its entry of column k is greater.
+    fn or_row(self, y: Layout, a: &[f64], k: usize, i: usize) -> Largest
+        requires laid { Laid y a.now }
+        requires k_le_i { k ≤ i }
+        requires i_lt_order { i < y.order }
+        ensures { result ≡ greater (load (lower y) a.now) k i self }
+    {
+        let magnitude = abs(get(y, a, i, k));
+        if magnitude > self.colmax {
+            return Largest {
+                imax: i,
+                colmax: magnitude,
+            };
+        }
+        self
     }
-    top
 }
 
 fn column_max(y: Layout, a: &[f64], k: usize) -> Largest
@@ -64,7 +67,7 @@ fn column_max(y: Layout, a: &[f64], k: usize) -> Largest
         colmax: abs(get(y, a, k + 1, k)),
     };
     for i in (k + 2)..n {
-        top = greater(y, a, k, i, top);
+        top = top.or_row(y, a, k, i);
     }
     top
 }
@@ -81,28 +84,19 @@ fn larger(most: f64, x: f64) -> f64
     most
 }
 
-fn along_row(y: Layout, a: &[f64], i: usize, j: usize, rowmax: f64) -> f64
+// The larger of what is met and entry (i, j).
+fn or_entry(y: Layout, a: &[f64], i: usize, j: usize, most: f64) -> f64
     requires laid { Laid y a.now }
     requires j_le_i { j ≤ i }
     requires i_lt_order { i < y.order }
-    requires begun_no_nan { T (not (is_nan rowmax)) }
-    ensures value { result ≡ along_row (load (lower y) a.now) i j rowmax }
+    requires begun_no_nan { T (not (is_nan most)) }
+    ensures value { result ≡ along_row (load (lower y) a.now) i j most }
     ensures no_nan { T (not (is_nan result)) }
 {
-    larger(rowmax, abs(get(y, a, i, j)))
+    larger(most, abs(get(y, a, i, j)))
 }
 
-fn down_column(y: Layout, a: &[f64], i: usize, j: usize, rowmax: f64) -> f64
-    requires laid { Laid y a.now }
-    requires i_le_j { i ≤ j }
-    requires j_lt_order { j < y.order }
-    requires begun_no_nan { T (not (is_nan rowmax)) }
-    ensures value { result ≡ down_column (load (lower y) a.now) i j rowmax }
-    ensures no_nan { T (not (is_nan result)) }
-{
-    larger(rowmax, abs(get(y, a, j, i)))
-}
-
+// Along row i up to the diagonal, then down column i.
 fn row_max(y: Layout, a: &[f64], k: usize, i: usize) -> f64
     requires laid { Laid y a.now }
     requires k_le_i { k ≤ i }
@@ -112,10 +106,10 @@ fn row_max(y: Layout, a: &[f64], k: usize, i: usize) -> f64
     let n = y.order;
     let mut rowmax = 0.0;
     for j in k..i {
-        rowmax = along_row(y, a, i, j, rowmax);
+        rowmax = or_entry(y, a, i, j, rowmax);
     }
     for j in (i + 1)..n {
-        rowmax = down_column(y, a, i, j, rowmax);
+        rowmax = or_entry(y, a, j, i, rowmax);
     }
     rowmax
 }

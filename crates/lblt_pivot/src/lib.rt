@@ -8,6 +8,7 @@ ghost use Rattle.lblt_pivot.specs.Pivot.{pivot1, pivot2};
 
 use matrix::Layout;
 
+mod by_pairs;
 mod interchange;
 mod rank1;
 mod rank2;

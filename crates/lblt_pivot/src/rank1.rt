@@ -3,9 +3,10 @@ ghost use Rattle.std.specs.Prelude.{◌+◌, ◌≤◌, ◌<◌};
 ghost use Rattle.matrix.specs.Grid.{Holds, load};
 ghost use Rattle.matrix.specs.Layouts.{lower, Laid};
 ghost use Rattle.matrix.specs.Loop.{for};
-ghost use Rattle.lblt_pivot.specs.inner.Engine.{rank1_pair_at, Begun};
+ghost use Rattle.lblt_pivot.specs.inner.Engine.{rank1_pair_at};
 ghost use Rattle.lblt_pivot.specs.Update.{rank1_at, rank1, scale_at, update1};
 
+use crate::by_pairs::{self, Pair, Update};
 use matrix::{Layout, get, put};
 
 fn rank1_at(y: Layout, a: &mut [f64], k: usize, j: usize, inv: f64, ajk: f64, i: usize)
@@ -18,105 +19,53 @@ fn rank1_at(y: Layout, a: &mut [f64], k: usize, j: usize, inv: f64, ajk: f64, i:
     put(y, a, i, j, get(y, a, i, j) + get(y, a, i, k) * (-inv) * ajk);
 }
 
-fn rank1(y: Layout, a: &mut [f64], k: usize, inv: f64, j: usize)
-    requires laid { Laid y a.old }
-    requires k_le_j { k ≤ j }
-    requires j_lt_order { j < y.order }
-    ensures { Holds (lower y) a.old a.new (rank1 y.order k inv j (load (lower y) a.old)) }
-{
-    let n = y.order;
-    let ajk = get(y, a, j, k);
-    for i in j..n {
-        rank1_at(y, a, k, j, inv, ajk, i);
-    }
+// 1 / a(k, k) of the pivot at row k.
+#[derive(Clone, Copy)]
+struct Rank1 {
+    k: usize,
+    inv: f64,
 }
 
-// Row i of columns j and j + 1.
-fn rank1_pair_at(
-    y: Layout,
-    a: &mut [f64],
-    k: usize,
-    j: usize,
-    inv: f64,
+// Entries j and j + 1 of the pivot's column.
+#[derive(Clone, Copy)]
+struct Pair1 {
+    pivot: Rank1,
     ajk: f64,
     aj1k: f64,
-    i: usize,
-)
-    requires laid { Laid y a.old }
-    requires k_lt_j { k < j }
-    requires j_bound { j + 1 ≤ i }
-    requires i_lt_order { i < y.order }
-    ensures { Holds (lower y) a.old a.new (rank1_pair_at k j inv ajk aj1k i (load (lower y) a.old)) }
-{
-    let scaled = get(y, a, i, k) * (-inv);
-    put(y, a, i, j, get(y, a, i, j) + scaled * ajk);
-    put(y, a, i, j + 1, get(y, a, i, j + 1) + scaled * aj1k);
 }
 
-// Row j + 1 of both by itself where its place in the slice is odd, so that those after it are read and written two at a time; the row to go on from.
-fn rank1_pair_first(
-    y: Layout,
-    a: &mut [f64],
-    k: usize,
-    j: usize,
-    inv: f64,
-    ajk: f64,
-    aj1k: f64,
-) -> usize
-    requires laid { Laid y a.old }
-    requires k_lt_j { k < j }
-    requires j_bound { j + 1 < y.order }
-    ensures { Begun y (j + 1) (rank1_pair_at k j inv ajk aj1k) a.old result a.new }
-{
-    let row = j + 1;
-    if (row + y.start(j)) % 2 == 1 {
-        rank1_pair_at(y, a, k, j, inv, ajk, aj1k, row);
-        return row + 1;
+impl Update for Rank1 {
+    ghost first = { λ u. u.k + 1 };
+
+    ghost column = { λ u n. rank1 n u.k u.inv };
+
+    fn one(self, y: Layout, a: &mut [f64], j: usize) {
+        let ajk = get(y, a, j, self.k);
+        for i in j..y.order {
+            rank1_at(y, a, self.k, j, self.inv, ajk, i);
+        }
     }
-    row
-}
 
-fn rank1_pair_columns(y: Layout, a: &mut [f64], k: usize, j: usize, inv: f64, ajk: f64, aj1k: f64)
-    requires laid { Laid y a.old }
-    requires k_lt_j { k < j }
-    requires j_bound { j + 1 < y.order }
-    ensures { Holds (lower y) a.old a.new (for (j + 1) y.order (rank1_pair_at k j inv ajk aj1k) (load (lower y) a.old)) }
-{
-    let n = y.order;
-    let first = rank1_pair_first(y, a, k, j, inv, ajk, aj1k);
-    for i in first..n {
-        rank1_pair_at(y, a, k, j, inv, ajk, aj1k, i);
+    fn two(self, y: Layout, a: &mut [f64], j: usize) {
+        let pair = Pair1 {
+            pivot: self,
+            ajk: get(y, a, j, self.k),
+            aj1k: get(y, a, j + 1, self.k),
+        };
+        rank1_at(y, a, self.k, j, self.inv, pair.ajk, j);
+        by_pairs::rows(pair, y, a, j);
     }
 }
 
-// Columns j and j + 1.
-fn rank1_pair(y: Layout, a: &mut [f64], k: usize, inv: f64, j: usize)
-    requires laid { Laid y a.old }
-    requires k_lt_j { k < j }
-    requires j_bound { j + 1 < y.order }
-    ensures { Holds (lower y) a.old a.new (rank1 y.order k inv (j + 1) (rank1 y.order k inv j (load (lower y) a.old))) }
-{
-    let ajk = get(y, a, j, k);
-    let aj1k = get(y, a, j + 1, k);
-    rank1_at(y, a, k, j, inv, ajk, j);
-    rank1_pair_columns(y, a, k, j, inv, ajk, aj1k);
-}
+impl Pair for Pair1 {
+    ghost is_before = { λ p j. p.pivot.k < j };
 
-// By pairs of columns; the last one alone where their number is odd.
-fn rank1_all(y: Layout, a: &mut [f64], k: usize, inv: f64)
-    requires laid { Laid y a.old }
-    requires k_lt_order { k < y.order }
-    ensures { Holds (lower y) a.old a.new (for (k + 1) y.order (rank1 y.order k inv) (load (lower y) a.old)) }
-{
-    let n = y.order;
-    let mut j = k + 1;
-    while j + 1 < n {
-        rank1_pair(y, a, k, inv, j);
-        j += 2;
-    }
-    if j < n {
-        rank1(y, a, k, inv, j);
-        return;
+    ghost change = { λ p j. rank1_pair_at p.pivot.k j p.pivot.inv p.ajk p.aj1k };
+
+    fn at(self, y: Layout, a: &mut [f64], j: usize, i: usize) {
+        let scaled = get(y, a, i, self.pivot.k) * (-self.pivot.inv);
+        put(y, a, i, j, get(y, a, i, j) + scaled * self.ajk);
+        put(y, a, i, j + 1, get(y, a, i, j + 1) + scaled * self.aj1k);
     }
 }
 
@@ -146,6 +95,6 @@ pub fn update1(y: Layout, a: &mut [f64], k: usize)
     ensures { Holds (lower y) a.old a.new (update1 y.order k (load (lower y) a.old)) }
 {
     let inv = 1.0 / get(y, a, k, k);
-    rank1_all(y, a, k, inv);
+    by_pairs::all(Rank1 { k, inv }, y, a, k + 1);
     scale_all(y, a, k, inv);
 }

@@ -3,9 +3,10 @@ ghost use Rattle.std.specs.Prelude.{◌≡◌, ◌+◌, ◌≤◌, ◌<◌};
 ghost use Rattle.matrix.specs.Grid.{Holds, load};
 ghost use Rattle.matrix.specs.Layouts.{lower, Laid};
 ghost use Rattle.matrix.specs.Loop.{for};
-ghost use Rattle.lblt_pivot.specs.inner.Engine.{work_by, work_at, worked_at, store_work, rank2_pair_at, Begun};
+ghost use Rattle.lblt_pivot.specs.inner.Engine.{work_by, work_at, worked_at, store_work, rank2_pair_at};
 ghost use Rattle.lblt_pivot.specs.Update.{block_at, multiplier, rank2, update2};
 
+use crate::by_pairs::{self, Pair, Update};
 use leaf::abs;
 use matrix::{Layout, get, put};
 
@@ -106,96 +107,66 @@ fn store_work(y: Layout, a: &mut [f64], k: usize, j: usize, w: Work)
     put(y, a, j, k + 1, w.w2);
 }
 
-// Column j, then row j of columns k and k + 1.
-fn rank2(y: Layout, a: &mut [f64], k: usize, b: Block, j: usize)
-    requires laid { Laid y a.old }
-    requires k_bound { k + 1 ≤ j }
-    requires j_lt_order { j < y.order }
-    ensures { Holds (lower y) a.old a.new (rank2 y.order k b j (load (lower y) a.old)) }
-{
-    let w = work_at(y, a, k, b, j);
-    rank2_column(y, a, k, j, w);
-    store_work(y, a, k, j, w);
+// The scaled numbers of the pivot at rows k and k + 1.
+#[derive(Clone, Copy)]
+struct Rank2 {
+    k: usize,
+    b: Block,
 }
 
-// Row i of columns j and j + 1.
-fn rank2_pair_at(y: Layout, a: &mut [f64], k: usize, j: usize, w: Work, v: Work, i: usize)
-    requires laid { Laid y a.old }
-    requires k_bound { k + 1 < j }
-    requires j_bound { j + 1 ≤ i }
-    requires i_lt_order { i < y.order }
-    ensures { Holds (lower y) a.old a.new (rank2_pair_at k j w v i (load (lower y) a.old)) }
-{
-    let aik = get(y, a, i, k);
-    let aik1 = get(y, a, i, k + 1);
-    put(y, a, i, j, get(y, a, i, j) - aik * w.w1 - aik1 * w.w2);
-    put(
-        y,
-        a,
-        i,
-        j + 1,
-        get(y, a, i, j + 1) - aik * v.w1 - aik1 * v.w2,
-    );
+// What rows j and j + 1 take from columns k and k + 1.
+#[derive(Clone, Copy)]
+struct Pair2 {
+    k: usize,
+    w: Work,
+    v: Work,
 }
 
-// Row j + 1 of both by itself where its place in the slice is odd, as for a pivot of size 1; the row to go on from.
-fn rank2_pair_first(y: Layout, a: &mut [f64], k: usize, j: usize, w: Work, v: Work) -> usize
-    requires laid { Laid y a.old }
-    requires k_bound { k + 1 < j }
-    requires j_bound { j + 1 < y.order }
-    ensures { Begun y (j + 1) (rank2_pair_at k j w v) a.old result a.new }
-{
-    let row = j + 1;
-    if (row + y.start(j)) % 2 == 1 {
-        rank2_pair_at(y, a, k, j, w, v, row);
-        return row + 1;
+impl Update for Rank2 {
+    ghost first = { λ u. u.k + 2 };
+
+    ghost column = { λ u n. rank2 n u.k u.b };
+
+    // Column j, then row j of columns k and k + 1.
+    fn one(self, y: Layout, a: &mut [f64], j: usize) {
+        let w = work_at(y, a, self.k, self.b, j);
+        rank2_column(y, a, self.k, j, w);
+        store_work(y, a, self.k, j, w);
     }
-    row
-}
 
-fn rank2_pair_columns(y: Layout, a: &mut [f64], k: usize, j: usize, w: Work, v: Work)
-    requires laid { Laid y a.old }
-    requires k_bound { k + 1 < j }
-    requires j_bound { j + 1 < y.order }
-    ensures { Holds (lower y) a.old a.new (for (j + 1) y.order (rank2_pair_at k j w v) (load (lower y) a.old)) }
-{
-    let n = y.order;
-    let first = rank2_pair_first(y, a, k, j, w, v);
-    for i in first..n {
-        rank2_pair_at(y, a, k, j, w, v, i);
+    fn two(self, y: Layout, a: &mut [f64], j: usize) {
+        let k = self.k;
+        let w = work_at(y, a, k, self.b, j);
+        let v = work_at(y, a, k, self.b, j + 1);
+        rank2_at(y, a, k, j, w, j);
+        by_pairs::rows(Pair2 { k, w, v }, y, a, j);
+        store_work(y, a, k, j, w);
+        store_work(y, a, k, j + 1, v);
     }
 }
 
-// Columns j and j + 1.
-fn rank2_pair(y: Layout, a: &mut [f64], k: usize, b: Block, j: usize)
-    requires laid { Laid y a.old }
-    requires k_bound { k + 1 < j }
-    requires j_bound { j + 1 < y.order }
-    ensures { Holds (lower y) a.old a.new (rank2 y.order k b (j + 1) (rank2 y.order k b j (load (lower y) a.old))) }
-{
-    let w = work_at(y, a, k, b, j);
-    let v = work_at(y, a, k, b, j + 1);
-    rank2_at(y, a, k, j, w, j);
-    rank2_pair_columns(y, a, k, j, w, v);
-    store_work(y, a, k, j, w);
-    store_work(y, a, k, j + 1, v);
-}
+impl Pair for Pair2 {
+    ghost is_before = { λ p j. p.k + 1 < j };
 
-// By pairs of columns; the last one alone where their number is odd.
-fn rank2_all(y: Layout, a: &mut [f64], k: usize, b: Block)
-    requires laid { Laid y a.old }
-    requires k_bound { k + 1 < y.order }
-    ensures { Holds (lower y) a.old a.new (for (k + 2) y.order (rank2 y.order k b) (load (lower y) a.old)) }
-{
-    let n = y.order;
-    let mut j = k + 2;
-    while j + 1 < n {
-        rank2_pair(y, a, k, b, j);
-        j += 2;
-    }
-    if j < n {
-        rank2(y, a, k, b, j);
-        return;
+    ghost change = { λ p j. rank2_pair_at p.k j p.w p.v };
+
+    fn at(self, y: Layout, a: &mut [f64], j: usize, i: usize) {
+        let aik = get(y, a, i, self.k);
+        let aik1 = get(y, a, i, self.k + 1);
+        put(
+            y,
+            a,
+            i,
+            j,
+            get(y, a, i, j) - aik * self.w.w1 - aik1 * self.w.w2,
+        );
+        put(
+            y,
+            a,
+            i,
+            j + 1,
+            get(y, a, i, j + 1) - aik * self.v.w1 - aik1 * self.v.w2,
+        );
     }
 }
 
@@ -205,5 +176,5 @@ pub fn update2(y: Layout, a: &mut [f64], k: usize)
     ensures { Holds (lower y) a.old a.new (update2 y.order k (load (lower y) a.old)) }
 {
     let b = block_at(y, a, k);
-    rank2_all(y, a, k, b);
+    by_pairs::all(Rank2 { k, b }, y, a, k + 2);
 }

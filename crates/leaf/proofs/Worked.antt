@@ -1,11 +1,10 @@
 -- The root worked out digit by digit. After i digits s is the root so far, `rest` what is left above its square, and `left` the digits of n still to come.
-use mathlib.Core.Path.{◌≡◌, sym, ap, ◌∙◌, subst}
+use mathlib.Core.Path.{◌≡◌, sym, ap, ◌∙◌}
 use Prim.Native.Nat.{ℕ, ◌+◌, ◌-◌, ◌*◌, ◌/◌, ◌%◌, ◌^◌, ◌≤◌, ◌<◌}
-use native.Mathlib.Nat.{zero-add, mul-one, mul_assoc, pow-suc}
+use native.Mathlib.Nat.{mul_assoc, pow-suc}
 use native.Mathlib.Numerals.{add-one}
 use native.Mathlib.Omega.{arith}
 use lib.Pow.{pow_mono}
-use Rattle.leaf.specs.inner.Cut.{CutRoot}
 
 pub record Worked (n i s rest left : ℕ) : Type 0 where
   pub turns : i ≤ 54
@@ -13,9 +12,6 @@ pub record Worked (n i s rest left : ℕ) : Type 0 where
   pub least : rest ≤ s * 2
   pub more : left < 2 ^ 54
   pub whole : n * 4 ^ i ≡ (s * s + rest) * 2 ^ 54 + left
-
-pub worked_none : (n : ℕ) → n < 2 ^ 54 → Worked n 0 0 0 n
-worked_none n h = record { turns = omega arith; short = omega arith; least = omega arith; more = h; whole = mul-one n ∙ sym (zero-add n) }
 
 module _ {n i s rest left : ℕ} (w : Worked n i s rest left) where
   quadruple : n * 4 ^ (i + 1) ≡ n * 4 ^ i * 4
@@ -45,9 +41,3 @@ module _ {n i s rest left : ℕ} (w : Worked n i s rest left) where
   -- the numbers stay small
   pub worked_small : i < 54 → s < 2 ^ 53
   worked_small h = let p : 2 ^ i ≤ 2 ^ 53 = pow_mono {i = i} {j = 53} (omega arith) in omega (arith, w.short)
-
-pub worked_all : {n i s rest left : ℕ} → Worked n i s rest left → 54 ≤ i → CutRoot (n * 2 ^ 54) s
-worked_all {n} {i} {s} {rest} {left} w h =
-    let e : i ≡ 54 = omega (arith, w.turns) in
-    let a : n * 4 ^ 54 ≡ (s * s + rest) * 2 ^ 54 + left = subst (λ (j : ℕ). n * 4 ^ j ≡ (s * s + rest) * 2 ^ 54 + left) e w.whole in
-    record { low = omega (arith, w.more); high = omega (arith, w.more, w.least) }

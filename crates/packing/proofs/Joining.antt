@@ -1,7 +1,7 @@
 -- The parts of a batch, column by column: what stands where, and that nothing of the buffer is left as it was.
 --     row_next, new_within, new_small, column_room   where rows are read and written
 --     joined_new, joined_old                         an entry of the joined matrix
---     Joining, joining_none, joining_more, joining_all   the columns before j are written: the invariant of the loop
+--     Joining, joining_more, joining_all             the columns before j are written: the invariant of the loop
 -- Assumes nothing.
 use mathlib.Core.Path.{◌≡◌, refl, sym, ◌∙◌, ap, subst}
 use mathlib.Core.List.{List}
@@ -61,9 +61,6 @@ pub record Joining (m n : ℕ) (old rows fresh₀ : List Float) (j : ℕ) (fresh
   pub upto : j ≤ n
   pub long : length fresh ≡ length fresh₀
   pub each : (i c : ℕ) → c ≤ i → i < n → c < j → get_or fresh (i + start_of (packed n) c) nan ≡ joined m old rows i c
-
-pub joining_none : {m n : ℕ} {old rows fresh : List Float} → Joining m n old rows fresh 0 fresh
-joining_none = record { upto = omega arith; long = refl; each = λ i c low inside before. absurd (omega arith) }
 
 pub packed_roomy : (n : ℕ) → n ≤ 1024 → Roomy (packed n)
 packed_roomy n small = record { ordered = omega arith; small = small }

@@ -18,12 +18,10 @@ fn put_rows(rows: &[f64], fresh: &mut [f64], m: usize, n: usize, j: usize, r: us
     requires to_value { to ≡ start_of (packed n) j }
     ensures { Strip to r n (new_row m rows.now j) fresh.old fresh.new }
 {
-    let mut i = r;
     let mut at = entries(r) - entries(m) + j;
-    while i < n {
+    for i in r..n {
         fresh[i + to] = rows[at];
-        i += 1;
-        at += i;
+        at += i + 1;
     }
 }
 
@@ -47,9 +45,7 @@ pub fn join(old: &[f64], rows: &[f64], fresh: &mut [f64], m: usize, n: usize)
     requires { Parts m n old.now rows.now fresh.old }
     ensures { Holds (lower (packed n)) fresh.old fresh.new (mask (lower (packed n)) (joined m old.now rows.now)) }
 {
-    let mut j: usize = 0;
-    while j < n {
+    for j in 0..n {
         join_column(old, rows, fresh, m, n, j);
-        j += 1;
     }
 }

@@ -4,21 +4,28 @@
 --     strip_ahead, strip_apart                  a row that is not done yet, a row of another column
 --     strip_nothing, strip_then, strip_as, strip_at, strip_join   strips that meet
 --     plus_kept                                 what another column adds, before and after
---     axpy_row, axpy4_row, ratio_row            what the loops store
+--     axpy_row                                  what the loop stores
+--     strip_part                                a part of the slice that is written as a whole
 --     strip_holds                               a strip of a column of a grid
 --     cleared, cleared_square                   a slice, a square matrix that is cleared
 use mathlib.Core.Path.{◌≡◌, refl, sym, ◌∙◌, ap, ap₂, subst}
 use mathlib.Core.Bool.{Bool, true, false}
-use mathlib.Core.List.{List}
+use mathlib.Core.List.{List, [], ◌∷◌}
 use mathlib.Core.Logic.{◌⊎◌, inl, inr, ⊎_elim}
-use Prim.Native.Nat.{ℕ, ◌+◌, ◌*◌, ◌≤◌, ◌<◌}
+use Prim.Native.Nat.{ℕ, ◌+◌, ◌-◌, ◌*◌, ◌≤◌, ◌<◌}
 use native.Mathlib.Nat.{eq-or-lt_of_le}
+use native.Mathlib.Decide.{dec_lt}
 use native.Mathlib.Omega.{arith}
 use lib.Dec.{T, leb, ltb, eqb}
 use lib.ListN.{length, get_or, set, length-set}
 use lib.Seq.{get_or-set_same, get_or-set_other}
 use lib.Ieee.{Float, nan}
+use borrow.Rule.Slice.PartMut.{put_mid}
 use borrow.Author.Tests.{leb-true, leb-false, ltb-true, ltb-false, eqb-true, eqb-false}
+use Rattle.std.specs.List.{All, fold}
+use Rattle.std.proofs.Common.{rules}
+use Rattle.std.proofs.lemmas.List.{places}
+use Rattle.std.proofs.lemmas.List.Elements.{All-head, All-tail}
 use Rattle.matrix.specs.Matrix.{Matrix, all_zero}
 use Rattle.matrix.specs.Grid.{Grid, Sound, load, mask, Holds}
 use Rattle.matrix.specs.Layouts.{square, Fills}
@@ -27,7 +34,7 @@ use Rattle.matrix.proofs.Grids.{load_in, load_is}
 use Rattle.matrix.proofs.Places.{digits_within}
 use Rattle.matrix.proofs.Squares.{fills_each}
 use Rattle.strips.specs.declared.Source.{Source}
-use Rattle.strips.specs.inner.Strip.{row_at, Strip, Elsewhere, plus, axpy_of, axpy4_of, ratio_of, zero_at}
+use Rattle.strips.specs.inner.Strip.{row_at, Strip, Elsewhere, plus, axpy_of, ratio_of, zero_at}
 
 pub record Partway (s lo hi : ℕ) (v : ℕ → Float) (l₀ : List Float) (i : ℕ) (l : List Float) : Type 0 where
   pub from : lo ≤ i
@@ -104,7 +111,7 @@ strip_join {s} {lo} {mid} {hi} {v} {l₀} {l} {l'} from upto p q = record {
     pick i a b true e = let under : i < mid = ltb-true i mid e in q.outside (i + s) (λ k x y z. omega arith) ∙ p.inside i a under
     pick i a b false e = q.inside i (ltb-false i mid e) b
 
--- ---- what the loops store
+-- ---- what the loop stores
 
 -- what another column adds, before and after
 pub plus_kept : {to lo hi m : ℕ} {v : ℕ → Float} {l₀ l : List Float} (s : Source) → Strip to lo m v l₀ l → m ≤ hi → Elsewhere lo hi to l₀ s
@@ -117,20 +124,16 @@ module _ {to lo hi : ℕ} {l₀ : List Float} {i : ℕ} {l : List Float} where
   plus_next : {v : ℕ → Float} (s : Source) → Partway to lo hi v l₀ i l → i < hi → Elsewhere lo hi to l₀ s → {x x' : Float} → x ≡ x' → plus l s i x ≡ plus l₀ s i x'
   plus_next s d below apart e = plus_kept s d.strip (omega arith) apart i d.from below e
 
-  pub axpy_row : (s : Source) → Partway to lo hi (axpy_of l₀ to s) l₀ i l → i < hi → Elsewhere lo hi to l₀ s → row_at l to i ⊕ s.scale ⊗ row_at l s.start i ≡ axpy_of l₀ to s i
-  unfolding axpy_of plus
-  axpy_row s d below apart = plus_next s d below apart (strip_ahead d)
+  -- the multiples of all columns
+  fold_next : {v : ℕ → Float} (ss : List Source) → Partway to lo hi v l₀ i l → i < hi → All (Elsewhere lo hi to l₀) ss → {x x' : Float} → x ≡ x'
+      → fold (λ x s. plus l s i x) x ss ≡ fold (λ x s. plus l₀ s i x) x' ss
+  fold_next [] d below apart e = e
+  fold_next (s ∷ ss) d below apart e = fold_next ss d below (All-tail (Elsewhere lo hi to l₀) s ss apart) (plus_next s d below (All-head (Elsewhere lo hi to l₀) s ss apart) e)
 
-  pub axpy4_row : (s t u v : Source) → Partway to lo hi (axpy4_of l₀ to s t u v) l₀ i l → i < hi → Elsewhere lo hi to l₀ s → Elsewhere lo hi to l₀ t → Elsewhere lo hi to l₀ u → Elsewhere lo hi to l₀ v
-      → row_at l to i ⊕ s.scale ⊗ row_at l s.start i ⊕ t.scale ⊗ row_at l t.start i ⊕ u.scale ⊗ row_at l u.start i ⊕ v.scale ⊗ row_at l v.start i ≡ axpy4_of l₀ to s t u v i
-  unfolding axpy4_of plus
-  axpy4_row s t u v d below at-s at-t at-u at-v =
-      plus_next v d below at-v (plus_next u d below at-u (plus_next t d below at-t (plus_next s d below at-s (strip_ahead d))))
-
-pub ratio_row : {s lo hi : ℕ} (d : Float) {l₀ : List Float} {i : ℕ} {l : List Float}
-    → Partway s lo hi (ratio_of l₀ s d) l₀ i l → row_at l s i ⊘ d ≡ ratio_of l₀ s d i
-unfolding ratio_of
-ratio_row d p = ap (λ (x : Float). x ⊘ d) (strip_ahead p)
+  pub axpy_row : (ss : List Source) → Partway to lo hi (axpy_of l₀ to ss) l₀ i l → i < hi → All (Elsewhere lo hi to l₀) ss
+      → fold (λ x s. plus l s i x) (row_at l to i) ss ≡ axpy_of l₀ to ss i
+  unfolding axpy_of
+  axpy_row ss d below apart = fold_next ss d below apart (strip_ahead d)
 
 -- ---- a strip of column j of a grid
 
@@ -164,6 +167,22 @@ module _ {g : Grid} {s lo hi : ℕ} (j : ℕ) {v : ℕ → Float} {l₀ l : List
       at i c t false b e p q r = other i c t (λ from below same. omega (arith, leb-false lo i p))
       at i c t true false e p q r = other i c t (λ from below same. omega (arith, ltb-false i hi q))
       at i c t true true false p q r = other i c t (λ from below same. eqb-false c j r same)
+
+-- ---- a part of the slice that is written as a whole
+
+pub strip_part : {s lo hi : ℕ} {v : ℕ → Float} (l part : List Float) → lo ≤ hi → hi + s ≤ length l → length part ≡ hi - lo
+    → ((i : ℕ) → lo ≤ i → i < hi → get_or part (i - lo) nan ≡ v i) → Strip s lo hi v l (put_mid (lo + s) (hi + s - (lo + s)) l part)
+strip_part {s} {lo} {hi} {v} l part upto room long is = record {
+  long = search (rules, places);
+  inside = λ i a b. let at : i + s - (lo + s) ≡ i - lo = omega arith in let here : get_or (put_mid (lo + s) (hi + s - (lo + s)) l part) (i + s) nan ≡ get_or part (i + s - (lo + s)) nan = search (rules, places) in
+      here ∙ ap (λ (k : ℕ). get_or part k nan) at ∙ is i a b;
+  outside = λ p free. kept p free (dec_lt p (lo + s)) (dec_lt p (hi + s));
+}
+  where
+    kept : (p : ℕ) → ((i : ℕ) → lo ≤ i → i < hi → p ≡ i + s → ⊥) → Dec (p < lo + s) → Dec (p < hi + s) → get_or (put_mid (lo + s) (hi + s - (lo + s)) l part) p nan ≡ get_or l p nan
+    kept p free (yes before) e = search (rules, places)
+    kept p free (no from) (yes below) = absurd (free (p - s) (omega (arith, from)) (omega arith) (omega (arith, from)))
+    kept p free (no from) (no past) = let a : lo + s ≤ p = omega (arith, from) in let b : hi + s ≤ p = omega (arith, past) in search (rules, places)
 
 -- ---- slices that are cleared
 

@@ -1,8 +1,8 @@
 // Loops over rows of one column, on plain places: row i of a column that starts at s stands at i + s.
 #![tactic(auto)]
 
-ghost use Rattle.std.specs.Prelude.{◌+◌, ◌≤◌, length};
-ghost use Rattle.strips.specs.inner.Strip.{Strip, Elsewhere, axpy_of, axpy4_of, ratio_of, zero_at, row_at};
+ghost use Rattle.std.specs.Prelude.{◌+◌, ◌≤◌, length, All};
+ghost use Rattle.strips.specs.inner.Strip.{Strip, Elsewhere, axpy_of, ratio_of, zero_at, row_at};
 
 // A column that starts at `start`, and what it is multiplied by.
 #[derive(Clone, Copy)]
@@ -11,49 +11,19 @@ pub struct Source {
     pub scale: f64,
 }
 
-// Rows lo to hi of the column at `to`: plus a multiple of another column.
-pub fn axpy(a: &mut [f64], to: usize, lo: usize, hi: usize, s: Source)
+// Rows lo to hi of the column at `to`: plus multiples of other columns, one after the other.
+pub fn axpy<const W: usize>(a: &mut [f64], to: usize, lo: usize, hi: usize, sources: [Source; W])
     requires lo_le_hi { lo ≤ hi }
     requires to_in_bounds { hi + to ≤ length a.old }
-    requires elsewhere { Elsewhere lo hi to a.old s }
-    ensures { Strip to lo hi (axpy_of a.old to s) a.old a.new }
+    requires elsewhere { All (Elsewhere lo hi to a.old) sources }
+    ensures { Strip to lo hi (axpy_of a.old to sources.entry) a.old a.new }
 {
-    let from = s.start;
-    let mut i = lo;
-    while i < hi {
-        a[i + to] = a[i + to] + s.scale * a[i + from];
-        i += 1;
-    }
-}
-
-// The same with four other columns, one after the other.
-pub fn axpy4(
-    a: &mut [f64],
-    to: usize,
-    lo: usize,
-    hi: usize,
-    s: Source,
-    t: Source,
-    u: Source,
-    v: Source,
-)
-    requires lo_le_hi { lo ≤ hi }
-    requires to_in_bounds { hi + to ≤ length a.old }
-    requires s_elsewhere { Elsewhere lo hi to a.old s }
-    requires t_elsewhere { Elsewhere lo hi to a.old t }
-    requires u_elsewhere { Elsewhere lo hi to a.old u }
-    requires v_elsewhere { Elsewhere lo hi to a.old v }
-    ensures { Strip to lo hi (axpy4_of a.old to s t u v) a.old a.new }
-{
-    let at_s = s.start;
-    let at_t = t.start;
-    let at_u = u.start;
-    let at_v = v.start;
-    let mut i = lo;
-    while i < hi {
-        let x = a[i + to] + s.scale * a[i + at_s] + t.scale * a[i + at_t];
-        a[i + to] = x + u.scale * a[i + at_u] + v.scale * a[i + at_v];
-        i += 1;
+    for i in lo..hi {
+        let mut x = a[i + to];
+        for s in sources {
+            x = x + s.scale * a[i + s.start];
+        }
+        a[i + to] = x;
     }
 }
 
@@ -63,10 +33,8 @@ pub fn unscale(a: &mut [f64], at: usize, lo: usize, hi: usize, d: f64)
     requires at_in_bounds { hi + at ≤ length a.old }
     ensures { Strip at lo hi (ratio_of a.old at d) a.old a.new }
 {
-    let mut i = lo;
-    while i < hi {
-        a[i + at] = a[i + at] / d;
-        i += 1;
+    for x in &mut a[lo + at..hi + at] {
+        *x = *x / d;
     }
 }
 
@@ -76,11 +44,7 @@ pub fn clear(a: &mut [f64], at: usize, lo: usize, hi: usize)
     requires at_in_bounds { hi + at ≤ length a.old }
     ensures { Strip at lo hi zero_at a.old a.new }
 {
-    let mut i = lo;
-    while i < hi {
-        a[i + at] = 0.0;
-        i += 1;
-    }
+    a[lo + at..hi + at].fill(0.0);
 }
 
 // Rows lo to hi of the column at `to`: those of the column of b at `from`.
@@ -90,9 +54,5 @@ pub fn copy(b: &[f64], a: &mut [f64], from: usize, to: usize, lo: usize, hi: usi
     requires to_in_bounds { hi + to ≤ length a.old }
     ensures { Strip to lo hi (row_at b.now from) a.old a.new }
 {
-    let mut i = lo;
-    while i < hi {
-        a[i + to] = b[i + from];
-        i += 1;
-    }
+    a[lo + to..hi + to].copy_from_slice(&b[lo + from..hi + from]);
 }

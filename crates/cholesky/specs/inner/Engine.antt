@@ -12,7 +12,7 @@ use Rattle.matrix.specs.Layouts.{start_of, lower}
 use Rattle.strips.specs.declared.Source.{Source}
 use Rattle.cholesky.specs.declared.Floored.{Floored}
 use Rattle.cholesky.specs.declared.engine.Verdict.{Verdict}
-use Rattle.cholesky.specs.Column.{less, part}
+use Rattle.cholesky.specs.Column.{less}
 use Rattle.cholesky.specs.Run.{Rule, Outcome, judged_column, factor_column, started, factor_columns}
 use Rattle.cholesky.specs.Leaves.{Leaves}
 use Rattle.cholesky.specs.Floor.{passes}
@@ -33,12 +33,6 @@ pub record Sourced (y : Layout) (l : List Float) (j k : ℕ) (s : Source) : Type
 unfoldable pub less_columns : Matrix → ℕ → ℕ → ℕ → ℕ → Float
 unfolding less
 less_columns M j lo hi i = for lo hi (less M i j) (M i j)
-
--- the columns from k on, up to the next one, are taken off, one of them at least
-pub record TakenOff (y : Layout) (r j k : ℕ) (l₀ l : List Float) (next : ℕ) : Type 0 where
-  pub onward : k < next
-  pub within : next ≤ j
-  pub leaves : Leaves y l₀ l (part r j (less_columns (load (lower y) l₀) j k next) (load (lower y) l₀))
 
 -- 1 for a finished column whose diagonal d fails its test
 abbrev pub used_once : Bool → Float → ℕ

@@ -6,18 +6,9 @@ use Rattle.lblt_choice.proofs.Choices.{chooses_zero_column, chooses_contest, cho
 use Rattle.lblt_choice.proofs.Range.{contest_range}
 use Rattle.lblt_choice.proofs.choose.Goals as goal
 
-pub get-requires-clause-laid : goal.get-requires-clause-laid
-get-requires-clause-laid c = c.requires.laid
-
-pub column_max-top-requires-clause-laid : goal.column_max-top-requires-clause-laid
-column_max-top-requires-clause-laid c = c.requires.laid
-
 pub returns-then-maximum : goal.returns-then-maximum
 returns-then-maximum c =
     chooses_zero_column _ _ _ (c.abs-diag.ensures ∙ ap abs_of c.get.ensures) c.column_max-top.ensures c.maximum.ensures c.if-maximum.true
-
-pub contest-requires-clause-laid : goal.contest-requires-clause-laid
-contest-requires-clause-laid c = c.requires.laid
 
 pub contest-requires-clause-k_le_imax : goal.contest-requires-clause-k_le_imax
 contest-requires-clause-k_le_imax c =
@@ -28,9 +19,6 @@ pub contest-requires-clause-imax_lt_order : goal.contest-requires-clause-imax_lt
 contest-requires-clause-imax_lt_order c =
     let below = contest_range _ _ _ (c.abs-diag.ensures ∙ ap abs_of c.get.ensures) c.column_max-top.ensures c.if-diag-top.true in
     below.1
-
-pub contest-requires-clause-diag_value : goal.contest-requires-clause-diag_value
-contest-requires-clause-diag_value c = (c.abs-diag.ensures ∙ ap abs_of c.get.ensures)
 
 pub returns-then-diag-top : goal.returns-then-diag-top
 returns-then-diag-top c =

@@ -11,17 +11,11 @@ use Rattle.lblt_choice.proofs.column_max.Goals as goal
 pub returns-then-n-k : goal.returns-then-n-k
 returns-then-n-k c = no_rows c.args.y.order (load (lower c.args.y) c.args.a.now) c.args.k c.if-n-k.true
 
-pub get-requires-clause-laid : goal.get-requires-clause-laid
-get-requires-clause-laid c = c.requires.laid
-
 pub loop-i-init : goal.loop-i-init
 loop-i-init c = ran_none (omega arith)
 
-pub greater-top-requires-clause-laid : goal.greater-top-requires-clause-laid
-greater-top-requires-clause-laid c = c.requires.laid
-
 pub loop-i-preserved : goal.loop-i-preserved
-loop-i-preserved c = ran_more c.loop-i.invariant c.loop-i-test.true c.greater-top.ensures
+loop-i-preserved c = ran_more c.loop-i.invariant c.loop-i-test.true c.or_row-top.ensures
 
 pub returns : goal.returns
 returns c =

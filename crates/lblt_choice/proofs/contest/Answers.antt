@@ -4,14 +4,8 @@ use mathlib.Core.Path.{ap, ◌∙◌}
 use Rattle.lblt_choice.proofs.Choices.{diagonal_wins, both_small, other_wins}
 use Rattle.lblt_choice.proofs.contest.Goals as goal
 
-pub row_max-rowmax-requires-clause-laid : goal.row_max-rowmax-requires-clause-laid
-row_max-rowmax-requires-clause-laid c = c.requires.laid
-
 pub returns-then-diag-colmax : goal.returns-then-diag-colmax
 returns-then-diag-colmax c = diagonal_wins _ _ _ c.row_max-rowmax.ensures c.requires.diag_value c.if-diag-colmax.true
-
-pub get-requires-clause-laid : goal.get-requires-clause-laid
-get-requires-clause-laid c = c.requires.laid
 
 pub returns-then-abs-rowmax : goal.returns-then-abs-rowmax
 returns-then-abs-rowmax c =

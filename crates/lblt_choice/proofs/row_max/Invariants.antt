@@ -1,6 +1,6 @@
 -- `row_max` meets its contract: a loop along the row, and one down the column. Assumes nothing.
 use mathlib.Core.Bool.{not}
-use Prim.Native.Nat.{◌+◌, ◌-◌}
+use Prim.Native.Nat.{◌+◌}
 use lib.Dec.{T}
 use lib.Ieee.{is_nan}
 use Rattle.matrix.specs.Grid.{load}
@@ -12,11 +12,5 @@ use Rattle.lblt_choice.proofs.row_max.Given as goal
 abbrev pub invariant-loop-j : goal.invariant-loop-j
 invariant-loop-j l = Ran l.k l.i (along_row (load (lower l.y) l.a) l.i) l.initial.rowmax l.j l.rowmax × T (not (is_nan l.rowmax))
 
-abbrev pub decreases-loop-j : goal.decreases-loop-j
-decreases-loop-j l = l.i - l.j
-
 abbrev pub invariant-loop-j-2 : goal.invariant-loop-j-2
 invariant-loop-j-2 l = Ran (l.i + 1) l.n (down_column (load (lower l.y) l.a) l.i) l.initial.rowmax l.j l.rowmax × T (not (is_nan l.rowmax))
-
-abbrev pub decreases-loop-j-2 : goal.decreases-loop-j-2
-decreases-loop-j-2 l = l.n - l.j

@@ -1,10 +1,7 @@
 -- `normal_root` meets its contract.
 use mathlib.Core.Path.{◌∙◌}
-use Rattle.leaf.proofs.Fields.{root_rounded, normal_scaled, normal_root}
+use Rattle.leaf.proofs.Fields.{root_rounded, normal_root}
 use Rattle.leaf.proofs.normal_root.Goals as goal
-
-pub scaled_root-requires : goal.scaled_root-requires
-scaled_root-requires c = normal_scaled c.args.bits c.requires
 
 pub returns : goal.returns
 returns c = c.scaled_root.ensures ∙ root_rounded (normal_root c.args.bits c.requires)

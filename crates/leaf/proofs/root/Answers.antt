@@ -1,6 +1,5 @@
 -- `root` meets its contract: each way out is a law of proofs/Patterns.antt.
 use mathlib.Core.Path.{refl, sym, ◌∙◌, subst}
-use native.Mathlib.Omega.{arith}
 use lib.Dec.{T}
 use lib.Ieee.{binary64, to_bits}
 use Rattle.leaf.proofs.Nan.{is_a_nan, no_nan, zero_by_zero}
@@ -16,15 +15,9 @@ float_to_bits-bits c = no_nan c.args.x c.if-x.false
 pub returns-then-bits-eq0 : goal.returns-then-bits-eq0
 returns-then-bits-eq0 c = root_zero c.args.x (subst T (sym c.well_formed.0.1) tt) c.if-bits-eq0.true
 
-pub subnormal_root-requires : goal.subnormal_root-requires
-subnormal_root-requires c = record { least = omega (arith, c.if-bits-eq0.false); most = c.if-bits-lt4503599627370496.true }
-
 pub returns-then-bits-lt4503599627370496 : goal.returns-then-bits-lt4503599627370496
 returns-then-bits-lt4503599627370496 c =
     c.subnormal_root.ensures ∙ root_of_bits c.args.x (to_bits binary64 c.args.x) (subst T (sym c.well_formed.0.1) tt) refl
-
-pub normal_root-requires : goal.normal_root-requires
-normal_root-requires c = record { least = c.if-bits-lt4503599627370496.false; most = c.if-bits-lt9218868437227405312.true }
 
 pub returns-then-bits-lt9218868437227405312 : goal.returns-then-bits-lt9218868437227405312
 returns-then-bits-lt9218868437227405312 c =

@@ -12,12 +12,6 @@ use Rattle.leaf.proofs.scaled_root.Goals as goal
 pub root-s-requires : goal.root-s-requires
 root-s-requires c = subst (λ (n : ℕ). n < 2 ^ 54) (sym c.evened.ensures) (even_most c.args.m c.args.at c.requires)
 
-pub overflow_add-result : goal.overflow_add-result
-overflow_add-result c = omega (arith, (long _ _ (mul-le-mul_right (2 ^ 54) (even_least c.args.m c.args.at c.requires)) (shl_lt 54 54 (even_most c.args.m c.args.at c.requires)) (subst (λ (n : ℕ). CutRoot (n * 2 ^ 54) c.root-s.result) c.evened.ensures c.root-s.ensures)).most)
-
-pub overflow_add-result-2 : goal.overflow_add-result-2
-overflow_add-result-2 c = omega (arith, (long _ _ (mul-le-mul_right (2 ^ 54) (even_least c.args.m c.args.at c.requires)) (shl_lt 54 54 (even_most c.args.m c.args.at c.requires)) (subst (λ (n : ℕ). CutRoot (n * 2 ^ 54) c.root-s.result) c.evened.ensures c.root-s.ensures)).most, c.requires.highest)
-
 pub float_from_bits-result : goal.float_from_bits-result
 float_from_bits-result c = no_nan_bits _ (omega (arith, (long _ _ (mul-le-mul_right (2 ^ 54) (even_least c.args.m c.args.at c.requires)) (shl_lt 54 54 (even_most c.args.m c.args.at c.requires)) (subst (λ (n : ℕ). CutRoot (n * 2 ^ 54) c.root-s.result) c.evened.ensures c.root-s.ensures)).most, c.requires.highest))
 

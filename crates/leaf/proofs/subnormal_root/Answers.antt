@@ -8,17 +8,8 @@ use Rattle.leaf.specs.inner.Scaled.{Scaled}
 use Rattle.leaf.proofs.Fields.{root_rounded, shifted, shift_exact, subnormal_scaled, subnormal_root}
 use Rattle.leaf.proofs.subnormal_root.Goals as goal
 
-pub overflow_cast-zeros : goal.overflow_cast-zeros
-overflow_cast-zeros c = omega (arith, (shifted c.args.bits c.requires).zeros, (shifted c.args.bits c.requires).all)
-
 pub overflow_sub-zeros : goal.overflow_sub-zeros
 overflow_sub-zeros c = omega (arith, (shifted c.args.bits c.requires).zeros)
-
-pub overflow_shl-bits : goal.overflow_shl-bits
-overflow_shl-bits c = omega (arith, (shifted c.args.bits c.requires).all)
-
-pub overflow_sub-zeros-2 : goal.overflow_sub-zeros-2
-overflow_sub-zeros-2 c = omega (arith, (shifted c.args.bits c.requires).all)
 
 pub scaled_root-requires : goal.scaled_root-requires
 scaled_root-requires c =

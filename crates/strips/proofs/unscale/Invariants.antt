@@ -1,11 +1,11 @@
 -- `unscale` meets its contract. Assumes nothing.
-use Prim.Native.Nat.{◌-◌}
-use Rattle.strips.specs.inner.Strip.{ratio_of}
-use Rattle.strips.proofs.Strips.{Partway}
+use Rattle.std.proofs.Common.{ℕ, ◌≡◌, ◌≤◌, ◌<◌, get_or}
+use Rattle.std.specs.Float.{nan}
+use Rattle.matrix.specs.Rounded.{◌⊘◌}
 use Rattle.strips.proofs.unscale.Given as goal
 
-abbrev pub invariant-loop-i : goal.invariant-loop-i
-invariant-loop-i l = Partway l.at l.lo l.hi (ratio_of l.initial.a l.at l.d) l.initial.a l.i l.a
-
-abbrev pub decreases-loop-i : goal.decreases-loop-i
-decreases-loop-i l = l.hi - l.i
+abbrev pub invariant-loop-x : goal.invariant-loop-x
+invariant-loop-x l = record {
+  done : (k : ℕ) → k < l.x-index → get_or l.x-items k nan ≡ get_or l.initial.x-items k nan ⊘ l.d;
+  ahead : (k : ℕ) → l.x-index ≤ k → get_or l.x-items k nan ≡ get_or l.initial.x-items k nan;
+}

@@ -1,5 +1,5 @@
 -- A strip of a slice: the rows lo to hi of a column that starts at s.
-use Rattle.std.specs.Prelude.{◌≡◌, List, ◌⊎◌, ℕ, ◌+◌, ◌≤◌, ◌<◌, length, get_or, Float}
+use Rattle.std.specs.Prelude.{◌≡◌, List, ◌⊎◌, ℕ, ◌+◌, ◌≤◌, ◌<◌, length, get_or, fold, Float}
 use Rattle.std.specs.Float.{nan}
 use Rattle.matrix.specs.Loop.{for}
 use Rattle.matrix.specs.Rounded.{◌⊕◌, ◌⊗◌, ◌⊘◌, plus_zero}
@@ -24,13 +24,10 @@ pub record Elsewhere (lo hi to : ℕ) (l : List Float) (s : Source) : Type 0 whe
 unfoldable pub plus : List Float → Source → ℕ → Float → Float
 plus l s i x = x ⊕ s.scale ⊗ row_at l s.start i
 
-unfoldable pub axpy_of : List Float → ℕ → Source → ℕ → Float
+-- row i of the column at `to`, plus the multiples of other columns, one after the other
+unfoldable pub axpy_of : List Float → ℕ → List Source → ℕ → Float
 unfolding plus
-axpy_of l to s i = plus l s i (row_at l to i)
-
-unfoldable pub axpy4_of : List Float → ℕ → Source → Source → Source → Source → ℕ → Float
-unfolding plus
-axpy4_of l to s t u v i = plus l v i (plus l u i (plus l t i (plus l s i (row_at l to i))))
+axpy_of l to ss i = fold (λ x s. plus l s i x) (row_at l to i) ss
 
 -- of the columns `term c`, those from `first` up to k are added, one after the other
 pub record Gathered (to lo hi : ℕ) (term : ℕ → Source) (first : ℕ) (l₀ : List Float) (k : ℕ) (l : List Float) : Type 0 where

@@ -3,9 +3,6 @@ use native.Mathlib.Omega.{arith}
 use Rattle.cholesky.proofs.Columns.{column_inside, divide_leaves}
 use Rattle.cholesky.proofs.engine.divide.Goals as goal
 
-pub get-d-requires-clause-laid : goal.get-d-requires-clause-laid
-get-d-requires-clause-laid c = c.requires.laid
-
 pub unscale-requires-clause-at_in_bounds : goal.unscale-requires-clause-at_in_bounds
 unscale-requires-clause-at_in_bounds c = column_inside c.requires.laid (omega arith) c.start.ensures
 

@@ -1,14 +1,8 @@
 -- `readers::clear_above` meets its contract. Assumes nothing.
 use native.Mathlib.Omega.{arith}
 use Rattle.cholesky.proofs.Columns.{column_inside}
-use Rattle.cholesky.proofs.ReaderLoops.{unpacking_none, unpacking_more, unpacking_all}
+use Rattle.cholesky.proofs.ReaderLoops.{unpacking_more, unpacking_all}
 use Rattle.cholesky.proofs.readers.clear_above.Goals as goal
-
-pub loop-j-init : goal.loop-j-init
-loop-j-init c = unpacking_none
-
-pub start-requires-clause-roomy : goal.start-requires-clause-roomy
-start-requires-clause-roomy c = c.requires.laid.roomy
 
 pub clear-requires-clause-at_in_bounds : goal.clear-requires-clause-at_in_bounds
 clear-requires-clause-at_in_bounds c = omega (arith, c.loop-j.invariant.long, column_inside c.requires.laid (omega arith) c.start.ensures)
@@ -18,9 +12,6 @@ loop-j-preserved c =
     unpacking_more c.start.result c.loop-j.invariant
     c.requires.packed_value c.requires.laid.roomy c.loop-j-test.true
     c.start.ensures c.clear.ensures
-
-pub shape_of-a : goal.shape_of-a
-shape_of-a c = c.loop-j.invariant.long
 
 pub returns : goal.returns
 returns c = unpacking_all c.loop-j.invariant c.loop-j-test.false c.requires.packed_value c.requires.laid

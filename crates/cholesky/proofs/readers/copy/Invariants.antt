@@ -1,5 +1,4 @@
 -- `readers::copy` meets its contract. Assumes nothing.
-use Prim.Native.Nat.{◌-◌}
 use Rattle.cholesky.proofs.ReaderLoops.{Filling}
 use Rattle.matrix.specs.Grid.{load}
 use Rattle.matrix.specs.Layouts.{lower}
@@ -8,6 +7,3 @@ use Rattle.cholesky.proofs.readers.copy.Given as goal
 
 abbrev pub invariant-loop-j : goal.invariant-loop-j
 invariant-loop-j l = Filling l.y.order (triangle (load (lower l.y) l.a)) l.j l.l
-
-abbrev pub decreases-loop-j : goal.decreases-loop-j
-decreases-loop-j l = l.y.order - l.j

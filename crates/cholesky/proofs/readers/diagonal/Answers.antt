@@ -9,9 +9,6 @@ use Rattle.cholesky.proofs.readers.diagonal.Goals as goal
 pub loop-i-init : goal.loop-i-init
 loop-i-init c = ran_none (omega arith)
 
-pub get-product-requires-clause-laid : goal.get-product-requires-clause-laid
-get-product-requires-clause-laid c = c.requires
-
 pub loop-i-preserved : goal.loop-i-preserved
 unfolding times
 loop-i-preserved c = ran_more c.loop-i.invariant c.loop-i-test.true (ap (◌⊗◌ c.loop-i.product) c.get-product.ensures)

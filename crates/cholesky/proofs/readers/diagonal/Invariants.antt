@@ -1,5 +1,4 @@
 -- `readers::diagonal` meets its contract. Assumes nothing.
-use Prim.Native.Nat.{◌-◌}
 use Rattle.matrix.specs.Grid.{load}
 use Rattle.matrix.specs.Layouts.{lower}
 use Rattle.matrix.proofs.Loops.{Ran}
@@ -9,6 +8,3 @@ use Rattle.cholesky.proofs.readers.diagonal.Given as goal
 
 abbrev pub invariant-loop-i : goal.invariant-loop-i
 invariant-loop-i l = Ran 0 l.y.order (times (load (lower l.y) l.a)) one l.i l.product
-
-abbrev pub decreases-loop-i : goal.decreases-loop-i
-decreases-loop-i l = l.y.order - l.i

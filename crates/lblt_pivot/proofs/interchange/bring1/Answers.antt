@@ -6,8 +6,5 @@ use Rattle.lblt_pivot.proofs.interchange.bring1.Goals as goal
 pub returns-then-p-k : goal.returns-then-p-k
 returns-then-p-k c = in_place1 _ _ _ c.if-p-k.true c.requires.laid.sound
 
-pub interchange-requires-clause-laid : goal.interchange-requires-clause-laid
-interchange-requires-clause-laid c = c.requires.laid
-
 pub returns : goal.returns
 returns c = search (rules, brings1)

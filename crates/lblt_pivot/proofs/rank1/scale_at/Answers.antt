@@ -2,12 +2,6 @@
 use Rattle.lblt_pivot.specs.Update.{scale_at}
 use Rattle.lblt_pivot.proofs.rank1.scale_at.Goals as goal
 
-pub get-requires-clause-laid : goal.get-requires-clause-laid
-get-requires-clause-laid c = c.requires.laid
-
-pub put-requires-clause-laid : goal.put-requires-clause-laid
-put-requires-clause-laid c = c.requires.laid
-
 pub returns : goal.returns
 unfolding scale_at
 returns c = rw c.get.ensures at c.put.ensures

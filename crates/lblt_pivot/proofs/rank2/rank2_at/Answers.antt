@@ -2,18 +2,6 @@
 use Rattle.lblt_pivot.specs.Update.{rank2_at}
 use Rattle.lblt_pivot.proofs.rank2.rank2_at.Goals as goal
 
-pub get-requires-clause-laid : goal.get-requires-clause-laid
-get-requires-clause-laid c = c.requires.laid
-
-pub get-requires-2-clause-laid : goal.get-requires-2-clause-laid
-get-requires-2-clause-laid c = c.requires.laid
-
-pub get-requires-3-clause-laid : goal.get-requires-3-clause-laid
-get-requires-3-clause-laid c = c.requires.laid
-
-pub put-requires-clause-laid : goal.put-requires-clause-laid
-put-requires-clause-laid c = c.requires.laid
-
 pub returns : goal.returns
 unfolding rank2_at
 returns c =

@@ -2,12 +2,6 @@
 use Rattle.lblt_pivot.specs.inner.Engine.{work_at}
 use Rattle.lblt_pivot.proofs.rank2.work_at.Goals as goal
 
-pub get-requires-clause-laid : goal.get-requires-clause-laid
-get-requires-clause-laid c = c.requires.laid
-
-pub get-requires-2-clause-laid : goal.get-requires-2-clause-laid
-get-requires-2-clause-laid c = c.requires.laid
-
 pub returns : goal.returns
 unfolding work_at
 returns c = rw (c.get.ensures, c.get-2.ensures) at c.work.ensures
