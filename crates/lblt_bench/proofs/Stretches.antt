@@ -1,59 +1,66 @@
 -- Stretches of columns that have one bench number.
---     stretch_none, stretch_more … stretch_four   no column; one, two, three, four more
+--     stretch_some, stretch_none   up to the first column that has another number; all columns, where none has
+--     stretch_apart         that column has another number
 --     gone_other            a step over a stretch that is another bench's
 --     gone_one, gone_own    over the first column of one that is the bench's, over all of it
 --     gone_on               the columns before a step, and those of the step
-use mathlib.Core.List.{List}
-use mathlib.Core.Logic.{⊎_elim}
-use mathlib.Core.Path.{◌≡◌, sym, ap, subst, ◌∙◌}
-use Prim.Native.Nat.{ℕ, ◌+◌, ◌-◌, ◌<◌, ◌≤◌}
-use native.Mathlib.Nat.{eq-or-lt_of_le}
-use native.Mathlib.Omega.{arith}
-use borrow.Author.Tests.{eq-eqb, ne_eqb}
-use lib.Ieee.{Float}
-use lib.ListN.{length, get_or}
+use Rattle.std.proofs.Common.{◌≡◌, ◌==◌, ◌+◌, ◌-◌, ◌<◌, ◌≤◌, ℕ, Bool, true, false, true≢false, not, List, Float, length, get_or, take, drop, Some, None, refl, sym, ap, subst, ◌∙◌, ⊎_elim, eq-or-lt_of_le, arith, length-drop}
+use Rattle.std.proofs.lemmas.Bool.{not-false}
+use Rattle.std.proofs.lemmas.List.{get_or-drop, take_all}
+use Rattle.std.proofs.lemmas.List.Quantifiers.{position-Some}
+use Rattle.std.proofs.lemmas.List.Sums.{fails_before_first}
+use Rattle.std.specs.List.{position_or_len}
+use borrow.Author.Tests.{eq-eqb, ne_eqb, eqb-true, ltb-false}
+use lib.Dec.{ltb}
 use Rattle.matrix.specs.Loop.{for}
 use Rattle.matrix.specs.Columns.{at_column, at_chosen}
 use Rattle.matrix.proofs.Columns.{chosen_all, chosen_none}
 use Rattle.matrix.proofs.Loops.{for_one}
 use Rattle.matrix.proofs.Turning.{Turning, turning_on}
 use Rattle.lblt_bench.specs.Bench.{owns}
-use Rattle.lblt_bench.specs.inner.Stretch.{Stretch, Gone}
+use Rattle.lblt_bench.specs.inner.Stretch.{Stretch, first_other, Gone}
+
+-- the columns from `begin` on
+module _ (benches : List ℕ) (number begin : ℕ) (within : begin ≤ length benches) where
+  all_on : take (length benches - begin) (drop begin benches) ≡ drop begin benches
+  all_on = take_all _ _ (omega (arith, length-drop begin benches))
+
+  -- the first of them are no other one
+  stretch_of : (passed : ℕ) → begin + passed ≤ length benches → ((k : ℕ) → k < passed → not (get_or (drop begin benches) k 0 == number) ≡ false) → Stretch benches number begin (begin + passed)
+  stretch_of passed room own = record { begins = omega arith; ends = room; all = all }
+    where
+      all : (i : ℕ) → begin ≤ i → i < begin + passed → get_or benches i 0 ≡ number
+      all i low high =
+          let place : begin + (i - begin) ≡ i = omega arith in
+          let is : get_or (drop begin benches) (i - begin) 0 ≡ get_or benches i 0 = get_or-drop begin benches (i - begin) 0 ∙ ap (λ (k : ℕ). get_or benches k 0) place in
+          rw (← is) (eqb-true _ _ (not-false _ (own (i - begin) (omega arith))))
+
+  found : {passed : ℕ} → first_other number (take (length benches - begin) (drop begin benches)) ≡ Some passed
+      → (passed < length (drop begin benches)) × (not (get_or (drop begin benches) passed 0 == number) ≡ true) × ((k : ℕ) → k < passed → not (get_or (drop begin benches) k 0 == number) ≡ false)
+  unfolding first_other
+  found {passed} is = position-Some (λ b. not (b == number)) (drop begin benches) passed 0 (rw all_on at is)
+
+  pub stretch_some : {passed : ℕ} → first_other number (take (length benches - begin) (drop begin benches)) ≡ Some passed → Stretch benches number begin (begin + passed)
+  stretch_some {passed} is = stretch_of passed (omega (arith, (found is).0, length-drop begin benches)) (found is).2
+
+  pub stretch_apart : {passed : ℕ} → first_other number (take (length benches - begin) (drop begin benches)) ≡ Some passed → get_or benches (begin + passed) 0 ≡ number → ⊥
+  stretch_apart {passed} is same = true≢false (sym (rw (get_or-drop begin benches passed 0, same, eq-eqb number number refl) at (found is).1))
+
+  pub stretch_none : first_other number (take (length benches - begin) (drop begin benches)) ≡ None → Stretch benches number begin (length benches)
+  unfolding first_other
+  stretch_none is = at (ltb (position_or_len (λ b. not (b == number)) (drop begin benches)) (length (drop begin benches))) refl (rw all_on at is)
+    where
+      at : (b : Bool) → ltb (position_or_len (λ b. not (b == number)) (drop begin benches)) (length (drop begin benches)) ≡ b → first_other number (drop begin benches) ≡ None → Stretch benches number begin (length benches)
+      at true e is =
+          let some : first_other number (drop begin benches) ≡ Some (position_or_len (λ b. not (b == number)) (drop begin benches)) = rw e in
+          cc
+      at false e is =
+          let past = ltb-false _ _ e in
+          let long = length-drop begin benches in
+          let whole : begin + (length benches - begin) ≡ length benches = omega arith in
+          rw whole at (stretch_of (length benches - begin) (omega arith) (λ k below. fails_before_first (λ b. not (b == number)) (drop begin benches) k 0 (omega arith)))
 
 module _ {benches : List ℕ} {number : ℕ} where
-  pub stretch_none : {j : ℕ} → j ≤ length benches → Stretch benches number j j
-  stretch_none within = record { begins = omega arith; ends = within; all = λ i low high. absurd (omega arith) }
-
-  pub stretch_more : {begin j : ℕ} → Stretch benches number begin j → j < length benches → get_or benches j 0 ≡ number → Stretch benches number begin (j + 1)
-  stretch_more {begin} {j} s below is =
-      record {
-        begins = omega (arith, s.begins);
-        ends = omega arith;
-        all = λ i low high.
-            ⊎_elim
-            (λ (e : i ≡ j). rw e is)
-            (λ (less : i < j). s.all i low less)
-            (eq-or-lt_of_le (let upto : i ≤ j = omega arith in upto));
-      }
-
-  -- two, three and four columns more
-  module _ {begin j : ℕ} (s : Stretch benches number begin j) (below : j + 4 ≤ length benches) (first : get_or benches j 0 ≡ number) (second : get_or benches (j + 1) 0 ≡ number) where
-    pub stretch_two : Stretch benches number begin (j + 2)
-    stretch_two =
-        let place : j + 1 + 1 ≡ j + 2 = omega arith in
-        subst (Stretch benches number begin) place (stretch_more (stretch_more s (omega arith) first) (omega arith) second)
-
-    module _ (third : get_or benches (j + 2) 0 ≡ number) where
-      pub stretch_three : Stretch benches number begin (j + 3)
-      stretch_three =
-          let place : j + 2 + 1 ≡ j + 3 = omega arith in
-          subst (Stretch benches number begin) place (stretch_more stretch_two (omega arith) third)
-
-      pub stretch_four : get_or benches (j + 3) 0 ≡ number → Stretch benches number begin (j + 4)
-      stretch_four fourth =
-          let place : j + 3 + 1 ≡ j + 4 = omega arith in
-          subst (Stretch benches number begin) place (stretch_more stretch_three (omega arith) fourth)
-
   -- the column before a stretch, and the stretch
   stretch_with : {j end : ℕ} → get_or benches j 0 ≡ number → Stretch benches number (j + 1) end → (i : ℕ) → j ≤ i → i < end → get_or benches i 0 ≡ number
   stretch_with {j} is s i low high =

@@ -7,11 +7,19 @@ ghost use Rattle.matrix.specs.Columns.{at_column, each_chosen, Lined};
 ghost use Rattle.lblt_solve_one.specs.Column.{solve_column};
 ghost use Rattle.lblt_solve_one.specs.inner.Engine.{Readable};
 ghost use Rattle.lblt_bench.specs.Bench.{owns};
-ghost use Rattle.lblt_bench.specs.inner.Stretch.{Stretch, Gone};
+ghost use Rattle.lblt_bench.specs.inner.Stretch.{Stretch, first_other, Gone};
 
 use lblt_solve::sides::together;
 use lblt_solve_one::solve_at;
 use matrix::Layout;
+
+// Where the first of these numbers stands that is another.
+#[tactic(auto, unfolding(crate::specs::inner::Stretch::first_other))]
+fn first_other(benches: &[u32], number: u32) -> Option<usize>
+    ensures { result ≡ first_other number benches.now }
+{
+    benches.iter().position(|b| *b != number)
+}
 
 // The first column from `from` on whose number is another, or the number of columns.
 fn stretch_end(benches: &[u32], number: u32, from: usize) -> usize
@@ -19,29 +27,10 @@ fn stretch_end(benches: &[u32], number: u32, from: usize) -> usize
     ensures stretch { Stretch benches.now number from result }
     ensures other_number { result < length benches.now → get_or benches.now result 0 ≡ number → ⊥ }
 {
-    let mut j = from;
-    while 4 <= benches.len() - j {
-        if benches[j] != number {
-            return j;
-        }
-        if benches[j + 1] != number {
-            return j + 1;
-        }
-        if benches[j + 2] != number {
-            return j + 2;
-        }
-        if benches[j + 3] != number {
-            return j + 3;
-        }
-        j += 4;
+    match first_other(&benches[from..], number) {
+        Some(passed) => from + passed,
+        None => benches.len(),
     }
-    while j < benches.len() {
-        if benches[j] != number {
-            return j;
-        }
-        j += 1;
-    }
-    j
 }
 
 // `count` columns from column j on.
@@ -102,7 +91,8 @@ pub fn solve(y: Layout, a: &[f64], words: &[u32], b: &mut [f64], benches: &[u32]
     requires room_value { y.room ≡ y.order }
     ensures { b.new ≡ each_chosen y.order (length benches.now) (owns benches.now bench) (solve_column y.order (load (lower y) a.now) words.now) b.old }
 {
-    let mut j: usize = 0;
+    let mut j = 0;
+    // A `while`: a step passes as many columns as the stretch has.
     while j < benches.len() {
         j = solve_from(y, a, words, b, benches, bench, j);
     }

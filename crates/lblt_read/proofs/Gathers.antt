@@ -1,6 +1,6 @@
 -- Later columns added to column k, one after the other: `Adding n k start from a l₀ i l` is the loop's invariant. Assumes nothing.
 use mathlib.Core.Bool.{Bool, true, false, cond, ◌&&◌}
-use mathlib.Core.List.{List}
+use mathlib.Core.List.{List, [], ◌∷◌}
 use mathlib.Core.Logic.{inr}
 use mathlib.Core.Path.{◌≡◌, refl, sym, ap, ap₂, subst, fun_ext, ◌∙◌}
 use Prim.Native.Nat.{ℕ, ◌+◌, ◌-◌, ◌*◌, ◌<◌, ◌≤◌}
@@ -47,13 +47,19 @@ pub adding_none : {n k start from : ℕ} {a l : List Float} → from ≤ n → A
 adding_none within = record { upto = within; columns = gathered_none }
 
 pub adding_more : {n k start from : ℕ} {a l₀ : List Float} {i : ℕ} {l l' : List Float} → Adding n k start from a l₀ i l → length l₀ ≡ n * n → k < from → i < n
-    → Strip (k * n) 0 n (axpy_of l (k * n) (column_times n a start i)) l l' → Adding n k start from a l₀ (i + 1) l'
+    → Strip (k * n) 0 n (axpy_of l (k * n) (column_times n a start i ∷ [])) l l' → Adding n k start from a l₀ (i + 1) l'
 adding_more {n} {k} {start} {from} {a} {l₀} {i} w long behind below step = record {
   upto = omega arith;
   columns =
       let first = w.columns.from in
-      gathered_then w.columns (gathered_axpy refl step) (λ c low high. refl) (λ c low high. column_elsewhere n k c (column_times n a start c) refl long (omega arith) (omega arith));
+      gathered_then w.columns (gathered_axpy (column_times n a start i ∷ []) only step) (λ c low high. refl) (λ c low high. column_elsewhere n k c (column_times n a start c) refl long (omega arith) (omega arith));
 }
+  where
+    only : (c : ℕ) (s : Source) → c < 1 → get_or (column_times n a start i ∷ []) c s ≡ column_times n a start (i + c)
+    only c s below =
+        let first : c ≡ 0 = omega arith in
+        let same : i ≡ i + 0 = omega arith in
+        rw first (ap (column_times n a start) same)
 
 module _ (y : Layout) (a : List Float) (k start from : ℕ) (starts : start ≡ start_of y k) (behind : k < from) (within : from ≤ y.order) (l₀ : List Float) where
   abbrev n : ℕ

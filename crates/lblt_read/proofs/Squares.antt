@@ -1,10 +1,12 @@
 -- Writing a lent n·n matrix at plain offsets.
-use mathlib.Core.List.{List}
+use mathlib.Core.List.{List, [], ◌∷◌}
 use mathlib.Core.Path.{◌≡◌, ◌∙◌}
 use Prim.Native.Nat.{ℕ, ◌+◌, ◌*◌, ◌<◌, ◌≤◌}
 use native.Mathlib.Omega.{arith}
 use lib.Ieee.{Float, nan}
 use lib.ListN.{length, get_or, set, length-set}
+use Rattle.std.specs.List.{swap}
+use Rattle.std.proofs.lemmas.List.{get_or_default}
 use Rattle.matrix.specs.Matrix.{Matrix, entry, exchange}
 use Rattle.matrix.specs.Grid.{load, Sound, Holds}
 use Rattle.matrix.specs.Layouts.{square, place_square, Fills}
@@ -40,17 +42,20 @@ put_square n l i j x long row column = holds_put (square n) l (square_sound n l 
 
 -- ---- two entries of a row exchanged
 
+swapped : (l : List Float) (p q : ℕ) → p < length l → q < length l → swap l p q ≡ set (set l p (get_or l q nan)) q (get_or l p nan)
+swapped [] p q first second = absurd (omega arith)
+swapped (x ∷ l) p q first second = rw (get_or_default (x ∷ l) q x nan second, get_or_default (x ∷ l) p x nan first)
+
 module _ (n : ℕ) (l : List Float) (row : ℕ) (long : length l ≡ n * n) (below : row < n) where
-  pub exchange_square
-      : (p q : ℕ) → p < n → q < n
-      → Holds (square n) l (set (set l (row + p * n) (get_or l (row + q * n) nan)) (row + q * n) (get_or l (row + p * n) nan)) (exchange (load (square n) l) row p row q)
+  pub exchange_square : (p q : ℕ) → p < n → q < n → Holds (square n) l (swap l (row + p * n) (row + q * n)) (exchange (load (square n) l) row p row q)
   unfolding exchange
   exchange_square p q hp hq =
-      holds_as
+      rw (swapped l (row + p * n) (row + q * n) (place_within n l row p long below hp) (place_within n l row q long below hq))
+      (holds_as
       (holds_then (λ M. entry M row q (get_or l (row + p * n) nan))
       (put_square n l row p (get_or l (row + q * n) nan) long below hp)
       (put_square n (set l (row + p * n) (get_or l (row + q * n) nan)) row q (get_or l (row + p * n) nan) (length-set l (row + p * n) (get_or l (row + q * n) nan) ∙ long) below hq))
-      (rw (square_at n l row p below hp, square_at n l row q below hq))
+      (rw (square_at n l row p below hp, square_at n l row q below hq)))
 
 -- the matrix under another name
 pub fills_as : {n : ℕ} {l : List Float} {M N : Matrix} → Fills n l M → M ≡ N → Fills n l N

@@ -1,40 +1,26 @@
--- The step at a block, by the block's size, in a matrix and in a product: `move` is how the rows of the block lead to the next row.
-use mathlib.Core.List.{List}
-use mathlib.Core.Path.{◌≡◌, sym, ap, ◌∙◌}
-use Prim.Native.Nat.{ℕ, ◌+◌}
-use lib.Ieee.{Float}
-use Rattle.matrix.specs.Rounded.{◌⊗◌}
-use Rattle.pivots.specs.Words.{index_at, size_at}
-use Rattle.pivots.specs.Blocks.{by_size, rows_of}
+-- The step at a block, by the block's size, in a matrix and in a product. Assumes nothing.
+--     rows_read                      its size is how many rows it has
+--     put_four                       the entries of a block of size 2
+--     permuted_one, permuted_two     the columns of a block exchanged, and the later ones added
+use Rattle.std.proofs.Common.{◌≡◌, ◌+◌, ◌<◌, ◌⊎◌, inl, inr, ℕ, List, Float, sym, ap, ◌∙◌}
+use Rattle.answer.proofs.Tests.{eq_or_ne}
 use Rattle.matrix.specs.Matrix.{Matrix, entry}
 use Rattle.matrix.specs.Grid.{load, Holds}
 use Rattle.matrix.specs.Layouts.{square}
 use Rattle.matrix.proofs.Grids.{holds_then, holds_as}
+use Rattle.pivots.specs.Words.{index_at, size_at}
+use Rattle.pivots.specs.Blocks.{rows_of}
+use Rattle.pivots.proofs.Boundaries.{Boundary, is_two}
+use Rattle.pivots.proofs.Walks.{rows_one, rows_two}
 use Rattle.lblt_read.specs.Diagonal.{diagonal_two}
 use Rattle.lblt_read.specs.Permuted.{swap_columns, gather_column}
-use Rattle.lblt_read.specs.inner.Engine.{Placed, Counted}
-use Rattle.pivots.proofs.Walks.{one_is, two_is, reads_one, reads_two}
 
-module _ (words : List ℕ) (row : ℕ) {size : ℕ} (reads : size ≡ size_at words row) where
-  pub placed_one
-      : (move : ℕ → ℕ) {n : ℕ} {l l' : List Float} {one : Matrix} (two : Matrix) → size ≡ 1 → Holds (square n) l l' one
-      → Placed (move (rows_of words row)) (move 1) n l l' (by_size words row one two)
-  placed_one move two e h = record { row = ap move (sym (reads_one words row reads e)); holds = holds_as h (one_is words row reads two e) }
-
-  pub placed_two
-      : (move : ℕ → ℕ) {n : ℕ} {l l' : List Float} (one : Matrix) {two : Matrix} → (size ≡ 1 → ⊥) → Holds (square n) l l' two
-      → Placed (move (rows_of words row)) (move 2) n l l' (by_size words row one two)
-  placed_two move one e h = record { row = ap move (sym (reads_two words row reads e)); holds = holds_as h (two_is words row reads one e) }
-
-  pub counted_one
-      : (move : ℕ → ℕ) (x : Float) {v one : Float} (two : Float) → size ≡ 1 → v ≡ one
-      → Counted (move (rows_of words row)) (x ⊗ by_size words row one two) (move 1) (x ⊗ v)
-  counted_one move x two e q = record { row = ap move (sym (reads_one words row reads e)); value = ap (◌⊗◌ x) (q ∙ one_is words row reads two e) }
-
-  pub counted_two
-      : (move : ℕ → ℕ) (x : Float) {v : Float} (one : Float) {two : Float} → (size ≡ 1 → ⊥) → v ≡ two
-      → Counted (move (rows_of words row)) (x ⊗ by_size words row one two) (move 2) (x ⊗ v)
-  counted_two move x one e q = record { row = ap move (sym (reads_two words row reads e)); value = ap (◌⊗◌ x) (q ∙ two_is words row reads one e) }
+pub rows_read : {n : ℕ} {words : List ℕ} {k : ℕ} → Boundary n words k → k < n → size_at words k ≡ rows_of words k
+rows_read {n} {words} {k} b below = at (eq_or_ne (size_at words k) 1)
+  where
+    at : (size_at words k ≡ 1) ⊎ (size_at words k ≡ 1 → ⊥) → size_at words k ≡ rows_of words k
+    at (inl one) = one ∙ sym (rows_one words k one)
+    at (inr other) = (is_two b below other).size ∙ sym (rows_two words k other)
 
 -- the four entries of a block of size 2
 pub put_four

@@ -2,21 +2,15 @@
 ghost use Rattle.std.specs.Prelude.{◌≡◌, ◌+◌, ◌<◌};
 ghost use Rattle.matrix.specs.Grid.{load, Holds};
 ghost use Rattle.matrix.specs.Layouts.{lower, square, Fills, Laid};
-ghost use Rattle.pivots.specs.Blocks.{rows_of, forwards};
+ghost use Rattle.pivots.specs.Blocks.{by_size, forwards};
 ghost use Rattle.lblt_solve_one.specs.Column.{block_determinant};
-ghost use Rattle.lblt_read.specs.Diagonal.{determinant_of, times_block, diagonal_two, diagonal_block, d_of};
+ghost use Rattle.lblt_read.specs.Diagonal.{determinant_of, diagonal_two, diagonal_block, d_of};
 ghost use Rattle.lblt_solve_one.specs.inner.Engine.{Readable};
 ghost use Rattle.pivots.specs.inner.Block.{BlockAt};
-ghost use Rattle.lblt_read.specs.inner.Engine.{Counted, Squared, Placed};
+ghost use Rattle.lblt_read.specs.inner.Engine.{Squared};
 
 use crate::square;
 use matrix::Layout;
-
-#[derive(Clone, Copy)]
-pub struct Partial {
-    pub row: usize,
-    pub value: f64,
-}
 
 fn block_determinant(y: Layout, a: &[f64], k: usize) -> f64
     requires laid { Laid y a.now }
@@ -27,21 +21,16 @@ fn block_determinant(y: Layout, a: &[f64], k: usize) -> f64
     matrix::get(y, a, k, k) * matrix::get(y, a, k + 1, k + 1) - d21 * d21
 }
 
-// The product with one more block's determinant, and the next block's row.
-fn times_block(y: Layout, a: &[f64], words: &[u32], x: f64, k: usize) -> Partial
+// The determinant of the block at row k.
+fn determinant_at(y: Layout, a: &[f64], words: &[u32], k: usize) -> f64
     requires laid { Laid y a.now }
     requires block_at { BlockAt y.order words.now k }
-    ensures { Counted (k + rows_of words.now k) (times_block (load (lower y) a.now) words.now k x) result.row result.value }
+    ensures { result ≡ by_size words.now k (load (lower y) a.now k k) (block_determinant (load (lower y) a.now) k) }
 {
     if pivots::size(words, k) == 1 {
-        return Partial {
-            row: k + 1,
-            value: x * matrix::get(y, a, k, k),
-        };
-    }
-    Partial {
-        row: k + 2,
-        value: x * block_determinant(y, a, k),
+        matrix::get(y, a, k, k)
+    } else {
+        block_determinant(y, a, k)
     }
 }
 
@@ -49,13 +38,12 @@ pub fn product(y: Layout, a: &[f64], words: &[u32]) -> f64
     requires { Readable y a.now words.now }
     ensures { result ≡ determinant_of y.order (load (lower y) a.now) words.now }
 {
-    let n = y.order;
     let mut x = 1.0;
-    let mut k: usize = 0;
-    while k < n {
-        let p = times_block(y, a, words, x, k);
-        x = p.value;
-        k = p.row;
+    let mut k = 0;
+    // A `while`: a block has one or two rows, as the record says.
+    while k < y.order {
+        x *= determinant_at(y, a, words, k);
+        k += pivots::size(words, k);
     }
     x
 }
@@ -77,19 +65,17 @@ fn put_two(y: Layout, a: &[f64], d: &mut [f64], k: usize)
     square::put(d, n, k + 1, k + 1, d22);
 }
 
-// The next block's row comes back.
-fn put_block(y: Layout, a: &[f64], words: &[u32], d: &mut [f64], k: usize) -> usize
+fn put_block(y: Layout, a: &[f64], words: &[u32], d: &mut [f64], k: usize)
     requires laid { Laid y a.now }
     requires squared { Squared y.order d.old }
     requires block_at { BlockAt y.order words.now k }
-    ensures { Placed (k + rows_of words.now k) result y.order d.old d.new (diagonal_block (load (lower y) a.now) words.now k (load (square y.order) d.old)) }
+    ensures { Holds (square y.order) d.old d.new (diagonal_block (load (lower y) a.now) words.now k (load (square y.order) d.old)) }
 {
     if pivots::size(words, k) == 1 {
         square::put(d, y.order, k, k, matrix::get(y, a, k, k));
-        return k + 1;
+    } else {
+        put_two(y, a, d, k);
     }
-    put_two(y, a, d, k);
-    k + 2
 }
 
 fn put_blocks(y: Layout, a: &[f64], words: &[u32], d: &mut [f64])
@@ -97,10 +83,11 @@ fn put_blocks(y: Layout, a: &[f64], words: &[u32], d: &mut [f64])
     requires squared { Squared y.order d.old }
     ensures { Fills y.order d.new (forwards y.order words.now (diagonal_block (load (lower y) a.now) words.now) (load (square y.order) d.old)) }
 {
-    let n = y.order;
-    let mut k: usize = 0;
-    while k < n {
-        k = put_block(y, a, words, d, k);
+    let mut k = 0;
+    // A `while`: a block has one or two rows, as the record says.
+    while k < y.order {
+        put_block(y, a, words, d, k);
+        k += pivots::size(words, k);
     }
 }
 

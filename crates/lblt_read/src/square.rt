@@ -27,10 +27,8 @@ pub fn put_identity(l: &mut [f64], n: usize)
     ensures { Fills n l.new (mask (square n) identity) }
 {
     clear(l, n);
-    let mut k: usize = 0;
-    while k < n {
+    for k in 0..n {
         put(l, n, k, k, 1.0);
-        k += 1;
     }
 }
 
@@ -42,11 +40,7 @@ pub fn swap_columns(l: &mut [f64], n: usize, p: usize, q: usize)
 {
     let first = p * n;
     let second = q * n;
-    let mut row: usize = 0;
-    while row < n {
-        let x = l[row + first];
-        l[row + first] = l[row + second];
-        l[row + second] = x;
-        row += 1;
+    for row in 0..n {
+        l.swap(row + first, row + second);
     }
 }

@@ -1,8 +1,7 @@
 -- One item, then all items up to one.
 --     item_laid, item_factored     its slices fit, so that its factor is done
 --     one_solved                   an item's parts, lent out of the tray and back
---     none_before, more_before     no item; one more
---     each_solved                  all items
+--     more_before                  one item more
 use mathlib.Core.List.{List, ◌++◌}
 use mathlib.Core.Logic.{⊎_elim}
 use mathlib.Core.Path.{◌≡◌, refl, sym, ap, subst, ◌∙◌}
@@ -18,11 +17,11 @@ use Rattle.matrix.specs.Layouts.{full, Laid}
 use Rattle.matrix.specs.Sizes.{Fits}
 use Rattle.matrix.proofs.ColumnsLent.{part_is, column_long, put_part}
 use Rattle.matrix.proofs.Sizes.{full_fits, laid_fits}
-use Rattle.pivots.specs.Words.{words_of, Sized}
+use Rattle.pivots.specs.Words.{words_of}
 use Rattle.lblt.specs.Factor.{Factored}
 use Rattle.lblt.specs.inner.Engine.{Filled}
 use Rattle.lblt.proofs.Done.{done}
-use Rattle.lblt_tray.specs.Tray.{ItemSolved, ItemAt, matrix_at, record_at, side_at, EachSolved}
+use Rattle.lblt_tray.specs.Tray.{ItemSolved, ItemAt, matrix_at, record_at, side_at}
 use Rattle.lblt_tray.specs.inner.Engine.{Item, Trayed, OneSolved, SolvedBefore}
 
 -- ---- one item
@@ -50,14 +49,6 @@ back width t l part = take (t * width) l ++ (part ++ drop (t * width + width - t
 module _ {n count : ℕ} {a : List Float} {words : List ℕ} {b : List Float} {runs answers : List ℕ} (tray : Trayed n count a words b runs answers) (t : ℕ) (below : t < count) where
   lent_long : {A : Type 0} (width : ℕ) (l : List A) → Lined width count l → length (lent width t l) ≡ width
   lent_long width l lined = ap length (part_is width t l) ∙ column_long width t l count lined below
-
-  pub lent_item : Item n (lent (n * n) t a) (lent (words_of n) t words) (lent n t b)
-  lent_item = record {
-    order = tray.order;
-    matrix = lent_long (n * n) a tray.matrices;
-    pivots = lent_long (words_of n) words tray.records;
-    side = lent_long n b tray.sides;
-  }
 
   pub one_solved
       : {number : ℕ} {a' : List Float} {words' : List ℕ} {b' : List Float}
@@ -87,29 +78,7 @@ module _ {n count : ℕ} {a : List Float} {words : List ℕ} {b : List Float} {r
 -- ---- the items up to one
 
 module _ {n : ℕ} {a : List Float} {words : List ℕ} {b : List Float} {runs answers : List ℕ} where
-  pub none_before : SolvedBefore n 0 a words b runs answers a words b answers
-  none_before = record {
-    matrices = refl;
-    records = refl;
-    sides = refl;
-    answered = refl;
-    before = λ i less. absurd (omega arith);
-    matrices_left = λ i past. refl;
-    records_left = λ i past. refl;
-    sides_left = λ i past. refl;
-  }
-
   module _ {t : ℕ} {a₁ : List Float} {words₁ : List ℕ} {b₁ : List Float} {answers₁ : List ℕ} (s : SolvedBefore n t a words b runs answers a₁ words₁ b₁ answers₁) where
-    pub still_trayed : {count : ℕ} → Trayed n count a words b runs answers → Trayed n count a₁ words₁ b₁ runs answers₁
-    still_trayed tray = record {
-      order = tray.order;
-      matrices = record { few = tray.matrices.few; long = s.matrices ∙ tray.matrices.long };
-      records = record { few = tray.records.few; long = s.records ∙ tray.records.long };
-      sides = record { few = tray.sides.few; long = s.sides ∙ tray.sides.long };
-      numbered = tray.numbered;
-      answered = s.answered ∙ tray.answered;
-    }
-
     pub more_before
         : {a' : List Float} {words' : List ℕ} {b' : List Float} {answers' : List ℕ}
         → OneSolved n t a₁ words₁ b₁ runs answers₁ a' words' b' answers'
@@ -137,6 +106,3 @@ module _ {n : ℕ} {a : List Float} {words : List ℕ} {b : List Float} {runs an
         earlier i lower =
             let apart : i ≡ t → ⊥ = λ (e : i ≡ t). omega arith in
             rw (o.matrices.others i apart, o.records.others i apart, o.sides.others i apart, o.others i apart) (s.before i lower)
-
-    pub each_solved : {count : ℕ} → count ≤ t → EachSolved n count a words b runs answers a₁ words₁ b₁ answers₁
-    each_solved all = record { matrices = s.matrices; records = s.records; sides = s.sides; answered = s.answered; items = λ i less. s.before i (omega arith) }

@@ -1,7 +1,6 @@
 -- What the tests of a tray answer, and what they tell where it goes on.
 --     many, large, matrices_wrong … answers_wrong, all_right   each way out
 --     trayed                                                   all tests hold: the slices of a tray
---     part_small                                               where an item's part ends
 use Rattle.std.proofs.Common.{Err, true, List, ◌≡◌, refl, sym, ap, subst, ◌∙◌, ℕ, ◌+◌, ◌*◌, ◌<◌, ◌≤◌, mul-le-mul, arith, eq-eqb, ne_eqb, eqb-true, le-leb, leb-true, Float, length}
 use Rattle.std.proofs.lemmas.Bool.{lt-leb}
 use Rattle.answer.specs.declared.Refusal.TheVariants.{OutOfRange, MatrixLength, SliceLength}
@@ -104,12 +103,6 @@ module _ (n count : ℕ) (a : List Float) (words : List ℕ) (b : List Float) (r
           answer = passed;
           left = leaving_done refl (subst (λ (count : ℕ). EachSolved n count a words b runs answers a' words' b' answers') (trayed passed refl).numbered each);
         }
-
--- an item's part of `width` numbers ends below 2²³
-pub part_small : {A : Type 0} {width count : ℕ} {l : List A} → width ≤ 4096 → Lined width count l → (t : ℕ) → t < count → t * width + width ≤ 4194304
-part_small {width = width} {count} narrow lined t below =
-    let all : width * count ≤ 4096 * 1024 = mul-le-mul {n₁ = width} {m₁ = count} {n₂ = 4096} {m₂ = 1024} narrow lined.few in
-    omega (arith, column_within width count t below)
 
 pub square_small : (n : ℕ) → n ≤ 64 → n * n ≤ 4096
 square_small n small = mul-le-mul {n₁ = n} {m₁ = n} {n₂ = 64} {m₂ = 64} small small

@@ -3,8 +3,8 @@
 --     first_chosen     which pivot the first step takes
 --     three_factored   the factor's promise
 --     three_solved     the item's
-use Rattle.std.proofs.Common.{Bool, true, false, List, [], ◌∷◌, ◌≡◌, refl, ap, ◌∙◌, ℕ, arith, Float, length, get_or, set}
-use lib.Ieee.{nan, lt}
+use Rattle.std.proofs.Common.{Bool, true, false, List, [], ◌∷◌, ◌≡◌, refl, ap, ◌∙◌, ℕ, arith, Float, length, set}
+use lib.Ieee.{lt}
 use Rattle.answer.specs.Answer.{Done}
 use Rattle.leaf.specs.Abs.{abs_of}
 use Rattle.leaf.specs.Maximum.{maximum_of}

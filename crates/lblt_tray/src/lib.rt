@@ -78,13 +78,10 @@ fn item_at(
     let matrix = t * square;
     let record = t * pairs;
     let side = t * n;
-    let matrix_end = matrix + square;
-    let record_end = record + pairs;
-    let side_end = side + n;
     answers[t] = item(
-        &mut a[matrix..matrix_end],
-        &mut words[record..record_end],
-        &mut b[side..side_end],
+        &mut a[matrix..matrix + square],
+        &mut words[record..record + pairs],
+        &mut b[side..side + n],
         n,
         runs[t],
     );
@@ -101,10 +98,8 @@ fn each(
     requires { Trayed n (length runs.now) a.old words.old b.old runs.now answers.old }
     ensures { EachSolved n (length runs.now) a.old words.old b.old runs.now answers.old a.new words.new b.new answers.new }
 {
-    let mut t: usize = 0;
-    while t < runs.len() {
+    for t in 0..runs.len() {
         item_at(a, words, b, runs, answers, n, t);
-        t += 1;
     }
 }
 

@@ -1,16 +1,14 @@
 -- The list of a record, number by number, and as it is written row by row.
 --     list_length, list_at                                    its numbers
---     NumbersWritten, numbers_none, numbers_more, numbers_all    the rows before k are written; the whole list
+--     NumbersWritten, numbers_all    the rows before k are written; the whole list
 -- Assumes nothing.
 use mathlib.Core.List.{List}
-use mathlib.Core.Logic.{⊎_elim}
 use mathlib.Core.Path.{◌≡◌, refl, sym, ap, ◌∙◌}
 use Prim.Native.Nat.{ℕ, zero, suc, ◌+◌, ◌<◌, ◌≤◌}
-use native.Mathlib.Nat.{eq-or-lt_of_le}
 use native.Mathlib.Omega.{arith}
 use lib.IntN.{ℤ, pos}
-use lib.ListN.{length, set, length-set}
-use lib.Seq.{get_or-set_same, get_or-set_other, ext_get_or}
+use lib.ListN.{length}
+use lib.Seq.{ext_get_or}
 use Rattle.pivots_lapack.specs.Numbers.{number_at}
 use Rattle.pivots_lapack.specs.Lists.{numbers_from, list_of}
 use Rattle.pivots_lapack.proofs.Records.{in_list}
@@ -44,20 +42,6 @@ pub record NumbersWritten (n : ℕ) (words : List ℕ) (row : ℕ) (list : List 
   pub long : length list ≡ n
   pub numbers : (r : ℕ) → r < row → in_list list r ≡ number_at words r
 
-pub numbers_none : {n : ℕ} {words : List ℕ} {list : List ℤ} → length list ≡ n → NumbersWritten n words 0 list
-numbers_none long = record { within = omega arith; long = long; numbers = λ r h. absurd (omega arith) }
-
 module _ {n : ℕ} {words : List ℕ} {row : ℕ} {list : List ℤ} where
-  pub numbers_more : {number : ℤ} → NumbersWritten n words row list → row < n → number ≡ number_at words row → NumbersWritten n words (row + 1) (set list row number)
-  numbers_more {number} p below is =
-      record {
-        within = omega arith;
-        long = length-set list row number ∙ p.long;
-        numbers = λ r h.
-            ⊎_elim (λ (e : r ≡ row). rw e (get_or-set_same list row number (pos 0) (omega (arith, p.long)) ∙ is))
-            (λ (l : r < row). get_or-set_other list row r number (pos 0) (λ (e : r ≡ row). omega arith) ∙ p.numbers r l)
-            (eq-or-lt_of_le (omega arith));
-      }
-
   pub numbers_all : NumbersWritten n words row list → n ≤ row → list ≡ list_of n words
   numbers_all p whole = list_is words p.long (λ r h. p.numbers r (omega (arith, whole)))

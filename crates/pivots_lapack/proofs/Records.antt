@@ -1,7 +1,7 @@
 -- The record that a list stands for, word by word, and as it is written row by row.
 --     record_length, record_index, record_size, record_mark, record_run     where its words stand
 --     record_stamped                                                        the record with another run number
---     PairsWritten, pairs_none, pairs_more, pairs_all                          the rows before k are written; the whole record
+--     PairsWritten, pairs_more, pairs_all                          the rows before k are written; the whole record
 -- Assumes nothing.
 use mathlib.Core.List.{List, [], ◌∷◌, ◌++◌, append_assoc}
 use mathlib.Core.Logic.{⊎_elim}
@@ -89,9 +89,6 @@ pub record PairsWritten (n : ℕ) (list : List ℤ) (row : ℕ) (words : List �
   pub total : length words ≡ words_of n
   pub index : (r : ℕ) → r < row → index_at words r ≡ index_meant (in_list list r)
   pub size : (r : ℕ) → r < row → size_at words r ≡ size_meant (in_list list r)
-
-pub pairs_none : (n : ℕ) (list : List ℤ) (words : List ℕ) → length words ≡ words_of n → PairsWritten n list 0 words
-pairs_none n list words total = record { within = omega arith; total = total; index = λ r h. absurd (omega arith); size = λ r h. absurd (omega arith) }
 
 module _ {n : ℕ} {list : List ℤ} {row : ℕ} {words : List ℕ} where
   pub pairs_more

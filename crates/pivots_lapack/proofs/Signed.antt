@@ -1,19 +1,17 @@
 -- Signed numbers of 32 bits as the code reads and computes them.
 --     seen, itself                a number read back from its bits, which is itself
 --     fits_pos, casts, cast_is    a number that is i, which is not below 0: it fits, and so does its cast, which is i
---     above_zero, below_zero, zero_itself     by the two tests of a sign: what is computed, and what the number stands for
+--     below_zero                  a number below 0: what is computed, and what it stands for
 --     not_below                   an INFO that is not below 0
---     negated_fits, negated       −(i + 1) from i + 1
 --     under_fits                  −1 − i
 -- Assumes nothing.
 use mathlib.Core.Bool.{true, false, true≢false}
 use mathlib.Core.Path.{◌≡◌, refl, sym, ap, ◌∙◌}
 use Prim.Native.Nat.{ℕ, zero, suc, ◌+◌, ◌<◌, ◌^◌}
-use native.Mathlib.Numerals.{add-one}
 use native.Mathlib.Omega.{arith}
-use borrow.Author.Tests.{le-ltb, lt-ltb}
+use borrow.Author.Tests.{le-ltb}
 use lib.Dec.{T}
-use lib.IntN.{ℤ, pos, negsuc, neg_ℤ, ◌-ℤ◌, nat_abs}
+use lib.IntN.{ℤ, pos, negsuc, ◌-ℤ◌, nat_abs}
 use lib.Signed.{mag, lt_z, non_neg}
 use mir.Syntax.{w32}
 use mir.Val.{Fits, SFits, to_z, of_z}
@@ -41,27 +39,13 @@ module _ {z : ℤ} {i : ℕ} (is : z ≡ pos i) (small : i < 2 ^ 31) where
   pub cast_is : nat_abs (seen z) ≡ i
   cast_is = ap nat_abs seen_is
 
--- ---- by the tests of a sign
-
-pub record AboveZero (z : ℤ) : Type 0 where
-  pub down : seen z -ℤ pos 1 ≡ pos (index_meant z)
-  pub small : index_meant z < 2 ^ 31
-  pub size : 1 ≡ size_meant z
+-- ---- by the test of a sign
 
 pub record BelowZero (z : ℤ) : Type 0 where
   pub up : negsuc 0 -ℤ seen z ≡ pos (index_meant z)
   pub small : index_meant z < 2 ^ 31
   pub size : 2 ≡ size_meant z
   pub no_row : (n : ℕ) → n + 1 ≡ mark_meant n z
-
-pub above_zero : (z : ℤ) → SFits w32 z → lt_z (pos 0) (seen z) ≡ true → AboveZero z
-above_zero z fits test = by z fits (to_z-of_z w32 z fits) test
-  where
-    by : (y : ℤ) → SFits w32 y → seen y ≡ y → lt_z (pos 0) (seen y) ≡ true → AboveZero y
-    by (pos zero) f same t = absurd (true≢false (sym t))
-    by (pos (suc i)) f same t =
-        record { down = rw same (rw (le-ltb (suc i) 1 (omega arith)) (ap pos (omega arith))); small = omega (arith, f.sfits); size = refl }
-    by (negsuc i) f same t = absurd (true≢false (sym (rw same at t)))
 
 pub below_zero : (z : ℤ) → SFits w32 z → lt_z (seen z) (pos 0) ≡ true → BelowZero z
 below_zero z fits test = by z fits (to_z-of_z w32 z fits) test
@@ -70,14 +54,6 @@ below_zero z fits test = by z fits (to_z-of_z w32 z fits) test
     by (pos i) f same t = absurd (true≢false (sym (rw same at t) ∙ le-ltb i 0 (omega arith)))
     by (negsuc i) f same t =
         record { up = rw same (rw (le-ltb (suc i) 1 (omega arith)) (ap pos (omega arith))); small = f.sfits; size = refl; no_row = λ n. refl }
-
-pub zero_itself : (z : ℤ) → SFits w32 z → lt_z (pos 0) (seen z) ≡ false → lt_z (seen z) (pos 0) ≡ false → (0 ≡ index_meant z) × (0 ≡ size_meant z)
-zero_itself z fits over under = by z (to_z-of_z w32 z fits) over under
-  where
-    by : (y : ℤ) → seen y ≡ y → lt_z (pos 0) (seen y) ≡ false → lt_z (seen y) (pos 0) ≡ false → (0 ≡ index_meant y) × (0 ≡ size_meant y)
-    by (pos zero) same s t = (refl, refl)
-    by (pos (suc i)) same s t = absurd (true≢false (sym (lt-ltb 0 (suc i) (omega arith)) ∙ (rw same at s)))
-    by (negsuc i) same s t = absurd (true≢false (rw same at t))
 
 pub record NotBelow (n : ℕ) (z : ℤ) : Type 0 where
   pub is : z ≡ pos (mark_meant n z)
@@ -89,18 +65,6 @@ not_below n z fits test = by z fits (to_z-of_z w32 z fits) test
     by : (y : ℤ) → SFits w32 y → seen y ≡ y → lt_z (seen y) (pos 0) ≡ false → NotBelow n y
     by (pos i) f same t = record { is = refl; small = f.sfits }
     by (negsuc i) f same t = absurd (true≢false (rw same at t))
-
--- ---- −(i + 1)
-
-module _ {z : ℤ} {i : ℕ} (is : z ≡ pos (i + 1)) (small : i < 1024) where
-  minus : pos 0 -ℤ seen z ≡ negsuc i
-  minus = rw (to_z-of_z w32 z (fits_pos is (omega arith)), is, add-one) (rw (lt-ltb 0 (suc i) (omega arith)) (ap negsuc (omega arith)))
-
-  pub negated_fits : SFits w32 (pos 0 -ℤ seen z)
-  negated_fits = rw minus (record { sfits = omega arith })
-
-  pub negated : seen (pos 0 -ℤ seen z) ≡ neg_ℤ (pos (i + 1))
-  negated = to_z-of_z w32 (pos 0 -ℤ seen z) negated_fits ∙ minus ∙ rw add-one
 
 -- ---- −1 − i
 

@@ -8,32 +8,31 @@ pub struct Pair {
     pub size: u32,
 }
 
-pub fn pair_of(number: i32) -> Pair
-    ensures { (result.index ≡ index_meant number) × (result.size ≡ size_meant number) }
-{
-    if 0 < number {
-        return Pair {
-            index: (number - 1) as u32,
-            size: 1,
-        };
+impl From<i32> for Pair {
+    ghost from_gives = { λ number pair. (pair.index ≡ index_meant number) × (pair.size ≡ size_meant number) };
+
+    fn from(number: i32) -> Pair {
+        if 0 < number {
+            Pair {
+                index: (number - 1) as u32,
+                size: 1,
+            }
+        } else if number < 0 {
+            Pair {
+                index: (-1 - number) as u32,
+                size: 2,
+            }
+        } else {
+            Pair { index: 0, size: 0 }
+        }
     }
-    if number < 0 {
-        return Pair {
-            index: (-1 - number) as u32,
-            size: 2,
-        };
-    }
-    Pair { index: 0, size: 0 }
 }
 
 pub fn mark(info: i32, n: usize) -> u32
     requires { n ≤ 1024 }
     ensures { result ≡ mark_meant n info }
 {
-    if info < 0 {
-        return (n as u32) + 1;
-    }
-    info as u32
+    u32::try_from(info).unwrap_or(n as u32 + 1)
 }
 
 // p for a row that is counted from 0.

@@ -7,7 +7,7 @@ ghost use Rattle.pivots.specs.Words.{Sized, words_of};
 ghost use Rattle.pivots.specs.Rule.{rule_tests};
 ghost use Rattle.pivots_lapack.specs.Lists.{record_of};
 
-use crate::number;
+use crate::number::Pair;
 use answer::{Answer, Refusal};
 
 // Writes the whole record.
@@ -16,11 +16,9 @@ pub fn put_record(list: &[i32], mark: u32, run: u32, words: &mut [u32], n: usize
     requires sized { Sized n words.old }
     ensures { words.new ≡ record_of list.now mark run }
 {
-    let mut row: usize = 0;
-    while row < n {
-        let pair = number::pair_of(list[row]);
+    for (row, number) in list.iter().enumerate() {
+        let pair = Pair::from(*number);
         pivots::put_pair(words, row, pair.index, pair.size);
-        row += 1;
     }
     pivots::put_mark(words, n, mark);
     pivots::put_run(words, n, run);

@@ -25,10 +25,7 @@ pub fn put_numbers(words: &[u32], list: &mut [i32], n: usize)
     requires list_len { length list.old ≡ n }
     ensures { list.new ≡ list_of n words.now }
 {
-    let mut row: usize = 0;
-    while row < n {
-        let number = number_of(words, row);
-        list[row] = number;
-        row += 1;
+    for row in 0..n {
+        list[row] = number_of(words, row);
     }
 }

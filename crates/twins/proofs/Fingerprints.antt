@@ -1,5 +1,8 @@
 -- The fingerprints of rows: twin rows have one fingerprint, and column after column brings its entries to the fingerprints. Assumes nothing.
-use Rattle.std.proofs.Common.{◌≡◌, ℕ, ◌+◌, ◌<◌, ◌≤◌, false, List, length, get_or, set, replicate, sym, refl, ap, ◌∙◌, subst, ap₂, ⊎_elim, true≢false, eq-or-lt_of_le, ne_of_gt, ne_of_lt, arith, length-set, get_or-set_other, get_or-set_same}
+use Rattle.std.proofs.Common.{◌≡◌, ℕ, ◌+◌, ◌-◌, ◌*◌, ◌/◌, ◌<◌, ◌≤◌, false, eqb, List, length, get_or, set, take, drop, replicate, sym, refl, ap, ◌∙◌, subst, ap₂, ⊎_elim, true≢false, eq-or-lt_of_le, ne_of_gt, ne_of_lt, arith, length-set, length-drop, get_or-set_other, get_or-set_same}
+use Rattle.std.proofs.lemmas.List.{get_or-take, get_or-drop, length-take-le}
+use Rattle.std.specs.List.{IsAnyAnswer}
+use borrow.Author.Tests.{eqb-false}
 use native.Mathlib.Decide.{dec_lt}
 use lib.ListN.{get_or-replicate}
 use lib.Ieee.{binary64, to_bits}
@@ -31,11 +34,18 @@ apart_join {fingerprints} {fingerprint} {lo} {p} {hi} before after = record { ea
     by i from below (yes lt) = before.each i from lt
     by i from below (no nlt) = after.each i (omega arith) below
 
-pub passed_none : {fingerprints : List ℕ} {q : ℕ} → OthersPassed fingerprints q 0
-passed_none = record { upto = omega arith; apart = record { each = λ i from below. absurd (omega arith) } }
-
-pub passed_four : {fingerprints : List ℕ} {q p : ℕ} → OthersPassed fingerprints q p → p + 4 ≤ q → Apart fingerprints (get_or fingerprints q 0) p (p + 4) → OthersPassed fingerprints q (p + 4)
-passed_four passed upto four = record { upto = upto; apart = apart_join passed.apart four }
+-- four more
+pub passed_four : {fingerprints : List ℕ} {q t : ℕ} → OthersPassed fingerprints q (4 * t) → t < q / 4 → q < length fingerprints
+    → IsAnyAnswer (λ y b. eqb y (get_or fingerprints q 0) ≡ b) (take (4 * t + 4 - 4 * t) (drop (4 * t) fingerprints)) false → OthersPassed fingerprints q (4 * (t + 1))
+passed_four {fingerprints} {q} {t} passed below within none = record { upto = omega arith; apart = apart_join passed.apart (record { each = each }) }
+  where
+    each : (i : ℕ) → 4 * t ≤ i → i < 4 * (t + 1) → get_or fingerprints i 0 ≡ get_or fingerprints q 0 → ⊥
+    each i low high =
+        let place : 4 * t + (i - 4 * t) ≡ i = omega arith in
+        let is : get_or (take (4 * t + 4 - 4 * t) (drop (4 * t) fingerprints)) (i - 4 * t) 0 ≡ get_or fingerprints i 0 =
+        get_or-take (4 * t + 4 - 4 * t) (drop (4 * t) fingerprints) (i - 4 * t) 0 (omega arith) ∙ get_or-drop (4 * t) fingerprints (i - 4 * t) 0 ∙ ap (λ (k : ℕ). get_or fingerprints k 0) place in
+        let long = length-take-le (4 * t + 4 - 4 * t) (drop (4 * t) fingerprints) (omega (arith, length-drop (4 * t) fingerprints)) in
+        rw (← is) (eqb-false _ _ (none (i - 4 * t) 0 (omega arith) (omega (arith, long))))
 
 -- ---- one entry more of a row's fingerprint
 
@@ -64,9 +74,6 @@ brought_none {n} {M} {fingerprints} cleared = record {
   whole = λ i h. absurd (omega arith);
   begun = λ i from h. cleared i h ∙ sym (fingerprint_none M i);
 }
-
-pub brought_all : {n : ℕ} {M : Matrix} {fingerprints : List ℕ} {c : ℕ} → Brought n M c fingerprints → n ≤ c → Fingerprinted n M fingerprints
-brought_all b past = record { each = λ i h. b.whole i (omega arith) }
 
 -- column c, down to before row i: `own` is the fingerprint of row c
 pub record Bringing (n : ℕ) (M : Matrix) (c : ℕ) (fingerprints₀ : List ℕ) (i own : ℕ) (fingerprints : List ℕ) : Type 0 where

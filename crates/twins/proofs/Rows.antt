@@ -1,5 +1,8 @@
 -- Two rows compared entry by entry, by their bits. Assumes nothing.
-use Rattle.std.proofs.Common.{◌≡◌, ℕ, ◌+◌, ◌<◌, ◌≤◌, true, false, T, leb, List, get_or, sym, ap, ◌∙◌, true≢false, arith, below_none, below_more}
+use Rattle.std.proofs.Common.{◌≡◌, ℕ, ◌<◌, Bool, true, false, T, leb, List, length, get_or, sym, ap, ◌∙◌, true≢false, arith, zero-add}
+use Rattle.std.proofs.lemmas.List.FromFn.{length-range_with_len, get_or-range_with_len}
+use Rattle.std.specs.Bool.{MatchBool}
+use Rattle.std.specs.List.{range_with_len, AllWithin, HoldsAt}
 use lib.Ieee.{Float, nan, binary64, fits, to_bits, of_bits}
 use lib.Ieee.Bits.{of_bits-to_bits}
 use lib.Ieee.Fits.{cond-fits, nan-fits}
@@ -23,26 +26,30 @@ symmetric_held g l held i j =
     (cond-fits binary64 (g.inside i j) _ _ (held (g.place i j)) (nan-fits binary64))
     (cond-fits binary64 (g.inside j i) _ _ (held (g.place j i)) (nan-fits binary64))
 
--- the first k entries of rows p and q are the same
-pub record Same (n : ℕ) (M : Matrix) (p q k : ℕ) : Type 0 where
-  pub upto : k ≤ n
-  pub each : (j : ℕ) → j < k → symmetric M q j ≡ symmetric M p j
-
-pub same_none : {n : ℕ} {M : Matrix} {p q : ℕ} → Same n M p q 0
-same_none {n} {M} {p} {q} = record { upto = omega arith; each = below_none (λ j. symmetric M q j ≡ symmetric M p j) }
-
-pub same_more : {n : ℕ} {M : Matrix} {p q k : ℕ} → Same n M p q k → k < n → symmetric M q k ≡ symmetric M p k → Same n M p q (k + 1)
-same_more {n} {M} {p} {q} {k} s below e =
-    record { upto = omega arith; each = below_more (λ j. symmetric M q j ≡ symmetric M p j) k s.each e }
-
-pub same_all : {n : ℕ} {M : Matrix} {p q k : ℕ} → Same n M p q k → n ≤ k → Told n M p q true
-same_all s past = record { yes = λ t j below. s.each j (omega arith); no = λ f. absurd (true≢false f) }
-
--- an entry that differs
-pub same_not : {n : ℕ} {M : Matrix} {p q k : ℕ} → k < n → (symmetric M q k ≡ symmetric M p k → ⊥) → Told n M p q false
-same_not {k = k} below differs = record { yes = λ t. absurd (true≢false (sym t)); no = λ f twins. differs (twins k below) }
-
 -- equal bits of entries are equal entries
 pub entries : (g : Grid) (l : List Float) (p q k : ℕ) → Held l → to_bits binary64 (symmetric (load g l) q k) ≡ to_bits binary64 (symmetric (load g l) p k)
     → symmetric (load g l) q k ≡ symmetric (load g l) p k
 entries g l p q k held = same_bits (symmetric (load g l) q k) (symmetric (load g l) p k) (symmetric_held g l held q k) (symmetric_held g l held p k)
+
+-- the bits of entry k of rows p and q
+abbrev pub Alike : Matrix → ℕ → ℕ → ℕ → Type 0
+Alike M p q k = to_bits binary64 (symmetric M q k) ≡ to_bits binary64 (symmetric M p k)
+
+-- the bits are all alike, or some are not
+pub told_by : {n : ℕ} (g : Grid) (l : List Float) (p q : ℕ) (r : Bool) → Held l
+    → MatchBool r (AllWithin (Alike (load g l) p q) (range_with_len 0 n) 0 (length (range_with_len 0 n)))
+    ((k : ℕ) × (k < length (range_with_len 0 n)) × HoldsAt (λ k. Alike (load g l) p q k → ⊥) (range_with_len 0 n) k)
+    → Told n (load g l) p q r
+told_by {n} g l p q true held all = record {
+  yes = λ t k below.
+      let place : get_or (range_with_len 0 n) k 0 ≡ k = get_or-range_with_len 0 n k 0 below ∙ zero-add k in
+      entries g l p q k held (rw place at (all k 0 (omega arith) (omega (arith, length-range_with_len 0 n))));
+  no = λ f. absurd (true≢false f);
+}
+told_by {n} g l p q false held (k, within, apart) =
+    let below : k < n = omega (arith, length-range_with_len 0 n) in
+    let place : get_or (range_with_len 0 n) k 0 ≡ k = get_or-range_with_len 0 n k 0 below ∙ zero-add k in
+    record {
+      yes = λ t. absurd (true≢false (sym t));
+      no = λ f twins. (rw place at (apart 0)) (ap (to_bits binary64) (twins k below));
+    }

@@ -1,15 +1,15 @@
 // Finds rows of a symmetric matrix that came twice.
 #![tactic(auto)]
 
-ghost use Rattle.std.specs.Prelude.{◌≡◌, ◌+◌, ◌<◌, ◌≤◌, true, false, length, to_bits};
+ghost use Rattle.std.specs.Prelude.{◌≡◌, ◌+◌, ◌<◌, ◌≤◌, length, to_bits, MatchOption};
 ghost use Rattle.std.specs.Float.{binary64};
 ghost use Rattle.matrix.specs.Grid.{load};
 ghost use Rattle.matrix.specs.Layouts.{lower, Laid};
 ghost use Rattle.twins.specs.Twins.{symmetric};
-ghost use Rattle.twins.specs.First.{First, FirstTwinOn, FirstTwinSince, FirstTwin};
+ghost use Rattle.twins.specs.First.{NoneBefore, First, FirstTwinOn, FirstTwinSince, FirstTwin};
 ghost use Rattle.twins.specs.inner.Search.{Told, FirstBefore};
 ghost use Rattle.twins.specs.Number.{twin_number};
-ghost use Rattle.twins.specs.inner.Fingerprints.{mixed, Fingerprinted, Brought, Cleared, Apart, OthersPassed};
+ghost use Rattle.twins.specs.inner.Fingerprints.{mixed, Fingerprinted, Brought, Cleared, OthersPassed};
 
 use answer::Refusal;
 use matrix::Layout;
@@ -44,6 +44,7 @@ fn lower_bits(y: Layout, a: &[f64], i: usize, j: usize) -> u64
     leaf::to_bits(matrix::get(y, a, i, j))
 }
 
+#[tactic(auto, unfolding(crate::specs::Twins::symmetric))]
 fn entry_bits(y: Layout, a: &[f64], i: usize, j: usize) -> u64
     requires laid { Laid y a.now }
     requires i_lt_order { i < y.order }
@@ -56,6 +57,7 @@ fn entry_bits(y: Layout, a: &[f64], i: usize, j: usize) -> u64
     lower_bits(y, a, j, i)
 }
 
+#[tactic(auto, unfolding(crate::specs::inner::Fingerprints::turned, crate::specs::inner::Fingerprints::mixed))]
 fn mix(fingerprint: u64, bits: u64) -> u64
     ensures { result ≡ mixed fingerprint bits }
 {
@@ -75,12 +77,10 @@ fn bring_column(y: Layout, a: &[f64], fingerprints: &mut [u64], c: usize)
 {
     let n = y.order;
     let mut own = mix(fingerprints[c], lower_bits(y, a, c, c));
-    let mut i = c + 1;
-    while i < n {
+    for i in c + 1..n {
         let bits = lower_bits(y, a, i, c);
         fingerprints[i] = mix(fingerprints[i], bits);
         own = mix(own, bits);
-        i += 1;
     }
     fingerprints[c] = own;
 }
@@ -91,11 +91,8 @@ fn fingerprint_rows(y: Layout, a: &[f64], fingerprints: &mut [u64])
     requires cleared { Cleared y.order fingerprints.old }
     ensures { Fingerprinted y.order (load (lower y) a.now) fingerprints.new }
 {
-    let n = y.order;
-    let mut c = 0;
-    while c < n {
+    for c in 0..y.order {
         bring_column(y, a, fingerprints, c);
-        c += 1;
     }
 }
 
@@ -105,18 +102,11 @@ fn same_rows(y: Layout, a: &[f64], p: usize, q: usize) -> bool
     requires q_lt_order { q < y.order }
     ensures { Told y.order (load (lower y) a.now) p q result }
 {
-    let n = y.order;
-    let mut k = 0;
-    while k < n {
-        if entry_bits(y, a, q, k) != entry_bits(y, a, p, k) {
-            return false;
-        }
-        k += 1;
-    }
-    true
+    (0..y.order).all(|k| entry_bits(y, a, q, k) == entry_bits(y, a, p, k))
 }
 
 // The fingerprints are compared first, so that rows are read again only where they may be twins.
+#[tactic(auto, using(crate::proofs::Fingerprints::fingerprints_differ))]
 fn twins(y: Layout, a: &[f64], fingerprints: &[u64], p: usize, q: usize) -> bool
     requires laid { Laid y a.now }
     requires order_in_bounds { y.order ≤ length fingerprints.now }
@@ -130,54 +120,37 @@ fn twins(y: Layout, a: &[f64], fingerprints: &[u64], p: usize, q: usize) -> bool
     same_rows(y, a, p, q)
 }
 
-// Whether one of the four fingerprints from p on is this one.
-fn among_four(fingerprints: &[u64], p: usize, fingerprint: u64) -> bool
-    requires { p + 4 ≤ length fingerprints.now }
-    ensures { result ≡ false → Apart fingerprints.now fingerprint p (p + 4) }
-{
-    if fingerprints[p] == fingerprint {
-        return true;
-    }
-    if fingerprints[p + 1] == fingerprint {
-        return true;
-    }
-    if fingerprints[p + 2] == fingerprint {
-        return true;
-    }
-    fingerprints[p + 3] == fingerprint
-}
-
-// Passes rows that have other fingerprints than row q, four at a time.
+// Passes rows that have other fingerprints than row q, four at a time, which is faster than one by one.
 fn pass_fours(fingerprints: &[u64], q: usize) -> usize
     requires { q < length fingerprints.now }
     ensures { OthersPassed fingerprints.now q result }
 {
     let fingerprint = fingerprints[q];
-    let mut p = 0;
-    while p + 4 <= q {
-        if among_four(fingerprints, p, fingerprint) {
+    let fours = q / 4;
+    for t in 0..fours {
+        let p = 4 * t;
+        if fingerprints[p..p + 4].contains(&fingerprint) {
             return p;
         }
-        p += 4;
     }
-    p
+    4 * fours
 }
 
-fn first_before(y: Layout, a: &[f64], fingerprints: &[u64], q: usize) -> usize
+// The first row before row q that is its twin.
+fn first_before(y: Layout, a: &[f64], fingerprints: &[u64], q: usize) -> Option<usize>
     requires laid { Laid y a.now }
     requires order_in_bounds { y.order ≤ length fingerprints.now }
     requires fingerprinted { Fingerprinted y.order (load (lower y) a.now) fingerprints.now }
     requires q_lt_order { q < y.order }
-    ensures { FirstBefore y.order (load (lower y) a.now) q result }
+    ensures { MatchOption result (NoneBefore y.order (load (lower y) a.now) q q) (FirstBefore y.order (load (lower y) a.now) q) }
 {
-    let mut p = pass_fours(fingerprints, q);
-    while p < q {
+    let passed = pass_fours(fingerprints, q);
+    for p in passed..q {
         if twins(y, a, fingerprints, p, q) {
-            return p;
+            return Some(p);
         }
-        p += 1;
     }
-    p
+    None
 }
 
 fn first_pair(y: Layout, a: &[f64], fingerprints: &mut [u64], earlier: usize) -> Option<Pair>
@@ -188,17 +161,13 @@ fn first_pair(y: Layout, a: &[f64], fingerprints: &mut [u64], earlier: usize) ->
     ensures { First y.order (load (lower y) a.now) earlier result }
 {
     fingerprint_rows(y, a, fingerprints);
-    let n = y.order;
-    let mut q = earlier;
-    while q < n {
-        let p = first_before(y, a, fingerprints, q);
-        if p < q {
+    for q in earlier..y.order {
+        if let Some(p) = first_before(y, a, fingerprints, q) {
             return Some(Pair {
                 first: p as u32,
                 second: q as u32,
             });
         }
-        q += 1;
     }
     None
 }

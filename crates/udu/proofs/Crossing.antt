@@ -31,10 +31,6 @@ pub record Crossing (u₀ d : List Float) (n j k : ℕ) (u : List Float) : Type 
   pub upto : k ≤ n
   pub gathered : Gathered (j * n) 0 j (source_of n u₀ d j) (j + 1) u₀ k u
 
--- what was reached at k₁ with u₁ is kept up to k with u
-pub record Onward (u₁ d : List Float) (n j k₁ k : ℕ) (u : List Float) : Type 0 where
-  pub kept : (u₀ : List Float) → length u₀ ≡ n * n → Crossing u₀ d n j k₁ u₁ → Crossing u₀ d n j k u
-
 pub crossing_none : {u d : List Float} {n j : ℕ} → j < n → Crossing u d n j (j + 1) u
 crossing_none below = record { upto = omega arith; gathered = gathered_none }
 
@@ -47,6 +43,9 @@ crossing_more {u₀} {d} {n} {j} w long upto more = record {
       gathered_then w.gathered more (λ c low high. source_kept n j c d w.gathered.sums (omega arith) (omega arith))
       (λ c low high. source_elsewhere n j c u₀ d refl long (omega arith) (omega arith));
 }
+
+pub crossing_at : {u₀ d : List Float} {n j k k' : ℕ} {u u' : List Float} → k ≡ k' → u' ≡ u → Crossing u₀ d n j k u → Crossing u₀ d n j k' u'
+crossing_at same is w = rw (← same, is) w
 
 pub crossing_all : {u₀ d : List Float} {n j k : ℕ} {u : List Float} → Crossing u₀ d n j k u → n ≤ k → j < n → Zeros n (j + 1) u₀ → Strip (j * n) 0 j (cross_sum n (factors_in n u₀ d) j) u₀ u
 unfolding cross_sum plus

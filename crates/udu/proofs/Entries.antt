@@ -3,12 +3,13 @@
 --     kept, cross_kept              what a strip of column j leaves of the other columns, and of the sums over them
 --     row_entry, quotient_entry     an entry before the diagonal, as each of the two loops stores it
 --     with_diagonal_law                 the entries before the diagonal, and the diagonal
---     last_stepped, last_zero       the last column, accepted or refused
---     further_stepped, further_zero   a further one
-use mathlib.Core.Bool.{true, false}
+--     last_diagonal, last_entries   the last column
+--     further_diagonal, further_entries   a further one
+--     column_step                   a column, accepted or refused
+use mathlib.Core.Bool.{Bool, cond}
 use mathlib.Core.List.{List}
 use mathlib.Core.Path.{◌≡◌, refl, sym, ◌∙◌, ap, ap₂, subst}
-use Prim.Native.Nat.{ℕ, ◌+◌, ◌-◌, ◌*◌, ◌≤◌, ◌<◌}
+use Prim.Native.Nat.{ℕ, ◌+◌, ◌*◌, ◌≤◌, ◌<◌}
 use native.Mathlib.Omega.{arith}
 use borrow.Author.Tests.{eq-eqb, ne_eqb}
 use lib.ListN.{length, get_or, set}
@@ -20,7 +21,7 @@ use Rattle.matrix.specs.Rounded.{◌⊕◌, ◌⊖◌, ◌⊗◌, ◌⊘◌, plu
 use Rattle.matrix.proofs.Loops.{for_same}
 use Rattle.matrix.proofs.Places.{upper_at, digits_column}
 use Rattle.strips.specs.inner.Strip.{row_at, Strip}
-use Rattle.strips.proofs.Strips.{Partway, strip_nothing, strip_more, strip_all, strip_as, strip_then}
+use Rattle.strips.proofs.Strips.{Partway, strip_more, strip_all, strip_as, strip_then}
 use Rattle.udu.specs.Columns.{Factors, plus_cross, square_sum, cross_sum, udu_diagonal, last_entry, further_entry, udu_entry}
 use Rattle.udu.specs.inner.Contracts.{factors_in, multiples_of, quotients_of, diagonal_in, ColumnStep}
 
@@ -72,52 +73,28 @@ row_entry n j i d p x {u₀ = u₀} s w less row is =
 
 -- ---- a column as a whole
 
-module _ (n : ℕ) (p u₀ d₀ : List Float) where
-  last_diagonal : 0 < n → get_or p (n - 1 + (n - 1) * n) nan ≡ diagonal_in n (n - 1) p u₀ d₀
-  unfolding udu_diagonal
-  last_diagonal some =
-      let last : n - 1 + 1 ≡ n = omega arith in
-      rw (eq-eqb (n - 1 + 1) n last) (above n p (n - 1) (n - 1) (omega arith) (omega arith))
+pub last_diagonal : (n j : ℕ) (p u d : List Float) → j + 1 ≡ n → get_or p (j + j * n) nan ≡ diagonal_in n j p u d
+unfolding udu_diagonal
+last_diagonal n j p u d last = rw (eq-eqb (j + 1) n last) (above n p j j (omega arith) (omega arith))
 
-  pub last_zero : 0 < n → eq (get_or p (n - 1 + (n - 1) * n) nan) plus_zero ≡ true → ColumnStep n (n - 1) p u₀ d₀ true u₀ (set d₀ (n - 1) (get_or p (n - 1 + (n - 1) * n) nan))
-  last_zero some zero = record {
-    tested = sym zero ∙ ap (λ (x : Float). eq x plus_zero) (last_diagonal some);
-    diagonal = ap (set d₀ (n - 1)) (last_diagonal some);
-    column = strip_nothing;
-  }
+pub further_diagonal : (n j : ℕ) (p u d : List Float) (s : Float) → j + 1 < n → s ≡ square_sum n (factors_in n u d) j → get_or p (j + j * n) nan ⊖ s ≡ diagonal_in n j p u d
+unfolding udu_diagonal
+further_diagonal n j p u d s below is = rw (ne_eqb (j + 1) n (λ (e : j + 1 ≡ n). omega arith)) (ap₂ (λ (x y : Float). x ⊖ y) (above n p j j (omega arith) (omega arith)) is)
 
-  pub last_stepped : {u : List Float} → 0 < n → eq (get_or p (n - 1 + (n - 1) * n) nan) plus_zero ≡ false
-      → Strip ((n - 1) * n) 0 n (multiples_of p ((n - 1) * n) (one ⊘ get_or p (n - 1 + (n - 1) * n) nan)) u₀ u
-      → ColumnStep n (n - 1) p u₀ d₀ false u (set d₀ (n - 1) (get_or p (n - 1 + (n - 1) * n) nan))
+module _ (n j : ℕ) (F : Factors) (p : List Float) (x : Float) {u₀ u : List Float} where
+  pub last_entries : j + 1 ≡ n → Strip (j * n) 0 n (multiples_of p (j * n) (one ⊘ x)) u₀ u → Strip (j * n) 0 (j + 1) (udu_entry n (load (upper n) p) F x j) u₀ u
   unfolding udu_entry last_entry
-  last_stepped {u} some other w =
-      let last : n - 1 + 1 ≡ n = omega arith in
-      record {
-        tested = sym other ∙ ap (λ (x : Float). eq x plus_zero) (last_diagonal some);
-        diagonal = ap (set d₀ (n - 1)) (last_diagonal some);
-        column = subst (λ (rows : ℕ). Strip ((n - 1) * n) 0 rows (udu_entry n (load (upper n) p) (factors_in n u₀ d₀) (diagonal_in n (n - 1) p u₀ d₀) (n - 1)) u₀ u) (sym last) (strip_as w (λ i from row.
-            rw (eq-eqb (n - 1 + 1) n last) (ap₂ (λ (x y : Float). (one ⊘ x) ⊗ y) (last_diagonal some) (above n p i (n - 1) (omega arith) (omega arith)))));
-      }
+  last_entries last w =
+      rw last (strip_as w (λ i from row. rw (eq-eqb (j + 1) n last) (ap (λ (y : Float). (one ⊘ x) ⊗ y) (above n p i j (omega arith) (omega arith)))))
 
-module _ (n j : ℕ) (p u₀ d₀ : List Float) (s : Float) (is : s ≡ square_sum n (factors_in n u₀ d₀) j) (below : j + 1 < n) where
-  further_diagonal : get_or p (j + j * n) nan ⊖ s ≡ diagonal_in n j p u₀ d₀
-  unfolding udu_diagonal
-  further_diagonal = rw (ne_eqb (j + 1) n (λ (e : j + 1 ≡ n). omega arith)) (ap₂ (λ (x y : Float). x ⊖ y) (above n p j j (omega arith) (omega arith)) is)
-
-  pub further_zero : eq (get_or p (j + j * n) nan ⊖ s) plus_zero ≡ true → ColumnStep n j p u₀ d₀ true u₀ (set d₀ j (get_or p (j + j * n) nan ⊖ s))
-  further_zero zero = record {
-    tested = sym zero ∙ ap (λ (x : Float). eq x plus_zero) further_diagonal;
-    diagonal = ap (set d₀ j) further_diagonal;
-    column = strip_nothing;
-  }
-
-  pub further_stepped : {u : List Float} → eq (get_or p (j + j * n) nan ⊖ s) plus_zero ≡ false
-      → Strip (j * n) 0 (j + 1) (further_entry n (load (upper n) p) (factors_in n u₀ d₀) (get_or p (j + j * n) nan ⊖ s) j) u₀ u
-      → ColumnStep n j p u₀ d₀ false u (set d₀ j (get_or p (j + j * n) nan ⊖ s))
+  pub further_entries : j + 1 < n → Strip (j * n) 0 (j + 1) (further_entry n (load (upper n) p) F x j) u₀ u → Strip (j * n) 0 (j + 1) (udu_entry n (load (upper n) p) F x j) u₀ u
   unfolding udu_entry
-  further_stepped {u} other w = record {
-    tested = sym other ∙ ap (λ (x : Float). eq x plus_zero) further_diagonal;
-    diagonal = ap (set d₀ j) further_diagonal;
-    column = strip_as w (λ i from row.
-        rw (ne_eqb (j + 1) n (λ (e : j + 1 ≡ n). omega arith)) (ap (λ (x : Float). further_entry n (load (upper n) p) (factors_in n u₀ d₀) x j i) further_diagonal));
-  }
+  further_entries below w = strip_as w (λ i from row. rw (ne_eqb (j + 1) n (λ (e : j + 1 ≡ n). omega arith)))
+
+pub column_step : {n j : ℕ} {p u₀ d₀ u : List Float} (r : Bool) {x : Float} → x ≡ diagonal_in n j p u₀ d₀ → eq x plus_zero ≡ r
+    → Strip (j * n) 0 (cond r 0 (j + 1)) (udu_entry n (load (upper n) p) (factors_in n u₀ d₀) x j) u₀ u → ColumnStep n j p u₀ d₀ r u (set d₀ j x)
+column_step {n} {j} {p} {u₀} {d₀} {u} r is zero column = record {
+  tested = sym zero ∙ ap (λ (y : Float). eq y plus_zero) is;
+  diagonal = ap (set d₀ j) is;
+  column = subst (λ (y : Float). Strip (j * n) 0 (cond r 0 (j + 1)) (udu_entry n (load (upper n) p) (factors_in n u₀ d₀) y j) u₀ u) is column;
+}

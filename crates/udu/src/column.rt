@@ -1,5 +1,5 @@
 // One column of UDU, on plain offsets: column j of a matrix of order n starts at j·n.
-ghost use Rattle.std.specs.Prelude.{◌≡◌, ◌+◌, ◌-◌, ◌*◌, ◌≤◌, ◌<◌, length};
+ghost use Rattle.std.specs.Prelude.{◌≡◌, ℕ, ◌+◌, ◌-◌, ◌*◌, ◌≤◌, ◌<◌, length, slice_index_or};
 ghost use Rattle.matrix.specs.Grid.{load};
 ghost use Rattle.matrix.specs.Layouts.{upper};
 ghost use Rattle.strips.specs.inner.Strip.{Strip, Gathered};
@@ -7,9 +7,11 @@ ghost use Rattle.udu.specs.Columns.{square_sum, cross_sum, further_entry};
 ghost use Rattle.udu.specs.Promise.{UduSized};
 ghost use Rattle.udu.specs.inner.Contracts.{Zeros, factors_in, multiples_of, quotients_of, source_of, ColumnStep};
 
+use std::array;
 use strips::Source;
 
-// The last column: its diagonal and, unless that is zero, p times the diagonal's inverse. Answers whether it is zero.
+// The last column: its diagonal and, unless that is zero, p times the diagonal's inverse. Answers whether it is zero. One function for this column and the
+// further ones takes a sixth longer at order 3.
 pub fn last(p: &[f64], u: &mut [f64], d: &mut [f64], n: usize) -> bool
     requires { UduSized n p.now u.old d.old }
     ensures { ColumnStep n (n - 1) p.now u.old d.old result u.new d.new }
@@ -32,8 +34,7 @@ pub fn further(p: &[f64], u: &mut [f64], d: &mut [f64], j: usize, n: usize) -> b
     requires zeros { Zeros n (j + 1) u.old }
     ensures { ColumnStep n j p.now u.old d.old result u.new d.new }
 {
-    let at = j * n;
-    let x = p[j + at] - squares(u, d, j, n);
+    let x = p[j + j * n] - squares(u, d, j, n);
     if x == 0.0 {
         d[j] = x;
         return true;
@@ -52,9 +53,9 @@ fn entries(p: &[f64], u: &mut [f64], d: &[f64], j: usize, n: usize, x: f64)
 {
     if n < 16 {
         by_rows(p, u, d, j, n, x);
-        return;
+    } else {
+        by_columns(p, u, d, j, n, x);
     }
-    by_columns(p, u, d, j, n, x);
 }
 
 // Each entry's sum by itself.
@@ -64,10 +65,8 @@ fn by_rows(p: &[f64], u: &mut [f64], d: &[f64], j: usize, n: usize, x: f64)
     ensures { Strip (j * n) 0 (j + 1) (further_entry n (load (upper n) p.now) (factors_in n u.old d.now) x j) u.old u.new }
 {
     let at = j * n;
-    let mut i = 0;
-    while i < j {
+    for i in 0..j {
         u[i + at] = (p[i + at] - row(u, d, i, j, n)) / x;
-        i += 1;
     }
     u[j + at] = 1.0;
 }
@@ -94,11 +93,9 @@ fn squares(u: &[f64], d: &[f64], j: usize, n: usize) -> f64
     ensures { result ≡ square_sum n (factors_in n u.now d.now) j }
 {
     let mut sum = 0.0;
-    let mut k = j + 1;
-    while k < n {
+    for k in j + 1..n {
         let v = u[j + k * n];
-        sum = sum + d[k] * (v * v);
-        k += 1;
+        sum += d[k] * (v * v);
     }
     sum
 }
@@ -113,11 +110,9 @@ fn row(u: &[f64], d: &[f64], i: usize, j: usize, n: usize) -> f64
     ensures { result ≡ cross_sum n (factors_in n u.now d.now) j i }
 {
     let mut sum = 0.0;
-    let mut k = j + 1;
-    while k < n {
+    for k in j + 1..n {
         let from = k * n;
-        sum = sum + (d[k] * u[j + from]) * u[i + from];
-        k += 1;
+        sum += (d[k] * u[j + from]) * u[i + from];
     }
     sum
 }
@@ -131,63 +126,53 @@ fn crosses(u: &mut [f64], d: &[f64], j: usize, n: usize)
     requires zeros { Zeros n (j + 1) u.old }
     ensures { Strip (j * n) 0 j (cross_sum n (factors_in n u.old d.now) j) u.old u.new }
 {
-    let mut k = j + 1;
-    while k + 4 <= n {
-        add_four(u, d, j, k, n);
-        k += 4;
+    let first = j + 1;
+    let others = n - (n - first) % 4;
+    for k in (first..others).step_by(4) {
+        add::<4>(u, d, j, k, n);
     }
-    while k < n {
-        add_one(u, d, j, k, n);
-        k += 1;
+    for k in others..n {
+        add::<1>(u, d, j, k, n);
     }
 }
 
-// Adds column k.
-fn add_one(u: &mut [f64], d: &[f64], j: usize, k: usize, n: usize)
+// Adds the W columns from k on.
+fn add<const W: usize>(u: &mut [f64], d: &[f64], j: usize, k: usize, n: usize)
     requires j_lt_k { j < k }
-    requires k_lt_n { k < n }
+    requires k_bound { k + W ≤ n }
     requires n_bound { n ≤ 1024 }
     requires u_len { length u.old ≡ n * n }
     requires d_len { length d.now ≡ n }
-    ensures { Gathered (j * n) 0 j (source_of n u.old d.now j) k u.old (k + 1) u.new }
+    ensures { Gathered (j * n) 0 j (source_of n u.old d.now j) k u.old (k + W) u.new }
 {
-    let to = j * n;
-    let s = source(u, d, j, k, n, k * n);
-    strips::axpy(u, to, 0, j, s);
+    let columns: [Source; W] = sources(u, d, j, k, n);
+    strips::axpy(u, j * n, 0, j, columns);
 }
 
-// Adds four columns from k on.
-fn add_four(u: &mut [f64], d: &[f64], j: usize, k: usize, n: usize)
+// The W columns from k on, and what they are multiplied by.
+fn sources<const W: usize>(u: &[f64], d: &[f64], j: usize, k: usize, n: usize) -> [Source; W]
     requires j_lt_k { j < k }
-    requires k_bound { k + 4 ≤ n }
+    requires k_bound { k + W ≤ n }
     requires n_bound { n ≤ 1024 }
-    requires u_len { length u.old ≡ n * n }
+    requires u_len { length u.now ≡ n * n }
     requires d_len { length d.now ≡ n }
-    ensures { Gathered (j * n) 0 j (source_of n u.old d.now j) k u.old (k + 4) u.new }
+    ensures { (c : ℕ) (s : _) → c < W → slice_index_or result c s ≡ source_of n u.now d.now j (k + c) }
 {
-    let to = j * n;
-    let from = k * n;
-    let s = source(u, d, j, k, n, from);
-    let t = source(u, d, j, k + 1, n, from + n);
-    let v = source(u, d, j, k + 2, n, from + 2 * n);
-    let w = source(u, d, j, k + 3, n, from + 3 * n);
-    strips::axpy4(u, to, 0, j, s, t, v, w);
+    array::from_fn(|c| source(u, d, j, k + c, n))
 }
 
-// Column k, which starts at `from`, and what it is multiplied by in the sums of column j: d(k)·u(j,k).
-fn source(u: &[f64], d: &[f64], j: usize, k: usize, n: usize, from: usize) -> Source
+// Column k, and what it is multiplied by in the sums of column j: d(k)·u(j,k).
+fn source(u: &[f64], d: &[f64], j: usize, k: usize, n: usize) -> Source
     requires j_lt_k { j < k }
     requires k_lt_n { k < n }
     requires n_bound { n ≤ 1024 }
     requires u_len { length u.now ≡ n * n }
     requires d_len { length d.now ≡ n }
-    requires from_value { from ≡ k * n }
     ensures { result ≡ source_of n u.now d.now j k }
 {
-    Source {
-        start: from,
-        scale: d[k] * u[j + from],
-    }
+    let start = k * n;
+    let scale = d[k] * u[j + start];
+    Source { start, scale }
 }
 
 // Rows of the column at `at`: (p − u) / x.
@@ -196,10 +181,8 @@ fn divide(p: &[f64], u: &mut [f64], at: usize, rows: usize, x: f64)
     requires at_in_bounds_2 { rows + at ≤ length u.old }
     ensures { Strip at 0 rows (quotients_of p.now u.old at x) u.old u.new }
 {
-    let mut i = 0;
-    while i < rows {
+    for i in 0..rows {
         u[i + at] = (p[i + at] - u[i + at]) / x;
-        i += 1;
     }
 }
 
@@ -209,9 +192,7 @@ fn multiply(p: &[f64], u: &mut [f64], at: usize, rows: usize, c: f64)
     requires at_in_bounds_2 { rows + at ≤ length u.old }
     ensures { Strip at 0 rows (multiples_of p.now at c) u.old u.new }
 {
-    let mut i = 0;
-    while i < rows {
+    for i in 0..rows {
         u[i + at] = c * p[i + at];
-        i += 1;
     }
 }

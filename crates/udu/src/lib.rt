@@ -40,12 +40,10 @@ fn columns(p: &[f64], u: &mut [f64], d: &mut [f64], n: usize) -> Answer
     requires holding { Holding n nothing u.old d.old }
     ensures { Columned n (udu_of n p.now) result u.new d.new }
 {
-    let mut j = n - 1;
     if column::last(p, u, d, n) {
-        return Err(Refusal::ZeroDiagonal(j as u32));
+        return Err(Refusal::ZeroDiagonal((n - 1) as u32));
     }
-    while 0 < j {
-        j -= 1;
+    for j in (0..n - 1).rev() {
         if column::further(p, u, d, j, n) {
             return Err(Refusal::ZeroDiagonal(j as u32));
         }

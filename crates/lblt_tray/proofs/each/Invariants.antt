@@ -1,11 +1,7 @@
 -- `each`: item by item.
-use Prim.Native.Nat.{◌-◌}
-use lib.ListN.{length}
+
 use Rattle.lblt_tray.specs.inner.Engine.{SolvedBefore}
 use Rattle.lblt_tray.proofs.each.Given as goal
 
 abbrev pub invariant-loop-t : goal.invariant-loop-t
 invariant-loop-t l = SolvedBefore l.n l.t l.initial.a l.initial.words l.initial.b l.runs l.initial.answers l.a l.words l.b l.answers
-
-abbrev pub decreases-loop-t : goal.decreases-loop-t
-decreases-loop-t l = length l.runs - l.t

@@ -1,5 +1,4 @@
 -- `bring_column` meets its contract. Assumes nothing.
-use Rattle.std.proofs.Common.{◌-◌}
 use Rattle.matrix.specs.Grid.{load}
 use Rattle.matrix.specs.Layouts.{lower}
 use Rattle.twins.proofs.Fingerprints.{Bringing}
@@ -7,6 +6,3 @@ use Rattle.twins.proofs.bring_column.Given as goal
 
 abbrev pub invariant-loop-i : goal.invariant-loop-i
 invariant-loop-i l = Bringing l.y.order (load (lower l.y) l.a) l.c l.initial.fingerprints l.i l.own l.fingerprints
-
-abbrev pub decreases-loop-i : goal.decreases-loop-i
-decreases-loop-i l = l.y.order - l.i

@@ -7,6 +7,3 @@ use Rattle.twins.proofs.first_pair.Given as goal
 
 abbrev pub invariant-loop-q : goal.invariant-loop-q
 invariant-loop-q l = Between l.y.order (load (lower l.y) l.a) l.earlier l.q
-
-abbrev pub decreases-loop-q : goal.decreases-loop-q
-decreases-loop-q l = l.y.order - l.q

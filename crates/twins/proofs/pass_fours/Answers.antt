@@ -1,15 +1,6 @@
 -- `pass_fours` meets its contract. Assumes nothing.
-use Rattle.twins.proofs.Fingerprints.{passed_none, passed_four}
+use Rattle.twins.proofs.Fingerprints.{passed_four}
 use Rattle.twins.proofs.pass_fours.Goals as goal
 
-pub loop-p-init : goal.loop-p-init
-loop-p-init c = passed_none
-
-pub returns-then-among_four : goal.returns-then-among_four
-returns-then-among_four c = c.loop-p.invariant
-
-pub loop-p-preserved : goal.loop-p-preserved
-loop-p-preserved c = passed_four c.loop-p.invariant c.loop-p-test.true (c.among_four.ensures c.if-among_four.false)
-
-pub returns : goal.returns
-returns c = c.loop-p.invariant
+pub loop-t-preserved : goal.loop-t-preserved
+loop-t-preserved c = passed_four c.loop-t.invariant c.loop-t-test.true c.requires (rw c.if-contains.false at c.contains.ensures.cases)

@@ -1,5 +1,5 @@
 -- What the parts of the search for twins tell each other.
-use Rattle.std.specs.Prelude.{◌≡◌, ℕ, ◌<◌, ◌≤◌, Bool, true, false}
+use Rattle.std.specs.Prelude.{◌≡◌, ℕ, ◌<◌, Bool, true, false}
 use Rattle.matrix.specs.Matrix.{Matrix}
 use Rattle.twins.specs.Twins.{Twins}
 use Rattle.twins.specs.First.{NoneBefore}
@@ -9,8 +9,8 @@ pub record Told (n : ℕ) (M : Matrix) (p q : ℕ) (r : Bool) : Type 0 where
   pub yes : r ≡ true → Twins n M p q
   pub no : r ≡ false → Twins n M p q → ⊥
 
--- r is the first row before q that is its twin, or q where there is none
-pub record FirstBefore (n : ℕ) (M : Matrix) (q r : ℕ) : Type 0 where
-  pub upto : r ≤ q
-  pub twins : r < q → Twins n M r q
-  pub nearest : NoneBefore n M r q
+-- p is the first row before q that is its twin
+pub record FirstBefore (n : ℕ) (M : Matrix) (q p : ℕ) : Type 0 where
+  pub before : p < q
+  pub twins : Twins n M p q
+  pub nearest : NoneBefore n M p q

@@ -1,11 +1,10 @@
 -- `factor` meets its contract. Assumes nothing.
-use mathlib.Core.Path.{refl, ◌∙◌}
+use mathlib.Core.Path.{refl}
 use native.Mathlib.Nat.{pos_of_ne-zero}
 use native.Mathlib.Omega.{arith}
 use borrow.Author.Tests.{le-leb, lt-leb, lt-ltb, le-ltb, eq-eqb, ne_eqb}
 use Rattle.answer.specs.declared.Refusal.TheVariants.{OutOfRange, MatrixLength, SliceLength}
 use Rattle.answer.proofs.Tested.{here, later}
-use Rattle.matrix.proofs.Places.{product_small}
 use Rattle.udu.proofs.Holding.{holding_none}
 use Rattle.udu.proofs.Sizes.{unfactored, factored}
 use Rattle.udu.proofs.factor.Goals as goal
@@ -17,9 +16,6 @@ pub returns-then-n-eq0 : goal.returns-then-n-eq0
 returns-then-n-eq0 c =
     unfactored OutOfRange (later (le-leb _ _ c.if-n-gt1024.false) (here (le-ltb 0 c.args.n (omega (arith, c.if-n-eq0.true))) refl))
 
-pub overflow_mul-size : goal.overflow_mul-size
-overflow_mul-size c = omega (arith, product_small _ _ c.if-n-gt1024.false c.if-n-gt1024.false)
-
 pub returns-then-p-size : goal.returns-then-p-size
 returns-then-p-size c = unfactored MatrixLength (later (le-leb _ _ c.if-n-gt1024.false) (later (lt-ltb _ _ (pos_of_ne-zero c.if-n-eq0.false)) (here (ne_eqb _ _ c.if-p-size.true) refl)))
 
@@ -30,19 +26,8 @@ pub returns-then-d-n : goal.returns-then-d-n
 returns-then-d-n c =
     unfactored SliceLength (later (le-leb _ _ c.if-n-gt1024.false) (later (lt-ltb _ _ (pos_of_ne-zero c.if-n-eq0.false)) (later (eq-eqb _ _ c.if-p-size.false) (later (eq-eqb _ _ c.if-u-size.false) (here (ne_eqb _ _ c.if-d-n.true) refl)))))
 
-pub columns-requires-clause-udu_sized : goal.columns-requires-clause-udu_sized
-columns-requires-clause-udu_sized c = record { low = pos_of_ne-zero c.if-n-eq0.false; high = c.if-n-gt1024.false; matrix = c.if-p-size.false; upper = c.clear-2.ensures.long ∙ c.if-u-size.false; diagonal = c.clear.ensures.long ∙ c.if-d-n.false }
-
 pub columns-requires-clause-holding : goal.columns-requires-clause-holding
 columns-requires-clause-holding c = holding_none c.if-u-size.false c.if-d-n.false c.clear-2.ensures c.clear.ensures
-
-pub shape_of-u : goal.shape_of-u
-shape_of-u c =
-    c.columns.auto.u ∙ c.clear-2.ensures.long
-
-pub shape_of-d : goal.shape_of-d
-shape_of-d c =
-    c.columns.auto.d ∙ c.clear.ensures.long
 
 pub returns : goal.returns
 returns c =

@@ -2,11 +2,5 @@
 use Rattle.handheld.proofs.Solving.{one_two_solved}
 use Rattle.handheld.proofs.sides.by_one_two.Goals as goal
 
-pub swap_first-s-requires : goal.swap_first-s-requires
-swap_first-s-requires c = c.requires
-
-pub swap_first-requires : goal.swap_first-requires
-swap_first-requires c = c.requires
-
 pub returns : goal.returns
 returns c = one_two_solved c.args.t c.args.b _ c.args.index0 _ c.swap_first-s.ensures c.swap_first.ensures

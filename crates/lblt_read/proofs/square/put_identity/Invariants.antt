@@ -2,11 +2,7 @@
 use Rattle.lblt_read.proofs.Entrywise.{put_one}
 use Rattle.matrix.proofs.Grids.{Turned}
 use Rattle.matrix.specs.Layouts.{square}
-use Prim.Native.Nat.{◌-◌}
 use Rattle.lblt_read.proofs.square.put_identity.Given as goal
 
 abbrev pub invariant-loop-k : goal.invariant-loop-k
 invariant-loop-k l = Turned (square l.n) 0 l.n put_one l.initial.l l.k l.l
-
-abbrev pub decreases-loop-k : goal.decreases-loop-k
-decreases-loop-k l = l.n - l.k

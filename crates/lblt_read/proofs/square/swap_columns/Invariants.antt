@@ -2,11 +2,7 @@
 use Rattle.lblt_read.proofs.Entrywise.{swap_at}
 use Rattle.matrix.proofs.Grids.{Turned}
 use Rattle.matrix.specs.Layouts.{square}
-use Prim.Native.Nat.{◌-◌}
 use Rattle.lblt_read.proofs.square.swap_columns.Given as goal
 
 abbrev pub invariant-loop-row : goal.invariant-loop-row
 invariant-loop-row l = Turned (square l.n) 0 l.n (swap_at l.p l.q) l.initial.l l.row l.l
-
-abbrev pub decreases-loop-row : goal.decreases-loop-row
-decreases-loop-row l = l.n - l.row

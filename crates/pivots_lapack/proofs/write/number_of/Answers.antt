@@ -1,7 +1,5 @@
 -- `number_of`: by the size of the row.
-use mathlib.Core.Path.{ap, ◌∙◌}
-use Prim.Native.Nat.{ℕ, ◌+◌}
-use lib.IntN.{pos, neg_ℤ}
+use Rattle.std.proofs.Common.{ℕ, ◌+◌, pos, neg_ℤ, ap, ◌∙◌}
 use Rattle.pivots.specs.Words.{index_at}
 use Rattle.pivots.proofs.Walks.{one_is, two_is}
 use Rattle.pivots_lapack.proofs.Signed.{itself}

@@ -1,5 +1,5 @@
 -- `squares` meets its contract. Assumes nothing.
-use Prim.Native.Nat.{◌+◌, ◌-◌}
+use Prim.Native.Nat.{◌+◌}
 use Rattle.matrix.specs.Rounded.{plus_zero}
 use Rattle.matrix.proofs.Loops.{Ran}
 use Rattle.udu.specs.Columns.{plus_square}
@@ -8,6 +8,3 @@ use Rattle.udu.proofs.column.squares.Given as goal
 
 abbrev pub invariant-loop-k : goal.invariant-loop-k
 invariant-loop-k l = Ran (l.j + 1) l.n (plus_square (factors_in l.n l.u l.d) l.j) plus_zero l.k l.sum
-
-abbrev pub decreases-loop-k : goal.decreases-loop-k
-decreases-loop-k l = l.n - l.k
