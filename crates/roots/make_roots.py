@@ -51,16 +51,13 @@ def arguments():
             yield from (b - 1, b, b + 1)
 
 
-def table(name, numbers):
-    print(f'pub const {name}: [u64; COUNT] = [')
-    for n in numbers:
-        print(f'    0x{n >> 48:04x}_{n >> 32 & 0xFFFF:04x}_{n >> 16 & 0xFFFF:04x}_{n & 0xFFFF:04x},')
-    print('];')
+def grouped(n):
+    return f'0x{n >> 48:04x}_{n >> 32 & 0xFFFF:04x}_{n >> 16 & 0xFFFF:04x}_{n & 0xFFFF:04x}'
 
 
 stored = list(dict.fromkeys(arguments()))
-print('// Written by make_roots.py, which says where the roots come from: the root of each pattern of ARGUMENTS is the pattern of ROOTS beside it.')
-print(f'pub const COUNT: usize = {len(stored)};\n')
-table('ARGUMENTS', stored)
-print()
-table('ROOTS', [root(b) for b in stored])
+print('// Written by make_roots.py, which says where the roots come from: a pattern, and the pattern of its root.')
+print(f'pub const ROOTS: [(u64, u64); {len(stored)}] = [')
+for n in stored:
+    print(f'    ({grouped(n)}, {grouped(root(n))}),')
+print('];')

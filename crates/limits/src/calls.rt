@@ -1,10 +1,12 @@
 // The calls, each on slices for order 1, and for up to 1,024 columns.
-use answer::{Answer, Valued};
-use cholesky::Floored;
-use pivots_lapack::Listed;
-use twins::Twin;
+use crate::sizes::{
+    COLUMNS, EARLIER_ORDER, Limit, ORDER, ROOM, Sizes, TEACHING_ORDER, TEACHING_ROOM, TRAY_COUNT,
+    TRAY_ORDER,
+};
+use answer::Refusal;
+use std::fmt;
 
-#[derive(Clone, Copy)]
+#[derive(Clone, Copy, Debug, PartialEq, Eq)]
 pub enum Call {
     LbltFactor,
     LbltSolve,
@@ -19,11 +21,11 @@ pub enum Call {
     CholeskyExtend,
     CholeskyFactorFloored,
     CholeskyExtendFloored,
-    CholeskyTeaching,
     CholeskySolve,
     CholeskyL,
     CholeskyUnpack,
     CholeskyDeterminant,
+    CholeskyTeaching,
     UduFactor,
     FirstTwin,
     FirstTwinSince,
@@ -36,43 +38,116 @@ pub enum Call {
     PackedFirstTwin,
 }
 
+pub const CALLS: [Call; 28] = [
+    Call::LbltFactor,
+    Call::LbltSolve,
+    Call::LbltSolveBench,
+    Call::LbltTray,
+    Call::LbltDeterminant,
+    Call::LbltD,
+    Call::LbltLPermuted,
+    Call::PivotsFromLapack,
+    Call::PivotsToLapack,
+    Call::CholeskyFactor,
+    Call::CholeskyExtend,
+    Call::CholeskyFactorFloored,
+    Call::CholeskyExtendFloored,
+    Call::CholeskySolve,
+    Call::CholeskyL,
+    Call::CholeskyUnpack,
+    Call::CholeskyDeterminant,
+    Call::CholeskyTeaching,
+    Call::UduFactor,
+    Call::FirstTwin,
+    Call::FirstTwinSince,
+    Call::PackedLbltFactor,
+    Call::PackedLbltSolve,
+    Call::PackedLbltDeterminant,
+    Call::PackedCholeskyFactor,
+    Call::PackedCholeskyExtend,
+    Call::PackedCholeskySolve,
+    Call::PackedFirstTwin,
+];
+
+// The name in C.
+impl fmt::Display for Call {
+    fn fmt<W: fmt::Write>(&self, f: &mut fmt::Formatter<W>) -> fmt::Result {
+        f.write_str(match self {
+            Call::LbltFactor => "lblt_factor",
+            Call::LbltSolve => "lblt_solve",
+            Call::LbltSolveBench => "lblt_solve_bench",
+            Call::LbltTray => "lblt_tray",
+            Call::LbltDeterminant => "lblt_determinant",
+            Call::LbltD => "lblt_d",
+            Call::LbltLPermuted => "lblt_l_permuted",
+            Call::PivotsFromLapack => "pivots_from_lapack",
+            Call::PivotsToLapack => "pivots_to_lapack",
+            Call::CholeskyFactor => "cholesky_factor",
+            Call::CholeskyExtend => "cholesky_extend",
+            Call::CholeskyFactorFloored => "cholesky_factor_floored",
+            Call::CholeskyExtendFloored => "cholesky_extend_floored",
+            Call::CholeskySolve => "cholesky_solve",
+            Call::CholeskyL => "cholesky_l",
+            Call::CholeskyUnpack => "cholesky_unpack",
+            Call::CholeskyDeterminant => "cholesky_determinant",
+            Call::CholeskyTeaching => "cholesky_teaching",
+            Call::UduFactor => "udu_factor",
+            Call::FirstTwin => "first_twin",
+            Call::FirstTwinSince => "first_twin_since",
+            Call::PackedLbltFactor => "packed_lblt_factor",
+            Call::PackedLbltSolve => "packed_lblt_solve",
+            Call::PackedLbltDeterminant => "packed_lblt_determinant",
+            Call::PackedCholeskyFactor => "packed_cholesky_factor",
+            Call::PackedCholeskyExtend => "packed_cholesky_extend",
+            Call::PackedCholeskySolve => "packed_cholesky_solve",
+            Call::PackedFirstTwin => "packed_first_twin",
+        })
+    }
+}
+
 impl Call {
-    // Whether it could be written.
-    pub fn print_name(self) -> bool {
+    // The limits of the sizes that it takes.
+    pub fn limits(self) -> &'static [Limit] {
         match self {
-            Call::LbltFactor => io::write_all(1, b"lblt_factor"),
-            Call::LbltSolve => io::write_all(1, b"lblt_solve"),
-            Call::LbltSolveBench => io::write_all(1, b"lblt_solve_bench"),
-            Call::LbltTray => io::write_all(1, b"lblt_tray"),
-            Call::LbltDeterminant => io::write_all(1, b"lblt_determinant"),
-            Call::LbltD => io::write_all(1, b"lblt_d"),
-            Call::LbltLPermuted => io::write_all(1, b"lblt_l_permuted"),
-            Call::PivotsFromLapack => io::write_all(1, b"pivots_from_lapack"),
-            Call::PivotsToLapack => io::write_all(1, b"pivots_to_lapack"),
-            Call::CholeskyFactor => io::write_all(1, b"cholesky_factor"),
-            Call::CholeskyExtend => io::write_all(1, b"cholesky_extend"),
-            Call::CholeskyFactorFloored => io::write_all(1, b"cholesky_factor_floored"),
-            Call::CholeskyExtendFloored => io::write_all(1, b"cholesky_extend_floored"),
-            Call::CholeskyTeaching => io::write_all(1, b"cholesky_teaching"),
-            Call::CholeskySolve => io::write_all(1, b"cholesky_solve"),
-            Call::CholeskyL => io::write_all(1, b"cholesky_l"),
-            Call::CholeskyUnpack => io::write_all(1, b"cholesky_unpack"),
-            Call::CholeskyDeterminant => io::write_all(1, b"cholesky_determinant"),
-            Call::UduFactor => io::write_all(1, b"udu_factor"),
-            Call::FirstTwin => io::write_all(1, b"first_twin"),
-            Call::FirstTwinSince => io::write_all(1, b"first_twin_since"),
-            Call::PackedLbltFactor => io::write_all(1, b"packed_lblt_factor"),
-            Call::PackedLbltSolve => io::write_all(1, b"packed_lblt_solve"),
-            Call::PackedLbltDeterminant => io::write_all(1, b"packed_lblt_determinant"),
-            Call::PackedCholeskyFactor => io::write_all(1, b"packed_cholesky_factor"),
-            Call::PackedCholeskyExtend => io::write_all(1, b"packed_cholesky_extend"),
-            Call::PackedCholeskySolve => io::write_all(1, b"packed_cholesky_solve"),
-            Call::PackedFirstTwin => io::write_all(1, b"packed_first_twin"),
+            Call::LbltFactor
+            | Call::LbltDeterminant
+            | Call::LbltD
+            | Call::LbltLPermuted
+            | Call::PivotsFromLapack
+            | Call::PivotsToLapack
+            | Call::UduFactor
+            | Call::PackedLbltFactor
+            | Call::PackedLbltDeterminant
+            | Call::PackedCholeskyFactor
+            | Call::PackedFirstTwin => &[ORDER],
+            Call::LbltSolve
+            | Call::LbltSolveBench
+            | Call::PackedLbltSolve
+            | Call::PackedCholeskySolve => &[ORDER, COLUMNS],
+            Call::LbltTray => &[TRAY_ORDER, TRAY_COUNT],
+            Call::CholeskyFactor
+            | Call::CholeskyFactorFloored
+            | Call::CholeskyL
+            | Call::CholeskyUnpack
+            | Call::CholeskyDeterminant
+            | Call::FirstTwin => &[ROOM, ORDER],
+            Call::CholeskyExtend | Call::CholeskyExtendFloored | Call::FirstTwinSince => {
+                &[ROOM, ORDER, EARLIER_ORDER]
+            }
+            Call::CholeskySolve => &[ROOM, ORDER, COLUMNS],
+            Call::CholeskyTeaching => &[TEACHING_ROOM, TEACHING_ORDER],
+            Call::PackedCholeskyExtend => &[ORDER, EARLIER_ORDER],
         }
     }
 
     // The code that the call answers, by those of these sizes that it takes.
-    pub fn code(self, room: usize, earlier: usize, n: usize, columns: usize) -> u64 {
+    pub fn code(self, sizes: Sizes) -> u64 {
+        let Sizes {
+            room,
+            earlier,
+            order: n,
+            columns,
+        } = sizes;
         let mut a = [2.0];
         let mut b = [1.0; 1024];
         let mut u = [0.0];
@@ -83,12 +158,12 @@ impl Call {
         let mut answers = [0u64];
         let mut list = [1i32];
         match self {
-            Call::LbltFactor => plain(lblt::factor(&mut a, &mut record, n, 7)),
-            Call::LbltSolve => plain(lblt_solve::solve_mut(&a, &record, &mut b, n, columns, 7)),
-            Call::LbltSolveBench => plain(lblt_bench::solve_bench(
+            Call::LbltFactor => code(lblt::factor(&mut a, &mut record, n, 7)),
+            Call::LbltSolve => code(lblt_solve::solve_mut(&a, &record, &mut b, n, columns, 7)),
+            Call::LbltSolveBench => code(lblt_bench::solve_bench(
                 &a, &record, &mut b, &benches, n, columns, 5, 7,
             )),
-            Call::LbltTray => plain(lblt_tray::tray(
+            Call::LbltTray => code(lblt_tray::tray(
                 &mut a,
                 &mut record,
                 &mut b,
@@ -97,66 +172,50 @@ impl Call {
                 n,
                 columns,
             )),
-            Call::LbltDeterminant => valued(lblt_read::determinant(&a, &record, n, 7)),
-            Call::LbltD => plain(lblt_read::d(&a, &record, &mut u, n, 7)),
-            Call::LbltLPermuted => plain(lblt_read::l_permuted(&a, &record, &mut u, n, 7)),
-            Call::PivotsFromLapack => plain(pivots_lapack::from_lapack(
+            Call::LbltDeterminant => code(lblt_read::determinant(&a, &record, n, 7)),
+            Call::LbltD => code(lblt_read::d(&a, &record, &mut u, n, 7)),
+            Call::LbltLPermuted => code(lblt_read::l_permuted(&a, &record, &mut u, n, 7)),
+            Call::PivotsFromLapack => code(pivots_lapack::from_lapack(
                 &list,
                 0,
                 &mut record,
                 n,
                 7,
             )),
-            Call::PivotsToLapack => listed(pivots_lapack::to_lapack(&record, &mut list, n)),
-            Call::CholeskyFactor => plain(cholesky::factor(&mut a, room, n)),
-            Call::CholeskyExtend => plain(cholesky::extend(&mut a, room, earlier, n)),
-            Call::CholeskyFactorFloored => floored(cholesky::factor_floored(&mut a, room, n, 1.0)),
+            Call::PivotsToLapack => code(pivots_lapack::to_lapack(&record, &mut list, n)),
+            Call::CholeskyFactor => code(cholesky::factor(&mut a, room, n)),
+            Call::CholeskyExtend => code(cholesky::extend(&mut a, room, earlier, n)),
+            Call::CholeskyFactorFloored => code(cholesky::factor_floored(&mut a, room, n, 1.0).answer),
             Call::CholeskyExtendFloored => {
-                floored(cholesky::extend_floored(&mut a, room, earlier, n, 1.0))
+                code(cholesky::extend_floored(&mut a, room, earlier, n, 1.0).answer)
             }
-            Call::CholeskyTeaching => plain(teaching::cholesky(&mut a, room, n)),
-            Call::CholeskySolve => plain(cholesky::solve_mut(&a, &mut b, room, n, columns)),
-            Call::CholeskyL => plain(cholesky::l(&a, &mut u, room, n)),
-            Call::CholeskyUnpack => plain(cholesky::unpack(&mut a, room, n)),
-            Call::CholeskyDeterminant => valued(cholesky::determinant(&a, room, n)),
-            Call::UduFactor => plain(udu::factor(&a, &mut u, &mut d, n)),
-            Call::FirstTwin => told(twins::first_twin(&a, room, n)),
-            Call::FirstTwinSince => told(twins::first_twin_since(&a, room, earlier, n)),
-            Call::PackedLbltFactor => plain(packed::lblt_factor(&mut a, &mut record, n, 7)),
+            Call::CholeskySolve => code(cholesky::solve_mut(&a, &mut b, room, n, columns)),
+            Call::CholeskyL => code(cholesky::l(&a, &mut u, room, n)),
+            Call::CholeskyUnpack => code(cholesky::unpack(&mut a, room, n)),
+            Call::CholeskyDeterminant => code(cholesky::determinant(&a, room, n)),
+            Call::CholeskyTeaching => code(teaching::cholesky(&mut a, room, n)),
+            Call::UduFactor => code(udu::factor(&a, &mut u, &mut d, n)),
+            Call::FirstTwin => code(twins::first_twin(&a, room, n)),
+            Call::FirstTwinSince => code(twins::first_twin_since(&a, room, earlier, n)),
+            Call::PackedLbltFactor => code(packed::lblt_factor(&mut a, &mut record, n, 7)),
             Call::PackedLbltSolve => {
-                plain(packed::lblt_solve(&a, &record, &mut b, n, columns, 7))
+                code(packed::lblt_solve(&a, &record, &mut b, n, columns, 7))
             }
-            Call::PackedLbltDeterminant => valued(packed::lblt_determinant(&a, &record, n, 7)),
-            Call::PackedCholeskyFactor => plain(packed::cholesky_factor(&mut a, n)),
+            Call::PackedLbltDeterminant => code(packed::lblt_determinant(&a, &record, n, 7)),
+            Call::PackedCholeskyFactor => code(packed::cholesky_factor(&mut a, n)),
             Call::PackedCholeskyExtend => {
-                plain(packed::cholesky_extend(&u, &a, &mut d, earlier, n))
+                code(packed::cholesky_extend(&u, &a, &mut d, earlier, n))
             }
-            Call::PackedCholeskySolve => plain(packed::cholesky_solve(&a, &mut b, n, columns)),
-            Call::PackedFirstTwin => told(packed::first_twin(&a, n)),
+            Call::PackedCholeskySolve => code(packed::cholesky_solve(&a, &mut b, n, columns)),
+            Call::PackedFirstTwin => code(packed::first_twin(&a, n)),
         }
     }
 }
 
-fn plain(answer: Answer) -> u64 {
-    answer.code() as u64
-}
-
-fn valued(v: Valued) -> u64 {
-    let answer = v.answer;
-    plain(answer)
-}
-
-fn listed(l: Listed) -> u64 {
-    let answer = l.answer;
-    plain(answer)
-}
-
-fn floored(f: Floored) -> u64 {
-    let answer = f.answer;
-    plain(answer)
-}
-
-// The code of a refusal.
-fn told(twin: Twin) -> u64 {
-    twin.number() / 4096
+// The code of an answer, 0 where the call is done.
+pub fn code<T: Copy>(outcome: Result<T, Refusal>) -> u64 {
+    match outcome {
+        Ok(_) => 0,
+        Err(refusal) => u64::from(refusal.code()),
+    }
 }

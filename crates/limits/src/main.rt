@@ -4,172 +4,36 @@
 #![tactic(auto)]
 
 mod calls;
+mod sizes;
 mod unit_matrix;
 
-use calls::Call;
+use calls::{CALLS, Call};
+use std::fmt;
 
-fn main() {
-    lblt();
-    lists();
-    cholesky();
-    teaching(Call::CholeskyTeaching);
-    order(Call::UduFactor);
-    twins();
-    packed_triangles();
+fn main(rt: HostRuntime) {
+    for call in CALLS {
+        for limit in call.limits() {
+            let accepted = call.code(limit.accepted());
+            let refused = call.code(limit.refused());
+            line(&rt, call, limit.size, limit.most, accepted, refused);
+        }
+        if call == Call::CholeskyTeaching {
+            let accepted = unit_matrix::code(&mut [0.0; 4096], 64);
+            let refused = unit_matrix::code(&mut [0.0; 4225], 65);
+            line(&rt, call, "unit matrix of order", 64, accepted, refused);
+        }
+    }
 }
 
-fn lblt() {
-    order(Call::LbltFactor);
-    order(Call::LbltSolve);
-    columns(Call::LbltSolve);
-    order(Call::LbltSolveBench);
-    columns(Call::LbltSolveBench);
-    tray(Call::LbltTray);
-    order(Call::LbltDeterminant);
-    order(Call::LbltD);
-    order(Call::LbltLPermuted);
-}
-
-fn tray(call: Call) {
-    line(
-        call,
-        b", order",
-        64,
-        call.code(1024, 0, 64, 1),
-        call.code(1024, 0, 65, 1),
-    );
-    line(
-        call,
-        b", count",
-        1024,
-        call.code(1024, 0, 1, 1024),
-        call.code(1024, 0, 1, 1025),
-    );
-}
-
-fn lists() {
-    order(Call::PivotsFromLapack);
-    order(Call::PivotsToLapack);
-}
-
-fn cholesky() {
-    room(Call::CholeskyFactor);
-    order(Call::CholeskyFactor);
-    room(Call::CholeskyExtend);
-    order(Call::CholeskyExtend);
-    earlier_order(Call::CholeskyExtend);
-    room(Call::CholeskyFactorFloored);
-    order(Call::CholeskyFactorFloored);
-    room(Call::CholeskyExtendFloored);
-    order(Call::CholeskyExtendFloored);
-    earlier_order(Call::CholeskyExtendFloored);
-    room(Call::CholeskySolve);
-    order(Call::CholeskySolve);
-    columns(Call::CholeskySolve);
-    room(Call::CholeskyL);
-    order(Call::CholeskyL);
-    room(Call::CholeskyUnpack);
-    order(Call::CholeskyUnpack);
-    room(Call::CholeskyDeterminant);
-    order(Call::CholeskyDeterminant);
-}
-
-// In a room of 1,024 or for order 64 as above; and with whole matrices.
-fn teaching(call: Call) {
-    line(
-        call,
-        b", room",
-        1024,
-        call.code(1024, 0, 64, 1),
-        call.code(1025, 0, 64, 1),
-    );
-    line(
-        call,
-        b", order",
-        64,
-        call.code(1024, 0, 64, 1),
-        call.code(1024, 0, 65, 1),
-    );
-    line(
-        call,
-        b", unit matrix of order",
-        64,
-        unit_matrix::of_order_64(),
-        unit_matrix::of_order_65(),
-    );
-}
-
-fn twins() {
-    room(Call::FirstTwin);
-    order(Call::FirstTwin);
-    room(Call::FirstTwinSince);
-    order(Call::FirstTwinSince);
-    earlier_order(Call::FirstTwinSince);
-}
-
-fn packed_triangles() {
-    order(Call::PackedLbltFactor);
-    order(Call::PackedLbltSolve);
-    columns(Call::PackedLbltSolve);
-    order(Call::PackedLbltDeterminant);
-    order(Call::PackedCholeskyFactor);
-    order(Call::PackedCholeskyExtend);
-    earlier_order(Call::PackedCholeskyExtend);
-    order(Call::PackedCholeskySolve);
-    columns(Call::PackedCholeskySolve);
-    order(Call::PackedFirstTwin);
-}
-
-fn room(call: Call) {
-    line(
-        call,
-        b", room",
-        1024,
-        call.code(1024, 0, 0, 1),
-        call.code(1025, 0, 0, 1),
-    );
-}
-
-fn order(call: Call) {
-    line(
-        call,
-        b", order",
-        1024,
-        call.code(1024, 0, 1024, 1),
-        call.code(1024, 0, 1025, 1),
-    );
-}
-
-fn earlier_order(call: Call) {
-    line(
-        call,
-        b", earlier order",
-        1024,
-        call.code(1024, 1024, 1024, 1),
-        call.code(1024, 1025, 1024, 1),
-    );
-}
-
-fn columns(call: Call) {
-    line(
-        call,
-        b", columns",
-        1024,
-        call.code(1, 0, 1, 1024),
-        call.code(1, 0, 1, 1025),
-    );
-}
-
-fn line(call: Call, what: &[u8], most: u64, accepted: u64, refused: u64) {
-    call.print_name();
-    io::write_all(1, what);
-    io::write_all(1, b": ");
-    io::print_decimal(1, most);
-    io::write_all(1, b" gives ");
-    io::print_decimal(1, accepted);
-    io::write_all(1, b", ");
-    io::print_decimal(1, std::num::wrapping_add_u64(most, 1));
-    io::write_all(1, b" gives ");
-    io::print_decimal(1, refused);
-    io::write_all(1, b"\n");
+// A line that cannot be written is left out.
+fn line<R: Print, D: fmt::Display + Drop>(
+    rt: &R,
+    call: Call,
+    what: D,
+    most: usize,
+    accepted: u64,
+    refused: u64,
+) {
+    let more = most.wrapping_add(1);
+    let _ = println!(rt; "{call}, {what}: {most} gives {accepted}, {more} gives {refused}");
 }

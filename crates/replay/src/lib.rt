@@ -2,41 +2,44 @@
 #![tactic(auto)]
 
 mod calls;
+mod digest;
 mod handheld_calls;
-mod list;
-mod lists;
+mod instructions;
 mod machine;
-mod packed_calls;
+mod outcome;
 mod registers;
 mod repeat;
-mod report;
-mod state;
 mod sweep;
-mod tray_calls;
+mod tally;
+mod words;
 
-use state::State;
+use machine::Machine;
+use registers::{Register, Registers};
 
 // The most blocks of a list.
 const BLOCKS: usize = 65536;
 
 // Replays the list that is standard input. Prints each word that differs, and how much ran.
-pub fn run() {
-    let mut block = io::large_buffer();
+pub fn run<R: Print>(rt: &R) {
     let mut a = [0.0; 4096];
     let mut b = [0.0; 4096];
     let mut c = [0.0; 4096];
     let mut r = [0u32; 4096];
-    report::summary(blocks(&mut block, &mut a, &mut b, &mut c, &mut r));
-}
-
-fn blocks(block: &mut [u8], a: &mut [f64], b: &mut [f64], c: &mut [f64], r: &mut [u32]) -> State {
-    let mut s = State::new();
+    let registers = Registers {
+        a: Register::new(&mut a),
+        b: Register::new(&mut b),
+        c: Register::new(&mut c),
+        r: Register::new(&mut r),
+    };
+    let mut machine = Machine::new(rt, registers);
+    let mut block = io::large_buffer();
     for _ in 0..BLOCKS {
-        let n = io::read_full(0, block);
+        // `Read` of std fills a slice or fails, and the last block is shorter.
+        let n = io::read_full(0, &mut block);
         if n == 0 {
-            return s;
+            break;
         }
-        s = machine::block(s, &block[..n], a, b, c, r);
+        machine.block(&block[..n]);
     }
-    s
+    machine.finish();
 }

@@ -1,111 +1,137 @@
-// The registers' words, and the parts that are in use.
-ghost use Rattle.std.specs.Prelude.{◌<◌};
+// The four registers.
+use crate::digest::Digest;
+use crate::words::{Word, word_at};
 
-use crate::state::{A, B, C};
+// Fixed memory, of whose numbers the first `held` are in use. A list may ask for more than there is room for: those past the end read as 0.
+#[derive(Drop)]
+pub struct Register<'a, T> {
+    numbers: &'a mut [T],
+    held: usize,
+}
 
-// Word i of a register, 0 past its end.
-pub fn get(which: u64, i: usize, a: &[f64], b: &[f64], c: &[f64], r: &[u32]) -> u64 {
-    match which {
-        A => bits(a, i),
-        B => bits(b, i),
-        C => bits(c, i),
-        _ => word(r, i),
+impl<'a, T: Word> Register<'a, T> {
+    pub fn new(numbers: &'a mut [T]) -> Register<'a, T> {
+        Register { numbers, held: 0 }
+    }
+
+    pub fn held(&self) -> usize {
+        self.held
+    }
+
+    // Those in use.
+    pub fn used(&mut self) -> &mut [T] {
+        let held = self.held.min(self.numbers.len());
+        &mut self.numbers[..held]
+    }
+
+    // Word i, 0 past the end.
+    pub fn word(&self, i: usize) -> u64 {
+        word_at(self.numbers, i)
+    }
+
+    // Holds `count` words.
+    pub fn load<F: FnMut(usize) -> u64>(&mut self, count: usize, mut word: F)
+        requires { F.IsAlwaysCallable word }
+    {
+        for (i, number) in self.numbers.iter_mut().enumerate().take(count) {
+            *number = T::of(word(i));
+        }
+        self.held = count;
+    }
+
+    // Holds these words.
+    pub fn hold(&mut self, words: &[u64]) {
+        for (number, word) in self.numbers.iter_mut().zip(words) {
+            *number = T::of(*word);
+        }
+        self.held = words.len();
+    }
+
+    // How many are held, and they, go into a digest.
+    fn add_to(&self, digest: &mut Digest) {
+        digest.add(self.held as u64);
+        for i in 0..self.held {
+            digest.add(self.word(i));
+        }
     }
 }
 
-fn word(x: &[u32], i: usize) -> u64 {
-    if i < x.len() {
-        return wide(x[i]);
-    }
-    0
-}
-
-pub fn bits(x: &[f64], i: usize) -> u64 {
-    if i < x.len() {
-        return leaf::to_bits(x[i]);
-    }
-    0
-}
-
-pub fn wide(x: u32) -> u64
-    ensures { result < 4294967296 }
-{
-    x as u64
-}
-
-// Entry i of a register becomes the number of a word, if there is such an entry.
-pub fn put(
-    which: u64,
-    i: usize,
-    w: u64,
-    a: &mut [f64],
-    b: &mut [f64],
-    c: &mut [f64],
-    r: &mut [u32],
-) {
-    match which {
-        A => put_bits(a, i, w),
-        B => put_bits(b, i, w),
-        C => put_bits(c, i, w),
-        _ => put_word(r, i, low(w)),
+impl Register<'_, f64> {
+    // Adds a number to entry i + i·stride for i below `count`.
+    pub fn shift(&mut self, count: usize, stride: usize, by: f64) {
+        let step = stride.wrapping_add(1);
+        for i in 0..count {
+            if let Some(number) = self.numbers.get_mut(i.wrapping_mul(step)) {
+                *number += by;
+            }
+        }
     }
 }
 
-// A word's low half.
-pub fn low(w: u64) -> u32 {
-    (w % 0x1_0000_0000) as u32
+#[derive(Clone, Copy, Debug, PartialEq, Eq)]
+pub enum Name {
+    A,
+    B,
+    C,
+    R,
 }
 
-pub fn put_bits(x: &mut [f64], i: usize, w: u64) {
-    if i < x.len() {
-        x[i] = leaf::from_bits(w);
+// Every number from 3 on is R's.
+impl From<u64> for Name {
+    fn from(number: u64) -> Name {
+        match number {
+            0 => Name::A,
+            1 => Name::B,
+            2 => Name::C,
+            _ => Name::R,
+        }
     }
 }
 
-pub fn put_word(x: &mut [u32], i: usize, w: u32) {
-    if i < x.len() {
-        x[i] = w;
+#[derive(Drop)]
+pub struct Registers<'a> {
+    pub a: Register<'a, f64>,
+    pub b: Register<'a, f64>,
+    pub c: Register<'a, f64>,
+    pub r: Register<'a, u32>,
+}
+
+impl Registers<'_> {
+    pub fn held(&self, name: Name) -> usize {
+        match name {
+            Name::A => self.a.held(),
+            Name::B => self.b.held(),
+            Name::C => self.c.held(),
+            Name::R => self.r.held(),
+        }
     }
-}
 
-// The first `held` numbers.
-pub fn part(x: &mut [f64], held: usize) -> &mut [f64] {
-    if held <= x.len() {
-        return &mut x[0..held];
+    pub fn word(&self, name: Name, i: usize) -> u64 {
+        match name {
+            Name::A => self.a.word(i),
+            Name::B => self.b.word(i),
+            Name::C => self.c.word(i),
+            Name::R => self.r.word(i),
+        }
     }
-    x
-}
 
-pub fn part_words(x: &mut [u32], held: usize) -> &mut [u32] {
-    if held <= x.len() {
-        return &mut x[0..held];
+    pub fn load<F: FnMut(usize) -> u64>(&mut self, name: Name, count: usize, word: F)
+        requires { F.IsAlwaysCallable word }
+    {
+        match name {
+            Name::A => self.a.load(count, word),
+            Name::B => self.b.load(count, word),
+            Name::C => self.c.load(count, word),
+            Name::R => self.r.load(count, word),
+        }
     }
-    x
-}
 
-// The low half of word i.
-pub fn half(x: &[f64], i: usize) -> u32 {
-    low(bits(x, i))
-}
-
-// The low halves of the first `count` words.
-pub fn halves(x: &[f64], count: usize, out: &mut [u32]) {
-    for i in 0..count {
-        put_word(out, i, half(x, i));
-    }
-}
-
-// Adds a number to entry i + i·stride for i below `count`.
-pub fn shift(x: &mut [f64], count: usize, stride: usize, by: f64) {
-    let mut at: usize = 0;
-    for _ in 0..count {
-        add(x, at, by);
-        at = std::num::wrapping_add_usize(at, std::num::wrapping_add_usize(stride, 1));
-    }
-}
-
-fn add(x: &mut [f64], at: usize, by: f64) {
-    if at < x.len() {
-        x[at] = x[at] + by;
+    pub fn add_to(&self, name: Name, digest: &mut Digest) {
+        match name {
+            Name::A => self.a.add_to(digest),
+            Name::B => self.b.add_to(digest),
+            Name::C => self.c.add_to(digest),
+            Name::R => self.r.add_to(digest),
+        }
     }
 }

@@ -1,10 +1,9 @@
 // REPEAT and PLACES: a matrix in which a row came twice, and one entry is changed.
-use crate::calls::of_twins;
-use crate::list::{DIGEST_START, size, step, word};
-use crate::registers::{part, put_bits};
-use crate::state::{A, State};
-
-const FIRST_TWIN_SINCE: u64 = 12;
+use crate::calls::{Call, Sizes};
+use crate::digest::Digest;
+use crate::machine::Machine;
+use crate::tally::Subject;
+use crate::words::Words;
 
 // A matrix of order n in a room, whose entries follow from their places.
 #[derive(Clone, Copy)]
@@ -32,23 +31,23 @@ struct Spot {
 
 impl Pattern {
     // The pattern that begins a payload.
-    fn of(list: &[u8]) -> Pattern {
+    fn of(payload: Words<'_>) -> Pattern {
         Pattern {
-            n: size(word(list, 0)),
-            room: size(word(list, 1)),
-            base: word(list, 2),
-            kept: word(list, 3),
-            rest: word(list, 4),
-            mask: word(list, 5),
+            n: payload.size_at(0),
+            room: payload.size_at(1),
+            base: payload.at(2),
+            kept: payload.at(3),
+            rest: payload.at(4),
+            mask: payload.at(5),
         }
     }
 
-    // Number `at` of the register.
+    // Number `at` of the register. A room of 0 is all row 0 and column 0.
     fn word(self, spot: Spot, at: usize) -> u64 {
-        let i = remainder(at, self.room);
-        let j = quotient(at, self.room);
+        let i = at.checked_rem(self.room).unwrap_or(0);
+        let j = at.checked_div(self.room).unwrap_or(0);
         if i < j || self.n <= i {
-            return std::num::wrapping_add_u64(self.rest, at as u64);
+            return self.rest.wrapping_add(at as u64);
         }
         if spot.changes(i, j) {
             return self.entry(spot, i, j) ^ self.mask;
@@ -58,7 +57,7 @@ impl Pattern {
 
     fn entry(self, spot: Spot, i: usize, j: usize) -> u64 {
         let number = number_of(spot.source(i), spot.source(j));
-        std::num::wrapping_add_u64(self.base, number & self.kept)
+        self.base.wrapping_add(number & self.kept)
     }
 
     // The spot is a pair of rows, or one row, and a place of the matrix.
@@ -69,12 +68,22 @@ impl Pattern {
 
 impl Spot {
     // The spot that stands after a pattern.
-    fn of(list: &[u8]) -> Spot {
+    fn of(payload: Words<'_>) -> Spot {
         Spot {
-            p: size(word(list, 6)),
-            q: size(word(list, 7)),
-            i: size(word(list, 8)),
-            j: size(word(list, 9)),
+            p: payload.size_at(6),
+            q: payload.size_at(7),
+            i: payload.size_at(8),
+            j: payload.size_at(9),
+        }
+    }
+
+    // The digits of t to the base 8.
+    fn of_digits(t: usize) -> Spot {
+        Spot {
+            p: t % 8,
+            q: t / 8 % 8,
+            i: t / 64 % 8,
+            j: t / 512 % 8,
         }
     }
 
@@ -93,92 +102,45 @@ impl Spot {
 
 // An entry's number, the same for (i, j) and (j, i).
 fn number_of(i: usize, j: usize) -> u64 {
-    if j <= i {
-        return ((i as u64) << 6) ^ (j as u64);
+    ((i.max(j) as u64) << 6) ^ (i.min(j) as u64)
+}
+
+impl<R: Print> Machine<'_, R> {
+    // REPEAT: register A holds a matrix.
+    pub fn repeat(&mut self, count: usize, payload: Words<'_>) {
+        self.lay(Pattern::of(payload), Spot::of(payload), count);
     }
-    ((j as u64) << 6) ^ (i as u64)
-}
 
-// 0 where nothing can be divided.
-fn remainder(x: usize, by: usize) -> usize {
-    if by == 0 {
-        return 0;
+    // PLACES: every row again as itself and as every later row, and each time every entry changed; one digest of all answers.
+    pub fn places(&mut self, count: usize, payload: Words<'_>) {
+        let pattern = Pattern::of(payload);
+        let mut digest = Digest::new();
+        for t in 0..4096 {
+            let spot = Spot::of_digits(t);
+            if pattern.has(spot) {
+                self.lay(pattern, spot, count);
+                self.tally.one_case();
+                self.all_earlier(pattern, &mut digest);
+            }
+        }
+        self.hold(Subject::Places(payload.at(0)), digest.word(), payload.at(6));
     }
-    x % by
-}
 
-fn quotient(x: usize, by: usize) -> usize {
-    if by == 0 {
-        return 0;
+    fn lay(&mut self, pattern: Pattern, spot: Spot, count: usize) {
+        self.registers.a.load(count, |at| pattern.word(spot, at));
     }
-    x / by
-}
 
-// The first `count` numbers of register A.
-fn lay(given: Pattern, spot: Spot, count: usize, a: &mut [f64]) {
-    for at in 0..count {
-        put_bits(a, at, given.word(spot, at));
+    // The answers since every earlier order up to 8.
+    fn all_earlier(&mut self, pattern: Pattern, digest: &mut Digest) {
+        for earlier in 0..=pattern.n.min(8) {
+            let sizes = Sizes {
+                n: pattern.n,
+                x: pattern.room,
+                y: earlier,
+            };
+            let found = self.registers.call(Call::FirstTwinSince, sizes);
+            self.tally.one_call();
+            digest.add(found.answer);
+        }
     }
-}
-
-// REPEAT: register A holds a matrix.
-pub fn repeat(s: State, count: usize, list: &[u8], a: &mut [f64]) -> State {
-    lay(Pattern::of(list), Spot::of(list), count, a);
-    s.holding(A, count)
-}
-
-// PLACES: every row again as itself and as every later row, and each time every entry changed; one digest of all answers.
-pub fn places(s: State, count: usize, list: &[u8], a: &mut [f64]) -> State {
-    let mut s = s;
-    s.digest = DIGEST_START;
-    same_digest(all_spots(s, Pattern::of(list), count, a), list)
-}
-
-fn same_digest(s: State, list: &[u8]) -> State {
-    s.hold(b"places at order ", word(list, 0), s.digest, word(list, 6))
-}
-
-fn all_spots(s: State, given: Pattern, count: usize, a: &mut [f64]) -> State {
-    let mut s = s;
-    for t in 0..4096 {
-        s = at_spot(s, given, spot_of(t), count, a);
-    }
-    s
-}
-
-// The digits of t to the base 8.
-fn spot_of(t: usize) -> Spot {
-    Spot {
-        p: t % 8,
-        q: t / 8 % 8,
-        i: t / 64 % 8,
-        j: t / 512 % 8,
-    }
-}
-
-fn at_spot(s: State, given: Pattern, spot: Spot, count: usize, a: &mut [f64]) -> State {
-    if !given.has(spot) {
-        return s;
-    }
-    lay(given, spot, count, a);
-    let t = s.one_case();
-    all_earlier(t.holding(A, count), given.n, given.room, a)
-}
-
-fn all_earlier(s: State, n: usize, room: usize, a: &mut [f64]) -> State {
-    let mut s = s;
-    for earlier in 0..9 {
-        s = since(s, n, room, earlier, a);
-    }
-    s
-}
-
-fn since(s: State, n: usize, room: usize, earlier: usize, a: &mut [f64]) -> State {
-    if n < earlier {
-        return s;
-    }
-    let found = of_twins(FIRST_TWIN_SINCE, n, room, earlier, part(a, s.a));
-    let mut t = s.one_call();
-    t.digest = step(t.digest ^ found.answer);
-    t
 }

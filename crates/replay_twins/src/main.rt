@@ -1,6 +1,6 @@
 // Replays the stored list of twins.
 #![tactic(auto)]
 
-fn main() {
-    replay::run();
+fn main(rt: HostRuntime) {
+    replay::run(&rt);
 }
