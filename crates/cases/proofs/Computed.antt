@@ -24,8 +24,8 @@ use Rattle.lblt.specs.Step.{stepped, step, take, first_mark}
 use Rattle.lblt_pivot.specs.Update.{rank1_at, rank1, scale_at, eliminate1, update1, block_by, block_at, multiplier, work1, work2, rank2_at, rank2_by, rank2, update2}
 use Rattle.pivots.specs.Blocks.{by_size, rows_of, blocks_from, forwards, blocks_to, backwards}
 use Rattle.matrix.specs.Columns.{each_column, each_chosen, at_chosen, at_column, column}
-use Rattle.substitution_one.specs.Steps.{less_one, less_two, eliminate_one, eliminate_two, divide_one, less_product, gather_row}
-use Rattle.lblt_solve_one.specs.Column.{swap_rows, forward_block, block_determinant, divide_two, divide_block, backward_block, solve_column}
+use Rattle.substitution.specs.Steps.{less_one, less_two, eliminate_one, eliminate_two, divide_one, less_product, gather_row}
+use Rattle.lblt_solve_columns.specs.Column.{swap_rows, forward_block, block_determinant, divide_two, divide_block, backward_block, solve_column}
 use Rattle.lblt_read.specs.Diagonal.{times_block, determinant_of}
 use Rattle.cholesky.specs.Crate.{answer_to}
 use Rattle.cholesky.specs.Column.{updated}
@@ -34,7 +34,7 @@ use Rattle.cholesky.specs.Floor.{standing}
 use Rattle.cholesky.specs.Used.{used_at, used_from}
 use Rattle.cholesky.specs.Floored.{used_on}
 use Rattle.cholesky.specs.Solve.{solve_sides}
-use Rattle.cholesky_solve_one.specs.Triangles.{solve_triangles}
+use Rattle.cholesky_solve.specs.Triangles.{solve_triangles}
 use Rattle.teaching.specs.Promise.{reached}
 use Rattle.udu.specs.Columns.{udu_diagonal, udu_entry, with_diagonal, with_column, nothing}
 use Rattle.udu.specs.Promise.{udu_of}

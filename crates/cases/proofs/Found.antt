@@ -25,7 +25,7 @@ use Rattle.lblt_choice.specs.Choice.{column_max}
 use Rattle.lblt.specs.Factor.{factor_tests, final_state, recorded, Factored}
 use Rattle.lblt.proofs.Done.{Same}
 use Rattle.matrix.specs.Columns.{each_column, each_chosen}
-use Rattle.lblt_solve_one.specs.Column.{solve_column}
+use Rattle.lblt_solve_columns.specs.Column.{solve_column}
 use Rattle.lblt_read.specs.Diagonal.{determinant_of}
 use Rattle.lblt_read.specs.Calls.{reader_tests, column_tests, LbltDetermined}
 use Rattle.lblt_solve.specs.Solve.{mark_tests, solve_tests, LbltSolved}

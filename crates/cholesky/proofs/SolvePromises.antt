@@ -21,8 +21,8 @@ use Rattle.matrix.specs.Sizes.{size_tests, Fits}
 use Rattle.matrix.proofs.Sizes.{fits_then}
 use Rattle.matrix.specs.Columns.{column, each_column}
 use Rattle.matrix.proofs.Columns.{each_column_law}
-use Rattle.cholesky_solve_one.specs.Triangles.{solve_triangles}
-use Rattle.cholesky_solve_one.proofs.Keeps.{triangles_keeps}
+use Rattle.cholesky_solve.specs.Triangles.{solve_triangles}
+use Rattle.cholesky_solve.proofs.Keeps.{triangles_keeps}
 use Rattle.cholesky.specs.Solve.{sides_tests, solve_sides, CholeskySolved}
 
 module _ (y : Layout) (columns : ℕ) where

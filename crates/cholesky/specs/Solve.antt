@@ -8,7 +8,7 @@ use Rattle.matrix.specs.Columns.{each_column}
 use Rattle.matrix.specs.Grid.{Grid, load}
 use Rattle.matrix.specs.Layouts.{lower}
 use Rattle.matrix.specs.Sizes.{size_tests}
-use Rattle.cholesky_solve_one.specs.Triangles.{solve_triangles}
+use Rattle.cholesky_solve.specs.Triangles.{solve_triangles}
 
 -- codes 1 to 4, by the lengths of the factor and of the right-hand sides
 abbrev pub sides_tests : Layout → ℕ → ℕ → ℕ → List Test

@@ -77,7 +77,7 @@ pub fn solve_on(y: Layout, a: &[f64], b: &mut [f64], columns: usize) -> Answer
     if b.len() != y.order * columns {
         return Err(Refusal::SliceLength);
     }
-    cholesky_solve_one::solve_sides(y, a, b, columns);
+    cholesky_solve::solve_sides(y, a, b, columns);
     Ok(())
 }
 

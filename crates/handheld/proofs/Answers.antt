@@ -9,7 +9,7 @@ use Rattle.matrix.specs.Columns.{column, at_column, each_column}
 use Rattle.matrix.specs.Sizes.{Fits}
 use Rattle.matrix.proofs.Sizes.{full_fits, fits_pass}
 use Rattle.pivots.specs.Rule.{checked, Accepted}
-use Rattle.lblt_solve_one.specs.Column.{solve_column}
+use Rattle.lblt_solve_columns.specs.Column.{solve_column}
 use Rattle.lblt_read.specs.Calls.{word_tests, side_tests, column_tests}
 use Rattle.lblt_read.proofs.Admitted.{record_broken, record_expected, sides_right, columns_answers}
 use Rattle.lblt_solve.specs.Solve.{mark_tests, solve_tests}

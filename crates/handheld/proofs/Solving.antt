@@ -9,8 +9,8 @@ use Rattle.matrix.specs.Loop.{for, turns}
 use Rattle.matrix.specs.Grid.{load}
 use Rattle.matrix.specs.Layouts.{lower}
 use Rattle.pivots.specs.Blocks.{by_size, rows_of, blocks_from, forwards, blocks_to, backwards}
-use Rattle.substitution_one.specs.Steps.{less_one, less_two, eliminate_one, eliminate_two, divide_one, less_product, gather_row}
-use Rattle.lblt_solve_one.specs.Column.{swap_rows, forward_block, block_determinant, divide_two, divide_block, backward_block, solve_column}
+use Rattle.substitution.specs.Steps.{less_one, less_two, eliminate_one, eliminate_two, divide_one, less_product, gather_row}
+use Rattle.lblt_solve_columns.specs.Column.{swap_rows, forward_block, block_determinant, divide_two, divide_block, backward_block, solve_column}
 use Rattle.handheld.specs.declared.Triangle.{Triangle}
 use Rattle.handheld.specs.declared.numbers.Three.{Three}
 use Rattle.handheld.specs.inner.Numbers.{three_of}

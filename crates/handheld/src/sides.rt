@@ -1,7 +1,7 @@
 // The solve of one side, written out for each way in which three rows fall into blocks.
 ghost use Rattle.std.specs.Prelude.{◌≡◌, ℕ, ◌<◌};
 ghost use Rattle.pivots.specs.Rule.{Accepted};
-ghost use Rattle.lblt_solve_one.specs.Column.{swap_rows, solve_column};
+ghost use Rattle.lblt_solve_columns.specs.Column.{swap_rows, solve_column};
 ghost use Rattle.handheld.specs.Shapes.{record_of};
 ghost use Rattle.handheld.specs.inner.Numbers.{three_of};
 ghost use Rattle.handheld.specs.inner.Triangle.{matrix_of};

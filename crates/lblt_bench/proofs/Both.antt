@@ -9,8 +9,8 @@ use Rattle.matrix.specs.Columns.{column, each_column, each_chosen}
 use Rattle.matrix.proofs.Columns.{each_column_law, each_long, chosen_long, columns_same}
 use Rattle.matrix.proofs.ColumnsLoops.{Keeping}
 use Rattle.lblt_read.proofs.Admitted.{Columned}
-use Rattle.lblt_solve_one.specs.Column.{solve_column}
-use Rattle.lblt_solve_one.proofs.Keeps.{solve_keeps}
+use Rattle.lblt_solve_columns.specs.Column.{solve_column}
+use Rattle.lblt_solve_columns.proofs.Keeps.{solve_keeps}
 use Rattle.lblt_solve.specs.Solve.{LbltSolved}
 use Rattle.lblt_bench.specs.Bench.{owns, BenchSolved}
 use Rattle.lblt_bench.proofs.Listed.{bench_admitted, as_solve}

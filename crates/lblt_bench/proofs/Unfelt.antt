@@ -11,8 +11,8 @@ use Rattle.matrix.specs.Grid.{load}
 use Rattle.matrix.specs.Layouts.{lower}
 use Rattle.matrix.specs.Columns.{column}
 use Rattle.matrix.proofs.Columns.{chosen_column}
-use Rattle.lblt_solve_one.specs.Column.{solve_column}
-use Rattle.lblt_solve_one.proofs.Keeps.{solve_keeps}
+use Rattle.lblt_solve_columns.specs.Column.{solve_column}
+use Rattle.lblt_solve_columns.proofs.Keeps.{solve_keeps}
 use Rattle.lblt_solve.specs.Solve.{LbltSolved}
 use Rattle.lblt_solve.proofs.ColumnAlone.{lblt_column_solved}
 use Rattle.lblt_bench.specs.Bench.{owns, BenchSolved}

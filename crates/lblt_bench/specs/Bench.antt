@@ -7,7 +7,7 @@ use Rattle.matrix.specs.declared.Layout.{Layout}
 use Rattle.matrix.specs.Grid.{load}
 use Rattle.matrix.specs.Layouts.{lower}
 use Rattle.matrix.specs.Columns.{each_chosen}
-use Rattle.lblt_solve_one.specs.Column.{solve_column}
+use Rattle.lblt_solve_columns.specs.Column.{solve_column}
 use Rattle.lblt_read.specs.Calls.{side_tests, word_tests}
 use Rattle.lblt_solve.specs.Solve.{mark_tests}
 

@@ -4,13 +4,13 @@ ghost use Rattle.matrix.specs.Grid.{load};
 ghost use Rattle.matrix.specs.Layouts.{lower};
 ghost use Rattle.matrix.specs.Loop.{for};
 ghost use Rattle.matrix.specs.Columns.{at_column, each_chosen, Lined};
-ghost use Rattle.lblt_solve_one.specs.Column.{solve_column};
-ghost use Rattle.lblt_solve_one.specs.inner.Engine.{Readable};
+ghost use Rattle.lblt_solve_columns.specs.Column.{solve_column};
+ghost use Rattle.lblt_solve_columns.specs.inner.Engine.{Readable};
 ghost use Rattle.lblt_bench.specs.Bench.{owns};
 ghost use Rattle.lblt_bench.specs.inner.Stretch.{Stretch, first_other, Gone};
 
 use lblt_solve::sides::together;
-use lblt_solve_one::solve_at;
+use lblt_solve_columns::solve_at;
 use matrix::Layout;
 
 // Where the first of these numbers stands that is another.

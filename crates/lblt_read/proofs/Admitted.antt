@@ -17,7 +17,7 @@ use Rattle.matrix.specs.Sizes.{size_tests, Fits}
 use Rattle.matrix.proofs.Sizes.{hold_fits, passed_fits, fits_then, done_fits, laid_fits}
 use Rattle.pivots.specs.Words.{words_of, run_at}
 use Rattle.pivots.specs.Rule.{record_tests, checked, Accepted}
-use Rattle.lblt_solve_one.specs.inner.Engine.{Readable}
+use Rattle.lblt_solve_columns.specs.inner.Engine.{Readable}
 use Rattle.lblt_read.specs.inner.Engine.{Squared}
 use Rattle.lblt_read.specs.Calls.{word_tests, reader_tests, side_tests, column_tests, LbltFilled}
 

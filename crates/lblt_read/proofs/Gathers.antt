@@ -24,7 +24,7 @@ use Rattle.strips.specs.declared.Source.{Source}
 use Rattle.strips.specs.inner.Strip.{row_at, Strip, Elsewhere, plus, axpy_of, Gathered}
 use Rattle.strips.proofs.Strips.{strip_holds}
 use Rattle.strips.proofs.Gathering.{gathered_none, gathered_axpy, gathered_then}
-use Rattle.substitution_one.proofs.Offsets.{offset_at}
+use Rattle.substitution.proofs.Offsets.{offset_at}
 use Rattle.lblt_read.specs.Permuted.{gather_product, gather_column}
 
 -- column i, and what it is multiplied by: a(i, k), where column k of a starts at `start`

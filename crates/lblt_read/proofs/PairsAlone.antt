@@ -6,7 +6,7 @@ use lib.Ieee.{Float}
 use Rattle.matrix.specs.Matrix.{Matrix}
 use Rattle.matrix.specs.Rounded.{◌⊗◌, one}
 use Rattle.pivots.proofs.SamePairs.{SamePairs, size_alike, forwards_alike}
-use Rattle.lblt_solve_one.specs.Column.{block_determinant}
+use Rattle.lblt_solve_columns.specs.Column.{block_determinant}
 use Rattle.lblt_read.specs.Diagonal.{times_block, determinant_of}
 
 pub determinant_alike : {n : ℕ} {words words' : List ℕ} → SamePairs n words words' → (A : Matrix) → determinant_of n A words ≡ determinant_of n A words'

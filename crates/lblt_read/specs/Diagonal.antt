@@ -5,7 +5,7 @@ use Rattle.matrix.specs.Grid.{mask}
 use Rattle.matrix.specs.Layouts.{square}
 use Rattle.matrix.specs.Rounded.{◌⊗◌, one}
 use Rattle.pivots.specs.Blocks.{by_size, forwards}
-use Rattle.lblt_solve_one.specs.Column.{block_determinant}
+use Rattle.lblt_solve_columns.specs.Column.{block_determinant}
 
 -- ---- the product of the blocks' determinants, from 1
 

@@ -3,9 +3,9 @@ ghost use Rattle.std.specs.Prelude.{◌≡◌, ◌+◌, ◌<◌};
 ghost use Rattle.matrix.specs.Grid.{load, Holds};
 ghost use Rattle.matrix.specs.Layouts.{lower, square, Fills, Laid};
 ghost use Rattle.pivots.specs.Blocks.{by_size, forwards};
-ghost use Rattle.lblt_solve_one.specs.Column.{block_determinant};
+ghost use Rattle.lblt_solve_columns.specs.Column.{block_determinant};
 ghost use Rattle.lblt_read.specs.Diagonal.{determinant_of, diagonal_two, diagonal_block, d_of};
-ghost use Rattle.lblt_solve_one.specs.inner.Engine.{Readable};
+ghost use Rattle.lblt_solve_columns.specs.inner.Engine.{Readable};
 ghost use Rattle.pivots.specs.inner.Block.{BlockAt};
 ghost use Rattle.lblt_read.specs.inner.Engine.{Squared};
 

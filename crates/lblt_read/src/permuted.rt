@@ -4,7 +4,7 @@ ghost use Rattle.matrix.specs.Grid.{load, Holds};
 ghost use Rattle.matrix.specs.Layouts.{lower, square, Fills, Laid};
 ghost use Rattle.pivots.specs.Blocks.{forwards};
 ghost use Rattle.lblt_read.specs.Permuted.{gather_column, permuted_block, l_permuted_of};
-ghost use Rattle.lblt_solve_one.specs.inner.Engine.{Readable};
+ghost use Rattle.lblt_solve_columns.specs.inner.Engine.{Readable};
 ghost use Rattle.pivots.specs.inner.Block.{BlockAt};
 ghost use Rattle.lblt_read.specs.inner.Engine.{Squared};
 

@@ -6,8 +6,8 @@ use Rattle.matrix.specs.Grid.{load}
 use Rattle.matrix.specs.Layouts.{lower}
 use Rattle.matrix.specs.Columns.{column}
 use Rattle.matrix.proofs.Columns.{each_column_law}
-use Rattle.lblt_solve_one.specs.Column.{solve_column}
-use Rattle.lblt_solve_one.proofs.Keeps.{solve_keeps}
+use Rattle.lblt_solve_columns.specs.Column.{solve_column}
+use Rattle.lblt_solve_columns.proofs.Keeps.{solve_keeps}
 use Rattle.lblt_solve.specs.Solve.{LbltSolved}
 use Rattle.lblt_solve.proofs.Marked.{solver_admitted}
 

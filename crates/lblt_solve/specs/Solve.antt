@@ -9,7 +9,7 @@ use Rattle.matrix.specs.Grid.{load}
 use Rattle.matrix.specs.Layouts.{lower}
 use Rattle.matrix.specs.Columns.{each_column}
 use Rattle.pivots.specs.Words.{mark_at}
-use Rattle.lblt_solve_one.specs.Column.{solve_column}
+use Rattle.lblt_solve_columns.specs.Column.{solve_column}
 use Rattle.lblt_read.specs.Calls.{column_tests}
 
 -- a zero mark refuses a solve alone, after all else

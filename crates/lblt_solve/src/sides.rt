@@ -3,10 +3,10 @@ ghost use Rattle.std.specs.Prelude.{◌≡◌};
 ghost use Rattle.matrix.specs.Grid.{load};
 ghost use Rattle.matrix.specs.Layouts.{lower};
 ghost use Rattle.matrix.specs.Columns.{each_column, Lined};
-ghost use Rattle.lblt_solve_one.specs.Column.{solve_column};
-ghost use Rattle.lblt_solve_one.specs.inner.Engine.{Readable};
+ghost use Rattle.lblt_solve_columns.specs.Column.{solve_column};
+ghost use Rattle.lblt_solve_columns.specs.inner.Engine.{Readable};
 
-use lblt_solve_one::{solve_columns, solve_fours};
+use lblt_solve_columns::{solve_columns, solve_fours};
 use lblt_solve_rows::solve_rows;
 use matrix::Layout;
 

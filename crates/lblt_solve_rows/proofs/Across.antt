@@ -7,9 +7,9 @@ use Rattle.matrix.specs.Grid.{load}
 use Rattle.matrix.specs.Layouts.{lower, start_of}
 use Rattle.matrix.specs.Loop.{for}
 use Rattle.matrix.proofs.Loops.{for_same}
-use Rattle.substitution_one.specs.Steps.{eliminate_one, eliminate_two, gather_row}
-use Rattle.substitution_one.proofs.Keeps.{eliminate_one_keeps, eliminate_two_keeps, gather_keeps}
-use Rattle.substitution_one.proofs.Offsets.{offset_at}
+use Rattle.substitution.specs.Steps.{eliminate_one, eliminate_two, gather_row}
+use Rattle.substitution.proofs.Keeps.{eliminate_one_keeps, eliminate_two_keeps, gather_keeps}
+use Rattle.substitution.proofs.Offsets.{offset_at}
 use Rattle.matrix.specs.Columns.{each_column}
 use Rattle.matrix.proofs.ColumnsLoops.{Keeping, rising, for_uniform, for_long}
 use Rattle.matrix.proofs.Columns.{each_same, each_loop}

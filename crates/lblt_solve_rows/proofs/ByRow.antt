@@ -9,7 +9,7 @@ use Rattle.matrix.specs.Rounded.{◌⊖◌, ◌⊗◌}
 use Rattle.matrix.specs.Matrix.{Matrix}
 use Rattle.matrix.specs.Loop.{turns, for}
 use Rattle.matrix.specs.Columns.{at}
-use Rattle.substitution_one.specs.Steps.{less_one, less_two, eliminate_one, eliminate_two, less_product, gather_row}
+use Rattle.substitution.specs.Steps.{less_one, less_two, eliminate_one, eliminate_two, less_product, gather_row}
 use Rattle.lblt_solve_rows.specs.inner.Rows.{less_row}
 
 pub less_keeps : (i k : ℕ) (x : Float) (l : List Float) → length (less_row i k x l) ≡ length l

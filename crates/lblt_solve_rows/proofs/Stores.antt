@@ -6,7 +6,7 @@ use Rattle.std.proofs.Common.{sym, ap, ◌∙◌, arith, take-append-drop, drop-
 use Rattle.std.proofs.Math.Seq.{take-set-le, drop-set-add, take-set-lt}
 use Rattle.matrix.specs.Rounded.{◌⊖◌, ◌⊗◌, ◌⊘◌}
 use Rattle.matrix.specs.Columns.{at, column, at_column}
-use Rattle.lblt_solve_one.specs.Column.{swap_rows}
+use Rattle.lblt_solve_columns.specs.Column.{swap_rows}
 use Rattle.lblt_solve_rows.specs.inner.Rows.{less_row}
 use Rattle.matrix.proofs.ColumnsLent.{number_at}
 

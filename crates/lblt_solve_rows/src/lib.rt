@@ -1,16 +1,16 @@
 // `solve_mut` row by row: a step is taken in all columns before the next one, for orders at which a column's own loops are short.
-#![tactic(auto, using(matrix::proofs::Columns::column_within, matrix::proofs::Turning::turning_none, matrix::proofs::Turning::turning_more, substitution_one::proofs::Offsets::offset_small, substitution_one::proofs::Offsets::offset_within))]
+#![tactic(auto, using(matrix::proofs::Columns::column_within, matrix::proofs::Turning::turning_none, matrix::proofs::Turning::turning_more, substitution::proofs::Offsets::offset_small, substitution::proofs::Offsets::offset_within))]
 
 ghost use Rattle.std.specs.Prelude.{◌≡◌, ◌*◌, ◌<◌, length};
 ghost use Rattle.matrix.specs.Grid.{load};
 ghost use Rattle.matrix.specs.Layouts.{lower};
 ghost use Rattle.matrix.specs.Columns.{each_column, Lined};
-ghost use Rattle.lblt_solve_one.specs.Column.{solve_column};
-ghost use Rattle.lblt_solve_one.specs.inner.Engine.{Readable};
+ghost use Rattle.lblt_solve_columns.specs.Column.{solve_column};
+ghost use Rattle.lblt_solve_columns.specs.inner.Engine.{Readable};
 ghost use Rattle.lblt_solve_rows.specs.inner.Rows.{less_row};
 
-use lblt_solve_one::solve;
-use lblt_solve_one::steps::Steps;
+use lblt_solve_columns::solve;
+use lblt_solve_columns::steps::Steps;
 use matrix::Layout;
 
 // Row i less x times row k.

@@ -18,8 +18,8 @@ use Rattle.lblt.specs.Factor.{Factored}
 use Rattle.lblt.proofs.Accepted.{factor_accepted, factor_run}
 use Rattle.lblt_read.specs.Calls.{column_tests}
 use Rattle.lblt_read.proofs.Runs.{columns_expected}
-use Rattle.lblt_solve_one.specs.Column.{solve_column}
-use Rattle.lblt_solve_one.specs.inner.Engine.{Readable}
+use Rattle.lblt_solve_columns.specs.Column.{solve_column}
+use Rattle.lblt_solve_columns.specs.inner.Engine.{Readable}
 use Rattle.lblt_solve.proofs.Marked.{solve_answers, unmarked, marked}
 use Rattle.lblt_tray.specs.Tray.{ItemSolved}
 

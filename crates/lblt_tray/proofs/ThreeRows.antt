@@ -14,7 +14,7 @@ use Rattle.matrix.specs.Rounded.{plus_zero}
 use Rattle.lblt_choice.specs.Choice.{choose}
 use Rattle.lblt_choice.specs.declared.Choice.{Choice}
 use Rattle.lblt.specs.Factor.{Factored, final_state}
-use Rattle.lblt_solve_one.specs.Column.{solve_column}
+use Rattle.lblt_solve_columns.specs.Column.{solve_column}
 use Rattle.handheld.specs.declared.Triangle.{Triangle}
 use Rattle.handheld.specs.declared.numbers.Three.{Three}
 use Rattle.handheld.specs.declared.steps.Stepped.{Stepped}

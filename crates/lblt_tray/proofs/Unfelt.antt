@@ -22,7 +22,7 @@ use Rattle.matrix.proofs.ColumnsLent.{column_long}
 use Rattle.pivots.specs.Words.{words_of, mark_at}
 use Rattle.lblt.specs.Factor.{Factored}
 use Rattle.lblt.proofs.Overwritten.{factored_over}
-use Rattle.lblt_solve_one.specs.Column.{solve_column}
+use Rattle.lblt_solve_columns.specs.Column.{solve_column}
 use Rattle.lblt_solve.specs.Solve.{LbltSolved}
 use Rattle.lblt_solve.proofs.Once.{solved_once}
 use Rattle.lblt_tray.specs.Tray.{ItemSolved, ItemAt, matrix_at, record_at, side_at, number_at, EachSolved, TraySolved}

@@ -3,7 +3,7 @@ ghost use Rattle.lblt_tray.specs.Tray.{ItemSolved};
 ghost use Rattle.lblt_tray.specs.inner.Engine.{Item};
 
 use answer::Refusal;
-use lblt_solve_one::solve_column;
+use lblt_solve_columns::solve_column;
 use matrix::Layout;
 
 // The number of the solve's answer comes back.

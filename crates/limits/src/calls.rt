@@ -175,17 +175,13 @@ impl Call {
             Call::LbltDeterminant => code(lblt_read::determinant(&a, &record, n, 7)),
             Call::LbltD => code(lblt_read::d(&a, &record, &mut u, n, 7)),
             Call::LbltLPermuted => code(lblt_read::l_permuted(&a, &record, &mut u, n, 7)),
-            Call::PivotsFromLapack => code(pivots_lapack::from_lapack(
-                &list,
-                0,
-                &mut record,
-                n,
-                7,
-            )),
+            Call::PivotsFromLapack => code(pivots_lapack::from_lapack(&list, 0, &mut record, n, 7)),
             Call::PivotsToLapack => code(pivots_lapack::to_lapack(&record, &mut list, n)),
             Call::CholeskyFactor => code(cholesky::factor(&mut a, room, n)),
             Call::CholeskyExtend => code(cholesky::extend(&mut a, room, earlier, n)),
-            Call::CholeskyFactorFloored => code(cholesky::factor_floored(&mut a, room, n, 1.0).answer),
+            Call::CholeskyFactorFloored => code(
+                cholesky::factor_floored(&mut a, room, n, 1.0).answer,
+            ),
             Call::CholeskyExtendFloored => {
                 code(cholesky::extend_floored(&mut a, room, earlier, n, 1.0).answer)
             }

@@ -30,13 +30,13 @@ use Rattle.pivots.specs.Words.{words_of}
 use Rattle.lblt.specs.Factor.{final_state, recorded, Factored}
 use Rattle.lblt_read.specs.Calls.{word_tests, side_tests, column_tests, LbltDetermined}
 use Rattle.lblt_read.specs.Diagonal.{determinant_of}
-use Rattle.lblt_solve_one.specs.Column.{solve_column}
+use Rattle.lblt_solve_columns.specs.Column.{solve_column}
 use Rattle.lblt_solve.specs.Solve.{mark_tests, LbltSolved}
 use Rattle.cholesky.specs.Run.{factor_columns}
 use Rattle.cholesky.specs.Crate.{crate_rule}
 use Rattle.cholesky.specs.Promise.{Extended}
 use Rattle.cholesky.specs.Solve.{solve_sides, CholeskySolved}
-use Rattle.cholesky_solve_one.specs.Triangles.{solve_triangles}
+use Rattle.cholesky_solve.specs.Triangles.{solve_triangles}
 use Rattle.twins.specs.First.{Found, First, FirstTwinOn}
 use Rattle.twins.proofs.Exists.{some_first}
 use Rattle.twins.proofs.Unique.{first_unique}

@@ -5,7 +5,7 @@ use Rattle.matrix.specs.Grid.{load}
 use Rattle.matrix.specs.Layouts.{lower}
 use Rattle.matrix.specs.Columns.{at_chosen}
 use Rattle.matrix.proofs.Turning.{Turning}
-use Rattle.lblt_solve_one.specs.Column.{solve_column}
+use Rattle.lblt_solve_columns.specs.Column.{solve_column}
 use Rattle.lblt_bench.specs.Bench.{owns}
 use Rattle.lblt_bench.proofs.own.solve.Given as goal
 

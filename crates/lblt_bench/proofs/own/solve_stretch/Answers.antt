@@ -1,6 +1,6 @@
 -- `solve_stretch` lends its columns out of the slice.
 use Rattle.matrix.proofs.ColumnsLent.{group_within, group_put}
-use Rattle.lblt_solve_one.proofs.Keeps.{solve_keeps}
+use Rattle.lblt_solve_columns.proofs.Keeps.{solve_keeps}
 use Rattle.lblt_bench.proofs.own.solve_stretch.Goals as goal
 
 pub slice_bounds-together-end : goal.slice_bounds-together-end

@@ -1,5 +1,5 @@
 -- `block_determinant` is the determinant of a block of size 2.
-use Rattle.lblt_solve_one.specs.Column.{block_determinant}
+use Rattle.lblt_solve_columns.specs.Column.{block_determinant}
 use Rattle.lblt_read.proofs.diagonal.block_determinant.Goals as goal
 
 pub returns : goal.returns

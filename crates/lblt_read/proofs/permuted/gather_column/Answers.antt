@@ -1,6 +1,6 @@
 -- `gather_column` adds the later columns to column k, one after the other.
 use Rattle.std.proofs.Common.{arith}
-use Rattle.substitution_one.proofs.Offsets.{offset_small, offset_within}
+use Rattle.substitution.proofs.Offsets.{offset_small, offset_within}
 use Rattle.lblt_read.proofs.Gathers.{adding_none, adding_more, adding_all}
 use Rattle.lblt_read.proofs.permuted.gather_column.Goals as goal
 

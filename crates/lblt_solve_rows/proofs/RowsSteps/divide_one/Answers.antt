@@ -3,7 +3,7 @@ use Rattle.std.specs.Prelude.{Float}
 use Rattle.std.proofs.Common.{length-set, ap, ◌∙◌}
 use Rattle.matrix.specs.Columns.{each_column}
 use Rattle.matrix.proofs.Turning.{turning_more, turning_all}
-use Rattle.substitution_one.specs.Steps.{divide_one}
+use Rattle.substitution.specs.Steps.{divide_one}
 use Rattle.lblt_solve_rows.proofs.Stores.{divide_by, divide_at}
 use Rattle.lblt_solve_rows.proofs.RowsSteps.divide_one.Goals as goal
 

@@ -2,7 +2,7 @@
 use Rattle.std.proofs.Common.{length-set, refl, ◌∙◌}
 use Rattle.matrix.specs.Columns.{each_column}
 use Rattle.matrix.proofs.Turning.{turning_more, turning_all}
-use Rattle.lblt_solve_one.specs.Column.{divide_two, block_determinant}
+use Rattle.lblt_solve_columns.specs.Column.{divide_two, block_determinant}
 use Rattle.lblt_solve_rows.proofs.Stores.{divide_two_at}
 use Rattle.lblt_solve_rows.proofs.RowsSteps.divide_two.Goals as goal
 

@@ -2,7 +2,7 @@
 use Rattle.std.proofs.Common.{length-set}
 use Rattle.matrix.specs.Columns.{each_column}
 use Rattle.matrix.proofs.Turning.{turning_more, turning_all}
-use Rattle.lblt_solve_one.proofs.ColumnBlocks.{swapped_none}
+use Rattle.lblt_solve_columns.proofs.ColumnBlocks.{swapped_none}
 use Rattle.lblt_solve_rows.proofs.Stores.{swap_at}
 use Rattle.lblt_solve_rows.proofs.RowsSteps.swap_rows.Goals as goal
 

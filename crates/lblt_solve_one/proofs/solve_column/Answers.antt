@@ -1,7 +1,0 @@
--- `solve_column` solves a column by itself.
-use Rattle.std.proofs.Common.{◌∙◌}
-use Rattle.substitution_one.proofs.Instances.{one_each}
-use Rattle.lblt_solve_one.proofs.solve_column.Goals as goal
-
-pub returns : goal.returns
-returns c = c.solve.ensures ∙ one_each _ _ _ c.requires.sides.long
