@@ -1,20 +1,21 @@
 -- The factor call on a square of at most 64 rows is done, its determinant is taken, and the page shows both.
+use Rattle.std.specs.Prelude.{Result, Ok}
 use mathlib.Core.Path.{◌≡◌, sym, ap, ◌∙◌}
-use mathlib.Core.Bool.{Bool, true, cond}
+use mathlib.Core.Bool.{true}
 use mathlib.Core.List.{List}
 use Prim.Native.Nat.{ℕ}
 use native.Mathlib.Omega.{arith}
 use lib.Ieee.{Float, binary64, to_bits}
 use lib.ListN.{length}
-use Rattle.answer.specs.declared.Valued.{Valued}
 use Rattle.answer.specs.Answer.{Done, is_done}
+use Rattle.answer.specs.declared.Refusal.{Refusal}
 use Rattle.answer.specs.Refusals.{tested}
+use Rattle.answer.proofs.Tested.{tested_passed}
 use Rattle.matrix.specs.Matrix.{Matrix}
 use Rattle.matrix.specs.Grid.{load}
 use Rattle.matrix.specs.Layouts.{full, start_of, lower}
 use Rattle.matrix.proofs.Places.{lower_at}
 use Rattle.matrix.proofs.Sizes.{full_fits}
-use Rattle.matrix.specs.Rounded.{plus_zero}
 use Rattle.pivots.specs.Words.{run_at, Sized}
 use Rattle.pivots.specs.Rule.{checked}
 use Rattle.lblt.specs.Factor.{factor_tests, final_state, recorded, Stored}
@@ -42,8 +43,8 @@ unfolding page_of page_lines
 page_same n words a F det e = rw (bits_same n a F e)
 
 module _ (n : ℕ) (a : List Float) (words : List ℕ) (q : Square n a words) where
-  pub answer_done : is_done (tested (factor_tests (full n) a words) Done) ≡ true
-  answer_done = ap is_done (all_right (full n) a words (full_fits n (length a) (omega (arith, q.small)) q.long) q.sized)
+  pub answer_done : tested (factor_tests (full n) a words) Done ≡ Done
+  answer_done = all_right (full n) a words (full_fits n (length a) (omega (arith, q.small)) q.long) q.sized
 
   words_sized : Sized n words
   words_sized = record { order = omega (arith, q.small); total = q.sized }
@@ -52,23 +53,27 @@ module _ (n : ℕ) (a : List Float) (words : List ℕ) (q : Square n a words) wh
     record_accepted : is_done (checked n words') ≡ true
     record_accepted = ap (λ (w : List ℕ). is_done (checked n w)) s.pivots ∙ (accepted n (load (lower (full n)) a) words words_sized sheet_run).done
 
-    reader_done : is_done (tested (reader_tests (full n) sheet_run a' words') Done) ≡ true
+    reader_done : tested (reader_tests (full n) sheet_run a' words') Done ≡ Done
     reader_done =
-        ap is_done (sym (reader_expected (full n) sheet_run a' words' (full_fits n (length a') (omega (arith, q.small)) (long ∙ q.long))
+        sym (reader_expected (full n) sheet_run a' words' (full_fits n (length a') (omega (arith, q.small)) (long ∙ q.long))
         (record { sized = record { order = omega (arith, q.small); total = sized ∙ q.sized }; done = record_accepted })
-        (ap (run_at n) s.pivots ∙ recorded_run n (load (lower (full n)) a) words words_sized sheet_run)))
+        (ap (run_at n) s.pivots ∙ recorded_run n (load (lower (full n)) a) words words_sized sheet_run))
 
-    determinant_is : (v : Valued) → LbltDetermined (full n) sheet_run a' words' v → v.value ≡ determinant_of n (final_state n (load (lower (full n)) a) words).matrix (recorded n sheet_run (load (lower (full n)) a) words)
+    pub determined : (r : Result Float Refusal) → LbltDetermined (full n) sheet_run a' words' r → r ≡ Ok (determinant_of n (load (lower (full n)) a') words')
+    determined r d = d.answer ∙ tested_passed (reader_tests (full n) sheet_run a' words') (Ok (determinant_of n (load (lower (full n)) a') words')) reader_done
+
+    determinant_is : (v : Float) → LbltDetermined (full n) sheet_run a' words' (Ok v) → v ≡ determinant_of n (final_state n (load (lower (full n)) a) words).matrix (recorded n sheet_run (load (lower (full n)) a) words)
     determinant_is v d =
-        d.value
-        ∙ ap (λ (done : Bool). cond done (determinant_of n (load (lower (full n)) a') words') plus_zero) (ap is_done d.answer ∙ reader_done)
+        let here : Ok v ≡ Ok (determinant_of n (load (lower (full n)) a') words') = determined (Ok v) d in
+        let value : v ≡ determinant_of n (load (lower (full n)) a') words' = cc in
+        value
         ∙ ap (λ (M : Matrix). determinant_of n M words') s.matrix.cells
         ∙ ap (determinant_of n (final_state n (load (lower (full n)) a) words).matrix) s.pivots
 
     -- the page that is written is that of the matrix that was given
-    pub page_is : (v : Valued) → LbltDetermined (full n) sheet_run a' words' v → page_of n words' (matrix_in n a') v.value ≡ page_from n (load (lower (full n)) a) words
+    pub page_is : (v : Float) → LbltDetermined (full n) sheet_run a' words' (Ok v) → page_of n words' (matrix_in n a') v ≡ page_from n (load (lower (full n)) a) words
     unfolding page_from
     page_is v d =
-        page_same n words' a' (final_state n (load (lower (full n)) a) words).matrix v.value s.matrix.cells
-        ∙ ap (λ (w : List ℕ). page_of n w (final_state n (load (lower (full n)) a) words).matrix v.value) s.pivots
+        page_same n words' a' (final_state n (load (lower (full n)) a) words).matrix v s.matrix.cells
+        ∙ ap (λ (w : List ℕ). page_of n w (final_state n (load (lower (full n)) a) words).matrix v) s.pivots
         ∙ ap (page_of n (recorded n sheet_run (load (lower (full n)) a) words) (final_state n (load (lower (full n)) a) words).matrix) (determinant_is v d)

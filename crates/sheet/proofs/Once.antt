@@ -5,8 +5,7 @@ use mathlib.Core.List.{List, []}
 use Prim.Native.Nat.{ℕ}
 use Rattle.answer.specs.declared.Refusal.TheVariants.{BadLine}
 use Rattle.answer.specs.Answer.{Answer, Done}
-use Rattle.twins.specs.declared.Twin.{Twin}
-use Rattle.twins.specs.First.{FirstTwin}
+use Rattle.twins.specs.First.{Found, FirstTwin}
 use Rattle.twins.proofs.Unique.{first_twin_unique}
 use Rattle.twins.proofs.Exists.{some_first_twin_since}
 use Rattle.sheet_text.specs.inner.Read.{read_of}
@@ -27,7 +26,7 @@ some_response s = go (sound s empty_room)
   where
     go : Reads s empty_room (read_of s empty_room).sheet (read_of s empty_room).cells → (answer : Answer) × ((text : List ℕ) × Response s answer text)
     go (right n bits h same e c) = (Done, (factor_page n bits, factors n bits h same refl refl))
-    go (wrong line n bits f e b c) = (BadLine line, (refusal_of (Err (BadLine line)), refuses line f refl refl))
+    go (wrong line n bits f e b c) = (Err (BadLine line), (refusal_of (Err (BadLine line)), refuses line f refl refl))
 
 pub one_response : {s : List ℕ} {a b : Answer} {t u : List ℕ} → Response s a t → Response s b u → (a ≡ b) × (t ≡ u)
 one_response (factors n bits h same d e) (factors m other k same' d' e') =
@@ -56,7 +55,7 @@ some_warning s = go (sound s empty_room)
     go (wrong line n bits f e b c) = ([], no_sheet line f refl)
 
 -- one sheet has one first pair, or none
-same_twins : (s : List ℕ) {t u : Twin} (n : ℕ) (bits : List ℕ) (m : ℕ) (other : List ℕ) → IsSheet n bits → IsSheet m other → s ≡ sheet_of n bits → s ≡ sheet_of m other
+same_twins : (s : List ℕ) {t u : Found} (n : ℕ) (bits : List ℕ) (m : ℕ) (other : List ℕ) → IsSheet n bits → IsSheet m other → s ≡ sheet_of n bits → s ≡ sheet_of m other
     → FirstTwin (numbers_of n bits) n n t → FirstTwin (numbers_of m other) m m u → spoken t ≡ spoken u
 same_twins s {t} {u} n bits m other h k same same' first first' =
     let one = sheet_once n bits m other h k (sym same ∙ same') in

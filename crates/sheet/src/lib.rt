@@ -6,10 +6,9 @@ ghost use Rattle.sheet.specs.Respond.{Responds, empty_room};
 ghost use Rattle.sheet.specs.Warn.{Warns};
 ghost use Rattle.sheet.specs.inner.Parts.{Square, Writes, Empty};
 
-use answer::{Answer, Refusal};
+use answer::Answer;
 use sheet_page::{put_page, put_refusal, put_twin};
 use sheet_text::read_sheet;
-use twins::Twin;
 
 // The run number of every sheet.
 const SHEET_RUN: u32 = 0;
@@ -19,9 +18,9 @@ fn factor_and_write(a: &mut [f64], words: &mut [u32], n: usize, out: &mut [u8]) 
     requires { Square n a.old words.old }
     ensures { Writes n a.old words.old out.old result out.new }
 {
-    lblt::factor(a, words, n, SHEET_RUN);
-    let determinant = lblt_read::determinant(a, words, n, SHEET_RUN);
-    put_page(out, n, words, a, determinant.value)
+    lblt::factor(a, words, n, SHEET_RUN).unwrap();
+    let determinant = lblt_read::determinant(a, words, n, SHEET_RUN).unwrap();
+    put_page(out, n, words, a, determinant)
 }
 
 // Done, or the sheet's first wrong line; and where the response ends.
@@ -36,19 +35,19 @@ fn read_and_answer(s: &[u8], a: &mut [f64], words: &mut [u32], out: &mut [u8]) -
     requires { Empty a.old words.old }
     ensures { Responds s.now out.old result out.new }
 {
-    let sheet = read_sheet(s, a);
-    let n = sheet.order;
-    let verdict = sheet.answer;
-    if verdict.code() != 0 {
-        return Responded {
-            answer: verdict,
-            end: put_refusal(out, verdict),
-        };
-    }
+    let n = match read_sheet(s, a) {
+        Ok(n) => n,
+        Err(refusal) => {
+            return Responded {
+                answer: Err(refusal),
+                end: put_refusal(out, Err(refusal)),
+            };
+        }
+    };
     let cells = n * n;
     let count = pivots::words(n);
     Responded {
-        answer: verdict,
+        answer: Ok(()),
         end: factor_and_write(&mut a[..cells], &mut words[..count], n, out),
     }
 }
@@ -62,18 +61,19 @@ pub fn respond(s: &[u8], out: &mut [u8]) -> Responded
     read_and_answer(s, &mut room, &mut words, out)
 }
 
-// Reads the sheet into the room, then looks for twins. A refused sheet has order 0.
+// Reads the sheet into the room, then looks for twins.
 fn read_and_warn(s: &[u8], a: &mut [f64], out: &mut [u8]) -> usize
     requires { a.old ≡ empty_room }
     ensures { Warns s.now out.old result out.new }
 {
-    let sheet = read_sheet(s, a);
-    let n = sheet.order;
+    let Ok(n) = read_sheet(s, a) else {
+        return 0;
+    };
     let cells = n * n;
-    match twins::first_twin(&a[..cells], n, n) {
-        Twin::Nothing => 0,
-        Twin::Pair(p, q) => put_twin(out, p, q),
-        Twin::Refused(_) => 0,
+    let found = twins::first_twin(&a[..cells], n, n).unwrap();
+    match found {
+        Some(pair) => put_twin(out, pair.first, pair.second),
+        None => 0,
     }
 }
 

@@ -1,5 +1,5 @@
 pub mod PutLaws
-pub mod ToGo
+pub mod Wrote
 pub mod Loops
 pub mod PageText
 pub mod RoundTrip

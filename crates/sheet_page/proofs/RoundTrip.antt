@@ -8,9 +8,8 @@ use lib.Ieee.{Float, nan, binary64, fits}
 use lib.Ieee.Bits.{of_bits-to_bits, to_bits-lt}
 use lib.ListN.{length, get_or}
 use Rattle.sheet_text.specs.declared.place.Place.{Place}
-use Rattle.sheet_text.specs.declared.reader.Sheet.{Sheet}
 use Rattle.sheet_text.specs.Place.{places}
-use Rattle.sheet_text.specs.Sheet.{right_at, sheet_of, IsSheet, stored, Reads}
+use Rattle.sheet_text.specs.Sheet.{Sheet, right_at, sheet_of, IsSheet, stored, Reads}
 use Rattle.sheet_text.specs.inner.Read.{Reading, reading}
 use Rattle.sheet_text.proofs.Stored.{stored_entry}
 use Rattle.sheet_text.proofs.SheetOnce.{reads_once}

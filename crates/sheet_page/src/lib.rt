@@ -1,7 +1,8 @@
 // The page and the warning that the program writes, into a lent slice of bytes.
 #![tactic(auto)]
 
+mod lines;
 mod page;
 mod put;
 
-pub use page::{put_page, put_refusal, put_twin};
+pub use put::{put_page, put_refusal, put_twin};

@@ -70,3 +70,11 @@ module _ (P : Place → Type 0) where
   pub in_place_law : (n r c : ℕ) → c ≤ r → r < n → Each P (places n) → P (at r c)
   unfolding places
   in_place_law n r c h k e = in_column n 0 r c (omega arith) h (omega arith) e
+
+-- ---- each place is in the square
+pub record InSquare (n : ℕ) (p : Place) : Type 0 where
+  pub row : p.row < n
+  pub column : p.column < n
+
+pub in_square : (n : ℕ) → Each (InSquare n) (places n)
+in_square n = each_place (InSquare n) n (λ r c h k. record { row = k; column = omega arith })

@@ -1,52 +1,43 @@
 -- The loop over the entry lines: what is known at each turn, and how a turn keeps it.
-use mathlib.Core.Path.{◌≡◌, refl, ap, ◌∙◌}
-use mathlib.Core.Bool.{true, false}
-use mathlib.Core.List.{List}
-use Prim.Native.Nat.{ℕ, ◌+◌, ◌<◌, ◌≤◌}
-use native.Mathlib.Omega.{arith}
-use lib.Ieee.{Float, binary64, of_bits}
-use lib.ListN.{length, drop, set, length-set}
+use Rattle.std.proofs.Common.{◌≡◌, ℕ, ◌+◌, ◌≤◌, true, false, List, [], ◌∷◌, length, drop, refl, ap, ◌∙◌, arith}
+use Rattle.std.proofs.Math.ListN.{set, length-set}
+use Rattle.std.specs.Float.{binary64}
+use Rattle.std.specs.Float.Ieee.{Float, of_bits}
 use Rattle.sheet_text.specs.declared.place.Place.{Place}
 use Rattle.sheet_text.specs.inner.Parse.{found, missing}
 use Rattle.sheet_text.specs.Place.{places, cell}
-use Rattle.sheet_text.specs.inner.Next.{next_place}
 use Rattle.sheet_text.specs.inner.Read.{entry_at, taken, take_entries}
 use Rattle.sheet_text.proofs.EntrySteps.{entries_stop, entries_more}
-use Rattle.sheet_text.proofs.PlaceLaws.{at as place, Inside, rest_from, rest_all, rest_none, rest_more, rest_falls, next_inside, length_places}
+use Rattle.sheet_text.proofs.PlaceLaws.{length_places}
+use Rattle.sheet_text.proofs.EachPlace.{Each, InSquare, in_square}
 
-pub record SoFar (s : List ℕ) (at n : ℕ) (a₀ a : List Float) (p : Place) (count i : ℕ) : Type 0 where
-  pub inside : Inside n p
-  pub small : count + length (rest_from n p) ≤ 4096
+pub record SoFar (s : List ℕ) (at n : ℕ) (a₀ a : List Float) (rest : List Place) (count i : ℕ) : Type 0 where
+  pub inside : Each (InSquare n) rest
+  pub small : count + length rest ≤ 4096
   pub long : length a ≡ length a₀
-  pub same : take_entries n (places n) (drop at s) 0 a₀ ≡ take_entries n (rest_from n p) (drop i s) count a
+  pub same : take_entries n (places n) (drop at s) 0 a₀ ≡ take_entries n rest (drop i s) count a
 
-pub start : (s : List ℕ) (at n : ℕ) (a : List Float) → n ≤ 64 → SoFar s at n a a (place 0 0) 0 at
-start s at n a h = record {
-  inside = record { below = omega arith; within = λ d. d; closed = omega arith };
-  small = rw (← rest_all n) (omega (arith, length_places n h));
-  long = refl;
-  same = ap (λ (ps : List Place). take_entries n ps (drop at s) 0 a) (rest_all n);
-}
+pub start : (s : List ℕ) (at n : ℕ) (a : List Float) (rest : List Place) → n ≤ 64 → rest ≡ places n → SoFar s at n a a rest 0 at
+start s at n a rest h e = rw e record { inside = in_square n; small = omega (arith, length_places n h); long = refl; same = refl }
 
-module _ {s : List ℕ} {at n : ℕ} {a₀ a : List Float} {p : Place} {count i : ℕ} (so : SoFar s at n a₀ a p count i) where
-  pub more : {b next : ℕ} {q : Place} {a₁ : List Float} → p.column < n → q ≡ next_place n p → entry_at p (drop i s) ≡ found b (drop next s) → a₁ ≡ set a (cell n p) (of_bits binary64 b)
-      → SoFar s at n a₀ a₁ q (count + 1) next
-  more {b} {next} {q} {a₁} c step e st =
-      let row = so.inside.within c in
-      let fewer = rest_falls n p row in
-      rw (step, st) record {
-        inside = next_inside n p so.inside c;
-        small = omega (arith, so.small);
-        long = length-set a (cell n p) (of_bits binary64 b) ∙ so.long;
-        same =
-            so.same
-            ∙ ap (λ (ps : List Place). take_entries n ps (drop i s) count a) (rest_more n p row)
-            ∙ entries_more n p (rest_from n (next_place n p)) (drop i s) count a b (drop next s) e;
-      }
+module _ {s : List ℕ} {at n : ℕ} {a₀ a : List Float} {rest : List Place} {count i : ℕ} (so : SoFar s at n a₀ a rest count i) where
+  module _ {p : Place} {others : List Place} (e : rest ≡ p ∷ others) where
+    pub more : {b next : ℕ} {a₁ : List Float} → entry_at p (drop i s) ≡ found b (drop next s) → a₁ ≡ set a (cell n p) (of_bits binary64 b) → SoFar s at n a₀ a₁ others (count + 1) next
+    more {b} {next} {a₁} read stored =
+        rw stored record {
+          inside = (rw e at so.inside).1;
+          small = omega (arith, so.small, ap length e);
+          long = length-set a (cell n p) (of_bits binary64 b) ∙ so.long;
+          same =
+              so.same
+              ∙ ap (λ (ps : List Place). take_entries n ps (drop i s) count a) e
+              ∙ entries_more n p others (drop i s) count a b (drop next s) read;
+        }
 
-  pub ended_early : p.row < n → entry_at p (drop i s) ≡ missing → take_entries n (rest_from n p) (drop i s) count a ≡ taken false count (drop i s) a
-  ended_early row e = rw (rest_more n p row) (entries_stop n p (rest_from n (next_place n p)) (drop i s) count a e)
+    pub ended_early : entry_at p (drop i s) ≡ missing → take_entries n (places n) (drop at s) 0 a₀ ≡ taken false count (drop i s) a
+    ended_early read =
+        so.same ∙ ap (λ (ps : List Place). take_entries n ps (drop i s) count a) e ∙ entries_stop n p others (drop i s) count a read
 
-  pub all_read : n ≤ p.column → take_entries n (rest_from n p) (drop i s) count a ≡ taken true count (drop i s) a
+  pub all_read : rest ≡ [] → take_entries n (places n) (drop at s) 0 a₀ ≡ taken true count (drop i s) a
   unfolding take_entries
-  all_read h = rw (rest_none n p so.inside h)
+  all_read e = so.same ∙ ap (λ (ps : List Place). take_entries n ps (drop i s) count a) e

@@ -1,30 +1,15 @@
 -- The places that are still to come from a place on: one after the other, as `next` goes.
-use mathlib.Core.Path.{◌≡◌, refl, sym, ap, ◌∙◌}
+use Rattle.std.proofs.Common.{◌≡◌, ℕ, zero, suc, ◌+◌, ◌*◌, ◌-◌, ◌<◌, ◌≤◌, List, [], ◌∷◌, length, refl, sym, ap, ◌∙◌, arith, add-one, length-append}
+use Rattle.std.proofs.lemmas.Nat.{mul-add-lt}
 use mathlib.Core.Logic.{⊎_elim}
-use mathlib.Core.List.{List, [], ◌∷◌, ◌++◌}
-use Prim.Native.Nat.{ℕ, zero, suc, ◌+◌, ◌*◌, ◌-◌, ◌<◌, ◌≤◌}
-use native.Mathlib.Nat.{mul-le-mul}
-use native.Mathlib.Numerals.{add-one}
-use native.Mathlib.Omega.{arith}
 use borrow.Author.Tests.{lt-ltb, le-ltb}
-use lib.ListN.{length, length-append}
 use Rattle.answer.proofs.Tests.{lt_or_ge}
-use Rattle.matrix.proofs.Places.{digits_within}
 use Rattle.sheet_text.specs.declared.place.Place.{Place}
 use Rattle.sheet_text.specs.Place.{rows, columns, places, cell}
-use Rattle.sheet_text.specs.inner.Next.{next_place}
+use Rattle.sheet_text.specs.inner.Next.{next_place, rest_from}
 
 abbrev pub at : ℕ → ℕ → Place
 at i j = record { row = i; column = j }
-
-unfoldable pub rest_from : ℕ → Place → List Place
-rest_from n p = rows (n - p.row) p.row p.column ++ columns (n - suc p.column) (suc p.column)
-
--- on or below the diagonal, and in the matrix unless all is done
-pub record Inside (n : ℕ) (p : Place) : Type 0 where
-  pub below : p.column ≤ p.row
-  pub within : p.column < n → p.row < n
-  pub closed : p.column ≤ n
 
 from_diagonal : (n j m : ℕ) → n - j ≡ m → columns m j ≡ rest_from n (at j j)
 unfolding rest_from columns rows
@@ -39,10 +24,9 @@ pub rest_all : (n : ℕ) → places n ≡ rest_from n (at 0 0)
 unfolding places
 rest_all n = from_diagonal n 0 n (omega arith)
 
-pub rest_none : (n : ℕ) (p : Place) → Inside n p → n ≤ p.column → rest_from n p ≡ []
+pub rest_none : (n : ℕ) (p : Place) → n ≤ p.row → n ≤ p.column → rest_from n p ≡ []
 unfolding rest_from columns rows
 rest_none n p h l =
-    let b = h.below in
     let e : n - p.row ≡ 0 = omega arith in
     let f : n - suc p.column ≡ 0 = omega arith in
     rw (e, f)
@@ -69,12 +53,6 @@ rest_more n p h = ⊎_elim
     (λ l. rw (le-ltb (p.row + 1) n l) (right n p.row p.column h l))
     (lt_or_ge (p.row + 1) n)
 
-pub next_inside : (n : ℕ) (p : Place) → Inside n p → p.column < n → Inside n (next_place n p)
-next_inside n p h c = ⊎_elim
-    (λ l. rw (lt-ltb (p.row + 1) n l) (record { below = omega (arith, h.below); within = λ _. l; closed = h.closed }))
-    (λ l. rw (le-ltb (p.row + 1) n l) (record { below = omega arith; within = λ d. d; closed = omega arith }))
-    (lt_or_ge (p.row + 1) n)
-
 -- ---- how many there are
 pub length_rows : (m i j : ℕ) → length (rows m i j) ≡ m
 unfolding rows
@@ -93,12 +71,6 @@ pub length_places : (n : ℕ) → n ≤ 64 → length (places n) ≤ 4096
 unfolding places
 length_places n h = omega (arith, length_columns n 0 h)
 
-pub column_fits : (n : ℕ) (p : Place) → n ≤ 64 → p.column < n → p.column * n ≤ 4096
-column_fits n p h c = let small : p.column ≤ 64 = omega arith in mul-le-mul small h
-
-pub rest_falls : (n : ℕ) (p : Place) → p.row < n → length (rest_from n (next_place n p)) < length (rest_from n p)
-rest_falls n p h = rw (rest_more n p h) (omega arith)
-
 -- a place of the square is one of its n·n cells
 pub cell_inside : (n : ℕ) (p : Place) → p.row < n → p.column < n → cell n p < n * n
-cell_inside n p r c = digits_within n n p.row p.column r c
+cell_inside n p r c = omega (arith, mul-add-lt p.column n p.row n c r)

@@ -1,5 +1,5 @@
 -- The whole sheet, part by part: what the reader answers once the next part is read, or is not.
-use mathlib.Core.Path.{◌≡◌, refl, ap, ◌∙◌}
+use mathlib.Core.Path.{◌≡◌, refl, sym, ap, ◌∙◌}
 use mathlib.Core.Bool.{Bool, true, false}
 use mathlib.Core.List.{List, [], ◌∷◌}
 use Prim.Native.Nat.{ℕ, suc, ◌+◌, ◌<◌, ◌≤◌}
@@ -8,12 +8,11 @@ use borrow.Author.Tests.{lt-ltb, le-ltb, eq-eqb, ne_eqb}
 use lib.Ieee.{Float, binary64, of_bits}
 use lib.ListN.{length, drop, set, drop_of_length-le}
 use Rattle.sheet_text.specs.declared.place.Place.{Place}
-use Rattle.sheet_text.specs.declared.reader.Sheet.{Sheet}
 use Rattle.sheet_text.specs.Text.{bytes}
 use Rattle.sheet_text.specs.inner.Parse.{Parse, found, missing, number_after}
 use Rattle.sheet_text.specs.Place.{places, cell}
 use Rattle.sheet_text.specs.inner.Read.{entry_at, Taken, take_entries, closed, verdict, reading, after_entries, after_order, read_of}
-use Rattle.sheet_text.specs.Sheet.{wrong_at, right_at}
+use Rattle.sheet_text.specs.Sheet.{Sheet, wrong_at, right_at}
 use Rattle.sheet_text.proofs.Steps.{cons_at}
 use Rattle.sheet_text.proofs.EntrySteps.{entries_stop, entries_more}
 use Rattle.sheet_text.proofs.PlaceLaws.{length_places}
@@ -87,3 +86,7 @@ read_no_order s a e = rw e
 pub after_entries_law : (n : ℕ) (r : Sheet) (k whole : Taken) → r ≡ verdict n k.whole k.count k.left → k ≡ whole → reading r k.cells ≡ after_entries n whole
 unfolding after_entries
 after_entries_law n r k whole e same = ap (λ (x : Sheet). reading x k.cells) e ∙ ap (λ (x : Taken). reading (verdict n x.whole x.count x.left) x.cells) same
+
+-- where an entry is wrong, or the text ends before it
+pub stopped : (n : ℕ) (r : Sheet) (k : Taken) (a : List Float) → k.whole ≡ false → r ≡ wrong_at (k.count + 2) → a ≡ k.cells → reading r a ≡ after_entries n k
+stopped n r k a w e c = ap (reading r) c ∙ after_entries_law n r k k (e ∙ sym (not_whole n k.whole k.count k.left w)) refl

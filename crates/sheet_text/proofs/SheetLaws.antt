@@ -10,11 +10,10 @@ use lib.Ieee.{Float}
 use lib.ListN.{length, take, drop, length-append, drop_of_length-le}
 use lib.Seq.{length-take-le, take-append-le}
 use Rattle.sheet_text.specs.declared.place.Place.{Place}
-use Rattle.sheet_text.specs.declared.reader.Sheet.{Sheet}
 use Rattle.sheet_text.specs.Text.{bytes, number_line, entry_line}
 use Rattle.sheet_text.specs.Place.{places}
 use Rattle.sheet_text.specs.inner.Read.{taken, take_entries, at_the_end, closed, verdict, reading, after_entries, read_of}
-use Rattle.sheet_text.specs.Sheet.{right_at, entry_lines, sheet_lines, join, sheet_of, IsSheet, stored}
+use Rattle.sheet_text.specs.Sheet.{Sheet, right_at, entry_lines, sheet_lines, join, sheet_of, IsSheet, stored}
 use Rattle.sheet_text.proofs.PlaceLaws.{length_places}
 use Rattle.sheet_text.proofs.ReadSteps.{end_line_law, order_right, read_order}
 use Rattle.sheet_text.proofs.LineLaws.{line_found}

@@ -8,9 +8,8 @@ use lib.Ieee.{Float}
 use lib.ListN.{take, drop, take-append-drop}
 use lib.Seq.{take-take}
 use Rattle.answer.proofs.Tests.{lt_or_ge}
-use Rattle.sheet_text.specs.declared.reader.Sheet.{Sheet}
 use Rattle.sheet_text.specs.Place.{places}
-use Rattle.sheet_text.specs.Sheet.{wrong_at, sheet_lines, join, Begins, FirstWrong, stored, Reads, right, wrong}
+use Rattle.sheet_text.specs.Sheet.{Sheet, wrong_at, sheet_lines, join, Begins, FirstWrong, stored, Reads, right, wrong}
 use Rattle.sheet_text.specs.inner.Read.{reading, read_of}
 use Rattle.sheet_text.proofs.SheetLaws.{join_both, complete}
 use Rattle.sheet_text.proofs.SheetSound.{after, sound}

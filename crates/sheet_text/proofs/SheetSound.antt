@@ -12,12 +12,11 @@ use lib.Seq.{take_all, take-append-le, take-append_seam}
 use Rattle.answer.proofs.Tests.{eq_or_ne, lt_or_ge}
 use Rattle.answer.specs.Number.{code_of, place_of}
 use Rattle.sheet_text.specs.declared.place.Place.{Place}
-use Rattle.sheet_text.specs.declared.reader.Sheet.{Sheet}
 use Rattle.sheet_text.specs.Text.{bytes, number_line}
 use Rattle.sheet_text.specs.inner.Parse.{Parse, found, missing, number_after}
 use Rattle.sheet_text.specs.Place.{rows, columns, places}
 use Rattle.sheet_text.specs.inner.Read.{Taken, take_entries, at_the_end, closed, verdict, Reading, reading, after_entries, after_order, read_of}
-use Rattle.sheet_text.specs.Sheet.{right_at, wrong_at, entry_lines, sheet_lines, join, sheet_of, IsSheet, BeginsAs, stored, Reads, right, wrong}
+use Rattle.sheet_text.specs.Sheet.{Sheet, right_at, wrong_at, entry_lines, sheet_lines, join, sheet_of, IsSheet, BeginsAs, stored, Reads, right, wrong}
 use Rattle.sheet_text.proofs.ReadSteps.{other_count, end_line_law, no_end_line, not_whole, order_zero, order_large, order_right, read_order, read_no_order}
 use Rattle.sheet_text.proofs.LineLaws.{line_sound}
 use Rattle.sheet_text.proofs.EntriesLaws.{Wide, wide_cons, wide_tail, Extent, entries_sound}
@@ -25,10 +24,10 @@ use Rattle.sheet_text.proofs.SheetLaws.{entry_count, take_entries_law, length_li
 
 -- ---- two answers told apart
 wrong_line : (j k : ℕ) → wrong_at j ≡ wrong_at k → j ≡ k
-wrong_line j k e = ap (λ (r : Sheet). place_of r.answer) e
+wrong_line j k e = ap place_of e
 
 right_is_not_wrong : (n k : ℕ) → right_at n ≡ wrong_at k → ⊥
-right_is_not_wrong n k e = let z : ◌≡◌ {A = ℕ} 0 20 = ap (λ (r : Sheet). code_of r.answer) e in omega arith
+right_is_not_wrong n k e = let z : ◌≡◌ {A = ℕ} 0 20 = ap code_of e in omega arith
 
 -- ---- a wrong line comes after the lines that are right
 end_late : (n count line : ℕ) (t : List ℕ) → at_the_end n count t ≡ wrong_at line → count + 3 ≡ line

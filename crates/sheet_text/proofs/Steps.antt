@@ -1,15 +1,12 @@
 -- One byte further: what a parser says of the text from a place on, by the byte that stands there.
-use mathlib.Core.Path.{◌≡◌, refl, ◌∙◌, sym, ap}
-use mathlib.Core.Bool.{Bool, true, false, cond, ◌&&◌}
-use mathlib.Core.List.{List, [], ◌∷◌}
-use Prim.Native.Nat.{ℕ, suc, ◌+◌, ◌*◌, ◌-◌, ◌^◌, ◌<◌, ◌≤◌, zero-le, suc-le-suc}
+use Rattle.std.proofs.Common.{◌≡◌, ℕ, suc, ◌+◌, ◌*◌, ◌-◌, ◌^◌, ◌<◌, ◌≤◌, min, Bool, true, false, cond, ◌&&◌, eqb, List, [], ◌∷◌, length, get_or, take, drop, refl, sym, ap, ◌∙◌, ◌⊎◌, inl, inr, arith, lit<, add-one, drop-cons, length-drop}
+use Rattle.std.specs.Cmp.Lexicographic.{pointwise}
+use Prim.Native.Nat.{zero-le, suc-le-suc}
 use native.Mathlib.Nat.{pow-le-pow_right, pow-suc}
-use native.Mathlib.Numerals.{add-one}
-use lib.Dec.{lit<, eqb}
-use native.Mathlib.Omega.{arith}
 use borrow.Author.Tests.{lt-ltb, le-ltb, eq-eqb, ne_eqb}
-use lib.ListN.{length, get_or, drop, length-drop, drop_of_length-le}
-use lib.Seq.{drop-cons, drop-drop}
+use lib.ListN.{drop_of_length-le}
+use lib.Seq.{drop-drop, take_all}
+use Rattle.answer.proofs.Tests.{lt_or_ge}
 use Rattle.sheet_text.specs.Text.{lf}
 use Rattle.sheet_text.specs.inner.Digit.{digit_of}
 use Rattle.sheet_text.specs.inner.Parse.{found, missing, starts_with, later_digits, number, hex_digits, line_end, number_after}
@@ -29,21 +26,21 @@ and_right true b e = e
 and_right false b e = absurd (false_is_not_true e)
 
 -- ---- a word
-pub word_ends : (w s : List ℕ) (k i : ℕ) → k < length w → length s ≤ i → starts_with (drop k w) (drop i s) ≡ false
+starts_by : (w t : List ℕ) → pointwise eqb w (take (length w) t) ≡ starts_with w t
 unfolding starts_with
-word_ends w s k i hk hi = rw (cons_at w k hk, drop_of_length-le s hi)
+starts_by [] t = refl
+starts_by (x ∷ w) [] = refl
+starts_by (x ∷ w) (y ∷ t) = ap (λ (b : Bool). eqb x y && b) (starts_by w t)
 
-pub word_differs : (w s : List ℕ) (k i : ℕ) → k < length w → i < length s → (get_or s i 0 ≡ get_or w k 0 → ⊥) → starts_with (drop k w) (drop i s) ≡ false
-unfolding starts_with
-word_differs w s k i hk hi n = rw (cons_at w k hk, cons_at s i hi, ne_eqb (get_or w k 0) (get_or s i 0) (λ e. n (sym e)))
-
-pub word_more : (w s : List ℕ) (k i : ℕ) → k < length w → i < length s → get_or s i 0 ≡ get_or w k 0 → starts_with (drop k w) (drop i s) ≡ starts_with (drop (k + 1) w) (drop (i + 1) s)
-unfolding starts_with
-word_more w s k i hk hi e = rw (cons_at w k hk, cons_at s i hi, eq-eqb (get_or w k 0) (get_or s i 0) (sym e))
-
-pub word_all : (w s : List ℕ) (k i : ℕ) → length w ≤ k → starts_with (drop k w) (drop i s) ≡ true
-unfolding starts_with
-word_all w s k i hk = rw (drop_of_length-le w hk)
+-- from `at` on, or from the end on
+pub word_is : (w s : List ℕ) (at from : ℕ) → from ≡ min at (length s) → pointwise eqb w (take (length w) (take (length s - from) (drop from s))) ≡ starts_with w (drop at s)
+word_is w s at from e =
+    let whole : take (length s - from) (drop from s) ≡ drop from s = take_all (length s - from) (drop from s) (omega (arith, length-drop from s)) in
+    ap (λ (t : List ℕ). pointwise eqb w (take (length w) t)) whole ∙ starts_by w (drop from s) ∙ ap (starts_with w) (go (lt_or_ge (length s) at))
+  where
+    go : (length s < at) ⊎ (at ≤ length s) → drop from s ≡ drop at s
+    go (inl h) = drop_of_length-le s (omega arith) ∙ sym (drop_of_length-le s (omega arith))
+    go (inr h) = let same : from ≡ at = omega arith in rw same
 
 -- ---- a decimal number
 module _ (stop v : ℕ) (s : List ℕ) (i : ℕ) where
@@ -83,20 +80,16 @@ module _ (stop v : ℕ) (s : List ℕ) (i : ℕ) where
   unfolding number
   number_first d e h o = rw (cons_at s i h, ← e, le-ltb 9 d o)
 
--- ---- hexadecimal digits: k of the sixteen digits are still to come
-abbrev pub HexRoom : ℕ → ℕ → Type 0
-HexRoom k v = v < 16 ^ (16 - k)
-
-pub hex_fits : (k v d : ℕ) → 0 < k → k ≤ 16 → HexRoom k v → d ≤ 15 → v * 16 + d < 2 ^ 64
-hex_fits k v d p l r o =
-    let below : 16 - k ≤ 15 = omega arith in
-    let power : 16 ^ (16 - k) ≤ 16 ^ 15 = pow-le-pow_right {n = 16} (lit< tt) below in
+-- ---- hexadecimal digits: i of the sixteen digits are read
+pub hex_fits : (i v d : ℕ) → i < 16 → v < 16 ^ i → d ≤ 15 → v * 16 + d < 2 ^ 64
+hex_fits i v d l r o =
+    let below : i ≤ 15 = omega arith in
+    let power : 16 ^ i ≤ 16 ^ 15 = pow-le-pow_right {n = 16} (lit< tt) below in
     omega arith
 
-pub hex_room : (k v d : ℕ) → 0 < k → k ≤ 16 → HexRoom k v → d ≤ 15 → HexRoom (k - 1) (v * 16 + d)
-hex_room k v d p l r o =
-    let step : 16 - (k - 1) ≡ suc (16 - k) = omega arith in
-    let power : 16 ^ (16 - (k - 1)) ≡ 16 ^ (16 - k) * 16 = ap (λ (m : ℕ). 16 ^ m) step ∙ pow-suc 16 (16 - k) in
+pub hex_room : (i v d : ℕ) → v < 16 ^ i → d ≤ 15 → v * 16 + d < 16 ^ (i + 1)
+hex_room i v d r o =
+    let power : 16 ^ (i + 1) ≡ 16 ^ i * 16 = rw add-one (pow-suc 16 i) in
     omega arith
 
 suc_of : (k : ℕ) → 0 < k → k ≡ suc (k - 1)

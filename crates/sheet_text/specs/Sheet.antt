@@ -1,11 +1,10 @@
 -- The text of a sheet, its first wrong line, and what the reader promises.
-use Rattle.std.specs.Prelude.{◌≡◌, List, [], ◌∷◌, ◌++◌, ℕ, ◌-◌, ◌^◌, ◌<◌, ◌≤◌, Float, length, get_or, take, set, Err}
+use Rattle.std.specs.Prelude.{◌≡◌, List, [], ◌∷◌, ◌++◌, ℕ, ◌-◌, ◌^◌, ◌<◌, ◌≤◌, Float, length, get_or, take, set, Result, Ok, Err}
 use Rattle.std.specs.Float.{binary64}
 use Rattle.std.specs.Float.Ieee.{of_bits}
+use Rattle.answer.specs.declared.Refusal.{Refusal}
 use Rattle.answer.specs.declared.Refusal.TheVariants.{BadLine}
-use Rattle.answer.specs.Answer.{Done}
 use Rattle.sheet_text.specs.declared.place.Place.{Place}
-use Rattle.sheet_text.specs.declared.reader.Sheet.{Sheet}
 use Rattle.sheet_text.specs.Text.{bytes, number_line, entry_line}
 use Rattle.sheet_text.specs.Place.{places, cell}
 
@@ -60,12 +59,15 @@ stored n [] bits a = a
 stored n (p ∷ ps) [] a = a
 stored n (p ∷ ps) (b ∷ bits) a = stored n ps bits (set a (cell n p) (of_bits binary64 b))
 
--- what the reader answers of a sheet of order n, and of another text
+-- what the reader answers: the order, or the first wrong line
+abbrev pub Sheet : Type 0
+Sheet = Result ℕ Refusal
+
 abbrev pub right_at : ℕ → Sheet
-right_at n = record { answer = Done; order = n }
+right_at n = Ok n
 
 abbrev pub wrong_at : ℕ → Sheet
-wrong_at line = record { answer = Err (BadLine line); order = 0 }
+wrong_at line = Err (BadLine line)
 
 -- a sheet is accepted and its entries are stored; of any other text the first wrong line is named, and the entries before it are stored
 pub data Reads (s : List ℕ) (a : List Float) (r : Sheet) (a' : List Float) : Type 0 where

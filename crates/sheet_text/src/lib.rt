@@ -7,8 +7,6 @@ mod place;
 mod reader;
 
 pub use digit::digit_value;
-pub use line::{
-    Bits, Entry, EntryLine, Number, entry_line, number_line, read_bits, read_number, word_stands,
-};
-pub use place::Place;
-pub use reader::{Sheet, read_sheet};
+pub use line::{Entry, Found, entry_line, number_line, read_bits, read_number, word_stands};
+pub use place::{Place, Places};
+pub use reader::read_sheet;

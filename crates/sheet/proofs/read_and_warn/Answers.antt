@@ -1,25 +1,21 @@
-use mathlib.Core.Path.{sym, ap}
+use Rattle.std.proofs.Common.{refl}
 use Prim.Native.Nat.{zero-le}
-use native.Mathlib.Omega.{arith}
-use Rattle.sheet_page.proofs.PutLaws.{put_none, put_same}
-use Rattle.sheet.proofs.Answers.{square_small, room_length, lone_room, order_small, spoken, warned}
+use Rattle.sheet_page.proofs.PutLaws.{put_none}
+use Rattle.sheet.specs.Respond.{empty_words}
+use Rattle.sheet.proofs.Twins.{of_rows, not_refused}
+use Rattle.sheet.proofs.Answers.{lone_room, order_small, parts, silent, warned}
 use Rattle.sheet.proofs.read_and_warn.Goals as goal
 
-pub overflow_mul-cells : goal.overflow_mul-cells
-overflow_mul-cells c = omega (arith, square_small c.read_sheet-sheet.result.order (order_small c.read_sheet-sheet.ensures))
+pub returns-in_default : goal.returns-in_default
+returns-in_default c = silent c.in_default.ensures c.args.out.now
 
-pub slice_bounds-first_twin-end : goal.slice_bounds-first_twin-end
-slice_bounds-first_twin-end c =
-    omega (arith, square_small c.read_sheet-sheet.result.order (order_small c.read_sheet-sheet.ensures), c.read_sheet-sheet.auto.a, room_length _ _ (lone_room c.requires))
+pub unwrap-found-requires : goal.unwrap-found-requires
+unwrap-found-requires c =
+    let square = parts c.in-Ok.ensures empty_words refl (lone_room c.requires) c.read_sheet.auto.a in
+    not_refused _ _ (of_rows _ c.in-Ok.n (order_small c.in-Ok.ensures) square.long c.first_twin.ensures)
 
-pub returns-in-Nothing : goal.returns-in-Nothing
-returns-in-Nothing c =
-    warned c.read_sheet-sheet.ensures c.requires c.first_twin.ensures (put_same (sym (ap spoken c.in-Nothing.is)) (put_none _ 0 zero-le))
+pub returns-in-Some : goal.returns-in-Some
+returns-in-Some c = warned c.in-Ok.ensures c.requires (rw c.in-Some.ensures at c.first_twin.ensures) c.put_twin.ensures
 
-pub returns-in-Pair : goal.returns-in-Pair
-returns-in-Pair c =
-    warned c.read_sheet-sheet.ensures c.requires c.first_twin.ensures (put_same (sym (ap spoken c.in-Pair.is)) c.put_twin.ensures)
-
-pub returns-in-Refused : goal.returns-in-Refused
-returns-in-Refused c =
-    warned c.read_sheet-sheet.ensures c.requires c.first_twin.ensures (put_same (sym (ap spoken c.in-Refused.is)) (put_none _ 0 zero-le))
+pub returns-in-None : goal.returns-in-None
+returns-in-None c = warned c.in-Ok.ensures c.requires (rw c.in-None.ensures at c.first_twin.ensures) (put_none c.args.out.now 0 zero-le)

@@ -1,13 +1,14 @@
 -- Reading a sheet line by line, as far as its lines are right.
-use Rattle.std.specs.Prelude.{ℕ, ◌+◌, Bool, true, false, cond, List, [], ◌∷◌, eqb, ltb, drop, set, Float}
+use Rattle.std.specs.Prelude.{◌≡◌, ℕ, ◌+◌, Bool, true, false, cond, List, [], ◌∷◌, eqb, ltb, drop, set, Float, Result, Ok, Err}
 use Rattle.std.specs.Float.{binary64}
 use Rattle.std.specs.Float.Ieee.{of_bits}
+use Rattle.answer.specs.declared.Refusal.{Refusal}
+use Rattle.answer.specs.declared.Refusal.TheVariants.{BadLine}
 use Rattle.sheet_text.specs.declared.line.Entry.{Entry}
 use Rattle.sheet_text.specs.declared.place.Place.{Place}
-use Rattle.sheet_text.specs.declared.reader.Progress.{Progress}
-use Rattle.sheet_text.specs.declared.reader.Sheet.{Sheet}
+use Rattle.sheet_text.specs.declared.line.Found.{Found}
 use Rattle.sheet_text.specs.Text.{bytes}
-use Rattle.sheet_text.specs.Sheet.{right_at, wrong_at}
+use Rattle.sheet_text.specs.Sheet.{Sheet, right_at, wrong_at}
 use Rattle.sheet_text.specs.inner.Parse.{Parse, found, missing, and_then, any_entry, number_after}
 use Rattle.sheet_text.specs.Place.{cell, places}
 
@@ -36,8 +37,10 @@ take_entries n (p ∷ ps) t c a =
       | missing ↦ taken false c t a
     ]
 
-abbrev pub taken_by : List ℕ → Progress → List Float → Taken
-taken_by s r a = taken r.whole r.count (drop r.next s) a
+-- what the code answers of such a reading of s: the number of entries and where the text that is left begins, or the first wrong line
+abbrev pub Reached : List ℕ → Result (Found ℕ) Refusal → List Float → Taken → Type 0
+Reached s (Ok e) a k = taken true e.value (drop e.next s) a ≡ k
+Reached s (Err r) a k = (k.whole ≡ false) × (r ≡ BadLine (k.count + 2)) × (a ≡ k.cells)
 
 -- ---- what the reader answers
 
