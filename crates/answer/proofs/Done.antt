@@ -1,5 +1,5 @@
 -- An answer is done or refused, and its code tells which. Assumes nothing.
-use Rattle.std.specs.Prelude.{◌≡◌, Bool, true, false, cond, eqb, ℕ, Result, Ok, Err, IsErrAnd}
+use Rattle.std.specs.Prelude.{◌≡◌, true, false, cond, eqb, Result, Ok, Err, IsErrAnd}
 use mathlib.Core.Path.{refl, sym, ◌∙◌, ap}
 use mathlib.Core.Bool.{true≢false}
 use Rattle.answer.specs.declared.Refusal.{Refusal}

@@ -5,7 +5,6 @@
 --   tested_each  what is true of each refusal, and of what comes after where all hold, is true of the answer
 --   all_hold     done: all tests hold
 --   tested_fixed refused: the answer does not hang on what comes after
---   tested_first nor on further tests
 --   tested_passed, tested_refused  by the answer of the tests alone: what comes after answers, or it does not count
 --   joined_passed, joined_refused  the same of further tests
 -- Assumes nothing.
@@ -16,7 +15,7 @@ use mathlib.Core.Logic.{inl, inr}
 use Rattle.answer.specs.declared.Refusal.{Refusal}
 use Rattle.answer.specs.Answer.{Answer, Done, is_done}
 use Rattle.answer.specs.Refusals.{Test, tested, Leaving}
-use Rattle.answer.proofs.Done.{done_or_refused, done_alike}
+use Rattle.answer.proofs.Done.{done_alike}
 
 -- all tests hold
 abbrev pub AllHold : List Test → Type 0
@@ -93,9 +92,6 @@ tested_fixed (t ∷ tests) r refused = pick t.holds (tested_fixed tests r) refus
         → is_done (cond b (tested tests Done) (Err t.refusal)) ≡ false → cond b (tested tests r) (Err t.refusal) ≡ cond b (tested tests Done) (Err t.refusal)
     pick true rest refused = rest refused
     pick false rest refused = refl
-
-pub tested_first : (tests more : List Test) (r : Answer) → is_done (tested tests Done) ≡ false → tested (tests ++ more) r ≡ tested tests Done
-tested_first tests more r refused = tested_join tests more r ∙ tested_fixed tests (tested more r) refused
 
 -- passed: what comes after answers
 pub tested_passed : {A : Type 0} (tests : List Test) (r : Result A Refusal) → tested tests Done ≡ Done → tested tests r ≡ r

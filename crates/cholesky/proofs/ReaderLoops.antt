@@ -1,5 +1,5 @@
 -- The laws of the readers' loops. Assumes nothing.
-use mathlib.Core.Path.{◌≡◌, refl, sym, ◌∙◌, ap, subst}
+use mathlib.Core.Path.{◌≡◌, sym, ◌∙◌, ap, subst}
 use mathlib.Core.Bool.{false}
 use mathlib.Core.List.{List}
 use mathlib.Core.Logic.{⊎_elim}
@@ -36,9 +36,6 @@ pub record Filling (n : ℕ) (N : Matrix) (j : ℕ) (l : List Float) : Type 0 wh
   pub long : length l ≡ n * n
   pub each : (i c : ℕ) → i < n → c < j → get_or l (i + c * n) nan ≡ N i c
 
-pub filling_none : {n : ℕ} {N : Matrix} {l : List Float} → length l ≡ n * n → Filling n N 0 l
-filling_none long = record { upto = omega arith; long = long; each = λ i c row column. absurd (omega arith) }
-
 pub filling_more : {n : ℕ} {N : Matrix} {j : ℕ} {l l' : List Float} → Filling n N j l → j < n → Strip (j * n) 0 n (down N j) l l' → Filling n N (j + 1) l'
 filling_more {n} {N} {j} {l} {l'} f lt strip = record { upto = omega arith; long = strip.long ∙ f.long; each = each }
   where
@@ -60,9 +57,6 @@ pub record Unpacking (y : Layout) (l₀ : List Float) (j : ℕ) (l : List Float)
   pub long : length l ≡ length l₀
   pub each : (i c : ℕ) → i < c → c < j → get_or l (i + start_of y c) nan ≡ all_zero i c
   pub kept : (p : ℕ) → ((i c : ℕ) → i < c → c < j → p ≡ i + start_of y c → ⊥) → get_or l p nan ≡ get_or l₀ p nan
-
-pub unpacking_none : {y : Layout} {l : List Float} → Unpacking y l 0 l
-unpacking_none = record { upto = omega arith; long = refl; each = λ i c row column. absurd (omega arith); kept = λ p free. refl }
 
 pub unpacking_more : {y : Layout} {l₀ : List Float} {j : ℕ} {l l' : List Float} (s : ℕ) → Unpacking y l₀ j l → y.packed ≡ false → Roomy y → j < y.order → s ≡ start_of y j → Strip s 0 j zero_at l l' → Unpacking y l₀ (j + 1) l'
 unpacking_more {y} {l₀} {j} {l} {l'} s f plain roomy lt is strip' = record {

@@ -1,10 +1,10 @@
 -- What the tests of `solve_bench` answer, and what they tell where it goes on.
---     list_fits, list_wrong   the list's length
+--     list_fits, list_wrong         the list's length
 --     sides_answer … mark_answers   each part's answer where those before it are passed: that of all tests
---     as_solve                a list that fits: the answer of `solve_mut`
---     list_refused            one that does not: the other slices', or 4
---     bench_admitted          what is known where all tests hold
---     bench_solved            the promise, where they do and each own column is solved
+--     as_solve                      a list that fits: the answer of `solve_mut`
+--     list_refused                  one that does not: the other slices', or 4
+--     bench_admitted                what is known where all tests hold
+--     bench_solved                  the promise, where they do and each own column is solved
 use Rattle.std.proofs.Common.{Err, true, List, ◌++◌, ◌≡◌, refl, sym, ap, ◌∙◌, ℕ, Float, length, eq-eqb, ne_eqb, eqb-true}
 use Rattle.answer.specs.declared.Refusal.{Refusal}
 use Rattle.answer.specs.declared.Refusal.TheVariants.{SliceLength}
@@ -40,7 +40,7 @@ module _ (y : Layout) (columns run : ℕ) (a : List Float) (words : List ℕ) (b
   abbrev rest : List Test
   rest = word_tests y.order run words ++ mark_tests y.order words
 
-  -- each part's answer, where those before it are passed: that of all tests
+  -- ---- part by part
 
   pub sides_answer : {fault : Refusal} → Err fault ≡ tested (side_tests y columns a b) Done → Err fault ≡ tested (bench_tests y columns run a words b benches) Done
   sides_answer is = sym (joined_refused (side_tests y columns a b) (list_tests columns benches ++ rest) Done (sym is))

@@ -1,8 +1,8 @@
 -- Columns of a slice, lent and back.
---     column_small, column_long               one column has a place below 2²⁰ and n numbers
+--     column_long                             one column has n numbers
 --     number_at                               number i of column j stands at j·n + i
---     part_is, put_column, put_part           the part that is lent is the column; what comes back is `at_column`, or another column there
---     group_within, group_small, group_long   c columns lie within the slice, and the part has c·n numbers
+--     part_is, put_part                       the part that is lent is the column; what comes back is another column there
+--     group_within, group_long                c columns lie within the slice, and the part has c·n numbers
 --     group_put                               what comes back is the loop over the c columns
 use mathlib.Core.List.{List, ◌++◌, append_assoc}
 use mathlib.Core.Path.{◌≡◌, refl, sym, ap, ◌∙◌}
@@ -14,15 +14,10 @@ use lib.ListN.{length, get_or, take, drop, take-append-drop, length-drop}
 use lib.Seq.{length-take-le, get_or-take, get_or-drop, take-append-add, take-append-le, drop-append-add, drop-append-le}
 use Rattle.matrix.specs.Loop.{turns, for}
 use Rattle.matrix.specs.Columns.{at, column, at_column, each_column, Lined, ButColumn}
-use Rattle.matrix.proofs.Places.{product_small}
 use Rattle.matrix.proofs.Columns.{column_within, column_length, column_replaced, at_long}
 use Rattle.matrix.proofs.ColumnsLoops.{Keeping}
 
 -- ---- one column
-
-pub column_small : {A : Type 0} {n columns : ℕ} {b : List A} → n ≤ 1024 → Lined n columns b → (j : ℕ) → j < columns → j * n + n ≤ 1048576
-column_small {n = n} {columns} small lined j below =
-    omega (arith, column_within n columns j below, product_small n columns small lined.few)
 
 pub number_at : (n j : ℕ) (b : List Float) (i : ℕ) → i < n → get_or b (j * n + i) nan ≡ at (column n j b) i
 unfolding column
@@ -39,12 +34,6 @@ module _ {A : Type 0} (n j : ℕ) (b : List A) where
   pub column_long : (columns : ℕ) → Lined n columns b → j < columns → length (column n j b) ≡ n
   column_long columns lined below = column_length n j b (omega (arith, column_within n columns j below, lined.long))
 
-  pub put_column
-      : (f : List A → List A) {ys : List A} → ys ≡ f (column n j b)
-      → take (j * n) b ++ (ys ++ drop (j * n + n - j * n) (drop (j * n) b)) ≡ at_column n f j b
-  unfolding at_column
-  put_column f e = rw (span, e)
-
   pub put_part
       : {columns : ℕ} → Lined n columns b → j < columns → {ys : List A} → length ys ≡ n
       → {b' : List A} → b' ≡ take (j * n) b ++ (ys ++ drop (j * n + n - j * n) (drop (j * n) b))
@@ -58,9 +47,6 @@ module _ {A : Type 0} {n columns : ℕ} {b : List A} (lined : Lined n columns b)
   group_within =
       let rows : (j + c) * n ≤ columns * n = mul-le-mul_right n below in
       omega (arith, add-mul j c n, mul_comm columns n, lined.long)
-
-  pub group_small : n ≤ 1024 → j * n + c * n ≤ 1048576
-  group_small small = omega (arith, group_within, lined.long, product_small n columns small lined.few)
 
   pub group_long : length (take (j * n + c * n - j * n) (drop (j * n) b)) ≡ n * c
   group_long = length-take-le (j * n + c * n - j * n) (drop (j * n) b) (simp length-drop (omega (arith, group_within))) ∙ omega (arith, mul_comm c n)
