@@ -14,7 +14,7 @@ use answer::{Answer, Refusal};
 pub use engine::answer_to;
 use matrix::Layout;
 
-// What came of a call with a floor, and how many columns used it.
+// What came of a call with a floor, and how many columns used it: a struct, since the count is promised on a refusal too.
 #[derive(Clone, Copy)]
 pub struct Floored {
     pub answer: Answer,

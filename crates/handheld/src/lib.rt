@@ -90,12 +90,6 @@ pub fn factor(matrix: [Column3; 3]) -> Factored
     assembled(n, steps::all(numbers::lower(n)))
 }
 
-fn wide(word: u32) -> usize
-    ensures { result ≡ word }
-{
-    word as usize
-}
-
 // What the lent solve answers: the pivots' rule, then the mark. Nine numbers and three there are by their types.
 fn check(matrix: [Column3; 3], p: Pivots3, side: Column3) -> Answer
     ensures { (run : ℕ) → result ≡ tested (solve_tests (full 3) 1 run (numbers_of matrix) (record_of run p) side.row) Done }
@@ -114,7 +108,7 @@ pub fn solve(matrix: [Column3; 3], pivots: Pivots3, side: Column3) -> Result<Col
     ensures { SolvedByValue matrix pivots side result }
 {
     check(matrix, pivots, side)?;
-    let last = wide(pivots.index[2]);
+    let last = pivots.index[2] as usize;
     let n = numbers::of_columns(matrix, last);
     let b = numbers::of_column(side, last);
     let s = sides::by_blocks(numbers::lower(n), pivots, b);

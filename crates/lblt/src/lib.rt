@@ -17,7 +17,7 @@ mod notes;
 
 pub use notes::first_mark;
 
-// The row reached, and the first mark: 0, or the marked row + 1.
+// The row reached, and the first mark, as the lent record has it: 0, or the marked row + 1.
 #[derive(Clone, Copy)]
 struct Reached {
     row: usize,
@@ -64,6 +64,7 @@ fn steps(y: Layout, a: &mut [f64], words: &mut [u32]) -> u32
 {
     let n = y.order;
     let mut s = Reached { row: 0, mark: 0 };
+    // A `while`: a step takes one row or two, as it finds its pivot.
     while s.row < n {
         s = s.step(y, a, words);
     }

@@ -48,7 +48,7 @@ fn check(
     Ok(())
 }
 
-// One item: the number of its solve's answer comes back.
+// One item: the number of its solve's answer comes back, as the lent slice is to hold it.
 fn item(a: &mut [f64], words: &mut [u32], b: &mut [f64], n: usize, run: u32) -> u64
     requires { Item n a.old words.old b.old }
     ensures { ItemSolved n run a.old words.old b.old result a.new words.new b.new }

@@ -37,6 +37,7 @@ pub fn size(words: &[u32], row: usize) -> usize
     words[2 * row + 1] as usize
 }
 
+// The word as the lent record has it, 0 for none.
 pub fn mark(words: &[u32], n: usize) -> usize
     requires { mark_word n < length words.now }
     ensures { result ≡ mark_at n words.now }
@@ -112,6 +113,7 @@ fn fault(words: &[u32], n: usize) -> Option<usize>
     ensures { result ≡ fault_found n words.now }
 {
     let mut k: usize = 0;
+    // A `loop`: a block has one or two rows, as the record says, and the first that breaks the rule ends it.
     loop {
         if n <= k {
             break None;

@@ -37,6 +37,18 @@ fn judge_in(list: &[i32], mark: u32, run: u32, room: &mut [u32], n: usize) -> An
     pivots::check(words, n).map_err(|fault| Refusal::BadList(fault.place()))
 }
 
+// The same with room for N words.
+fn judge_among<const N: usize>(list: &[i32], mark: u32, run: u32, n: usize) -> Answer
+    requires list_len { length list.now ≡ n }
+    requires n_bound { n ≤ 1024 }
+    requires n_in_bounds { words_of n ≤ N }
+    requires room_bound { N ≤ 4096 }
+    ensures { result ≡ tested (rule_tests BadList n (record_of list.now mark run)) Done }
+{
+    let mut room = [0u32; N];
+    judge_in(list, mark, run, &mut room, n)
+}
+
 // The same in a room of its own.
 pub fn judge(list: &[i32], mark: u32, run: u32, n: usize) -> Answer
     requires list_len { length list.now ≡ n }
@@ -44,9 +56,7 @@ pub fn judge(list: &[i32], mark: u32, run: u32, n: usize) -> Answer
     ensures { result ≡ tested (rule_tests BadList n (record_of list.now mark run)) Done }
 {
     if n <= 64 {
-        let mut room = [0u32; pivots::WORDS_OF_64];
-        return judge_in(list, mark, run, &mut room, n);
+        return judge_among::<{ pivots::WORDS_OF_64 }>(list, mark, run, n);
     }
-    let mut room = [0u32; pivots::WORDS_OF_1024];
-    judge_in(list, mark, run, &mut room, n)
+    judge_among::<{ pivots::WORDS_OF_1024 }>(list, mark, run, n)
 }

@@ -23,7 +23,7 @@ fn factor_and_write(a: &mut [f64], words: &mut [u32], n: usize, out: &mut [u8]) 
     put_page(out, n, words, a, determinant)
 }
 
-// Done, or the sheet's first wrong line; and where the response ends.
+// Done, or the sheet's first wrong line; and where the response ends, which a refusal has too.
 #[derive(Clone, Copy)]
 pub struct Responded {
     pub answer: Answer,

@@ -21,6 +21,7 @@ fn read_input(rt: &HostRuntime, buf: &mut [u8]) -> Result<usize>
 {
     let mut stdin = rt.stdin();
     let mut length = 0;
+    // A `while`: each read says how far it came.
     while length < buf.len() {
         let more = stdin.read(&mut buf[length..])?;
         if more == 0 {

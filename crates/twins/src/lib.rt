@@ -61,10 +61,11 @@ fn entry_bits(y: Layout, a: &[f64], i: usize, j: usize) -> u64
 fn mix(fingerprint: u64, bits: u64) -> u64
     ensures { result ≡ mixed fingerprint bits }
 {
-    let twice = std::num::wrapping_add_u64(fingerprint, fingerprint);
-    let thrice = std::num::wrapping_add_u64(twice, fingerprint);
+    let thrice = fingerprint
+        .wrapping_add(fingerprint)
+        .wrapping_add(fingerprint);
     let turned = thrice % 0x200_0000_0000 * 0x80_0000 + thrice / 0x200_0000_0000;
-    std::num::wrapping_add_u64(turned, bits)
+    turned.wrapping_add(bits)
 }
 
 // Column c brings entry (i, c) to row i at its place c and to row c at its place i. The rows before c are whole.
@@ -172,22 +173,15 @@ fn first_pair(y: Layout, a: &[f64], fingerprints: &mut [u64], earlier: usize) ->
     None
 }
 
-fn first_of_few(y: Layout, a: &[f64], earlier: usize) -> Option<Pair>
+// With room for N rows.
+fn first_among<const N: usize>(y: Layout, a: &[f64], earlier: usize) -> Option<Pair>
     requires laid { Laid y a.now }
-    requires order_bound { y.order ≤ 32 }
+    requires order_bound { y.order ≤ N }
+    requires n_bound { N ≤ 1024 }
     requires earlier_le_order { earlier ≤ y.order }
     ensures { First y.order (load (lower y) a.now) earlier result }
 {
-    let mut fingerprints = [0u64; 32];
-    first_pair(y, a, &mut fingerprints, earlier)
-}
-
-fn first_of_many(y: Layout, a: &[f64], earlier: usize) -> Option<Pair>
-    requires laid { Laid y a.now }
-    requires earlier_le_order { earlier ≤ y.order }
-    ensures { First y.order (load (lower y) a.now) earlier result }
-{
-    let mut fingerprints = [0u64; 1024];
+    let mut fingerprints = [0u64; N];
     first_pair(y, a, &mut fingerprints, earlier)
 }
 
@@ -197,9 +191,9 @@ pub fn first_twin_on(y: Layout, a: &[f64], earlier: usize) -> Found
 {
     y.check(earlier, a.len())?;
     if y.order <= 32 {
-        return Ok(first_of_few(y, a, earlier));
+        return Ok(first_among::<32>(y, a, earlier));
     }
-    Ok(first_of_many(y, a, earlier))
+    Ok(first_among::<1024>(y, a, earlier))
 }
 
 // The same of the first n rows of a room.

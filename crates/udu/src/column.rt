@@ -10,8 +10,8 @@ ghost use Rattle.udu.specs.inner.Contracts.{Zeros, factors_in, multiples_of, quo
 use std::array;
 use strips::Source;
 
-// The last column: its diagonal and, unless that is zero, p times the diagonal's inverse. Answers whether it is zero. One function for this column and the
-// further ones takes a sixth longer at order 3.
+// The last column: its diagonal and, unless that is zero, p times the diagonal's inverse. Answers whether it is zero: the promise
+// says so of both (`ColumnStep`). One function for this column and the further ones takes a sixth longer at order 3.
 pub fn last(p: &[f64], u: &mut [f64], d: &mut [f64], n: usize) -> bool
     requires { UduSized n p.now u.old d.old }
     ensures { ColumnStep n (n - 1) p.now u.old d.old result u.new d.new }

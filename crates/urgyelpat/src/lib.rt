@@ -1,4 +1,5 @@
-// The calls through the C convention: a slice is a pointer and then a length, an answer is one number, code·4,096 + place.
+// The calls through the C convention: a slice is a pointer and then a length, an answer is one number, code·4,096 + place, and what comes back beside it
+// stands with it in a struct: C has no Result.
 #![tactic(auto)]
 
 ghost use Rattle.std.specs.Prelude.{◌≡◌};

@@ -1,5 +1,4 @@
 -- `first_pair` meets its contract. Assumes nothing.
-use Rattle.std.proofs.Common.{◌-◌}
 use Rattle.matrix.specs.Grid.{load}
 use Rattle.matrix.specs.Layouts.{lower}
 use Rattle.twins.proofs.Search.{Between}
