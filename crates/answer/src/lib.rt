@@ -2,7 +2,7 @@
 #![tactic(auto)]
 
 ghost use Rattle.std.specs.Prelude.{◌≡◌};
-ghost use Rattle.answer.specs.Number.{refusal_code, refusal_place, refusal_number, number_of};
+ghost use Rattle.answer.specs.Number.{refusal_code, refusal_place, refusal_number, code_of, place_of, number_of};
 
 #[derive(Clone, Copy, Debug, PartialEq, Eq)]
 pub enum Refusal {
@@ -84,6 +84,26 @@ impl Refusal {
         ensures { result ≡ refusal_number self }
     {
         (self.code() as u64) * 4096 + (self.place() as u64)
+    }
+}
+
+// The code of an answer: 0 where all is done.
+pub fn code(answer: Answer) -> u8
+    ensures { result ≡ code_of answer }
+{
+    match answer {
+        Ok(()) => 0,
+        Err(refusal) => refusal.code(),
+    }
+}
+
+// Its place: 0 where all is done.
+pub fn place(answer: Answer) -> u32
+    ensures { result ≡ place_of answer }
+{
+    match answer {
+        Ok(()) => 0,
+        Err(refusal) => refusal.place(),
     }
 }
 

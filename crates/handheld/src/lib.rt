@@ -100,7 +100,7 @@ fn check(matrix: [Column3; 3], p: Pivots3, side: Column3) -> Answer
         p.index[0], p.size[0], p.index[1], p.size[1], p.index[2], p.size[2], p.mark, 0,
     ];
     pivots::check(&words, 3)?;
-    lblt_solve::check_mark(&words, 3)
+    lblt_solve::check_mark_word(&words, 3)
 }
 
 // Solves A x = b, from a factor and its pivots. Pivots that break their rule, then a mark, are refused.

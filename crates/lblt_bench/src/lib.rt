@@ -36,8 +36,8 @@ fn check(
 {
     lblt_read::check_sides(y, columns, a, b)?;
     check_list(benches, columns)?;
-    lblt_read::check_record(words, y.order, run)?;
-    lblt_solve::check_mark(words, y.order)
+    lblt_read::check_words(words, y.order, run)?;
+    lblt_solve::check_mark_word(words, y.order)
 }
 
 // Solves A x = b for those columns of b, n numbers a column, whose number in `benches` is `bench`.

@@ -56,6 +56,7 @@ fn column_max(y: Layout, a: &[f64], k: usize) -> Largest
     ensures { result ≡ column_max y.order (load (lower y) a.now) k }
 {
     let n = y.order;
+    // No rows are left: the rule has 0 here.
     if n <= k + 1 {
         return Largest {
             imax: 0,

@@ -40,7 +40,7 @@ pub fn product(y: Layout, a: &[f64], words: &[u32]) -> f64
 {
     let mut x = 1.0;
     let mut k = 0;
-    // A `while`: a block has one or two rows, as the record says.
+    // A `while`: a block has one or two rows, as the record says, so that no range goes over them.
     while k < y.order {
         x *= determinant_at(y, a, words, k);
         k += pivots::size(words, k);
@@ -84,7 +84,7 @@ fn put_blocks(y: Layout, a: &[f64], words: &[u32], d: &mut [f64])
     ensures { Fills y.order d.new (forwards y.order words.now (diagonal_block (load (lower y) a.now) words.now) (load (square y.order) d.old)) }
 {
     let mut k = 0;
-    // A `while`: a block has one or two rows, as the record says.
+    // A `while`: a block has one or two rows, as the record says, so that no range goes over them.
     while k < y.order {
         put_block(y, a, words, d, k);
         k += pivots::size(words, k);

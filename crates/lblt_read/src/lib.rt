@@ -5,8 +5,8 @@ mod diagonal;
 mod permuted;
 mod square;
 
-ghost use Rattle.std.specs.Prelude.{◌≡◌, ◌≤◌};
-ghost use Rattle.answer.specs.Answer.{Done};
+ghost use Rattle.std.specs.Prelude.{true, cond, ◌≡◌, ◌≤◌};
+ghost use Rattle.answer.specs.Answer.{Done, is_done};
 ghost use Rattle.answer.specs.Refusals.{tested};
 ghost use Rattle.matrix.specs.Grid.{load};
 ghost use Rattle.matrix.specs.Layouts.{full, lower};
@@ -20,7 +20,7 @@ use matrix::Layout;
 // ---- what every reader refuses, in the order of the table
 
 // The record and its run number.
-pub fn check_record(words: &[u32], n: usize, run: u32) -> Answer
+pub fn check_words(words: &[u32], n: usize, run: u32) -> Answer
     requires { n ≤ 1024 }
     ensures { result ≡ tested (word_tests n run words.now) Done }
 {
@@ -34,12 +34,21 @@ pub fn check_record(words: &[u32], n: usize, run: u32) -> Answer
     Ok(())
 }
 
+// The same after other tests: `sizes` is their answer.
+pub fn check_record(sizes: Answer, words: &[u32], n: usize, run: u32) -> Answer
+    requires { is_done sizes ≡ true → n ≤ 1024 }
+    ensures { result ≡ cond (is_done sizes) (tested (word_tests n run words.now) Done) sizes }
+{
+    sizes?;
+    check_words(words, n, run)
+}
+
 // The factor, then the record.
 fn check_factor(y: Layout, a: &[f64], words: &[u32], run: u32) -> Answer
     ensures { result ≡ tested (reader_tests y run a.now words.now) Done }
 {
     y.check(0, a.len())?;
-    check_record(words, y.order, run)
+    check_words(words, y.order, run)
 }
 
 // The sizes of a factor and of a slice b of columns.
@@ -77,7 +86,7 @@ pub fn d(a: &[f64], words: &[u32], d: &mut [f64], n: usize, run: u32) -> Answer
 {
     let y = Layout::full(n);
     check_sides(y, n, a, d)?;
-    check_record(words, n, run)?;
+    check_words(words, n, run)?;
     diagonal::fill(y, a, words, d);
     Ok(())
 }
@@ -88,7 +97,7 @@ pub fn l_permuted(a: &[f64], words: &[u32], l: &mut [f64], n: usize, run: u32) -
 {
     let y = Layout::full(n);
     check_sides(y, n, a, l)?;
-    check_record(words, n, run)?;
+    check_words(words, n, run)?;
     permuted::fill(y, a, words, l);
     Ok(())
 }

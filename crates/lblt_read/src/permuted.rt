@@ -55,7 +55,7 @@ fn permute_blocks(y: Layout, a: &[f64], words: &[u32], l: &mut [f64])
     ensures { Fills y.order l.new (forwards y.order words.now (permuted_block y.order (load (lower y) a.now) words.now) (load (square y.order) l.old)) }
 {
     let mut k = 0;
-    // A `while`: a block has one or two rows, as the record says.
+    // A `while`: a block has one or two rows, as the record says, so that no range goes over them.
     while k < y.order {
         permute_block(y, a, words, l, k);
         k += pivots::size(words, k);

@@ -3,8 +3,8 @@
 
 pub mod sides;
 
-ghost use Rattle.std.specs.Prelude.{◌≡◌};
-ghost use Rattle.answer.specs.Answer.{Done};
+ghost use Rattle.std.specs.Prelude.{true, cond, ◌≡◌};
+ghost use Rattle.answer.specs.Answer.{Done, is_done};
 ghost use Rattle.answer.specs.Refusals.{tested};
 ghost use Rattle.matrix.specs.Layouts.{full};
 ghost use Rattle.pivots.specs.Rule.{Accepted};
@@ -14,7 +14,7 @@ use answer::{Answer, Refusal};
 use matrix::Layout;
 
 // The mark of a record that a reader accepts.
-pub fn check_mark(words: &[u32], n: usize) -> Answer
+pub fn check_mark_word(words: &[u32], n: usize) -> Answer
     requires { Accepted n words.now }
     ensures { result ≡ tested (mark_tests n words.now) Done }
 {
@@ -25,13 +25,22 @@ pub fn check_mark(words: &[u32], n: usize) -> Answer
     Err(Refusal::ZeroMark((mark - 1) as u32))
 }
 
+// The same after a reader's tests: `read` is their answer.
+pub fn check_mark(read: Answer, words: &[u32], n: usize) -> Answer
+    requires { is_done read ≡ true → Accepted n words.now }
+    ensures { result ≡ cond (is_done read) (tested (mark_tests n words.now) Done) read }
+{
+    read?;
+    check_mark_word(words, n)
+}
+
 // What a reader of a factor refuses, then a zero mark.
 fn check(y: Layout, columns: usize, a: &[f64], words: &[u32], b: &[f64], run: u32) -> Answer
     ensures { result ≡ tested (solve_tests y columns run a.now words.now b.now) Done }
 {
     lblt_read::check_sides(y, columns, a, b)?;
-    lblt_read::check_record(words, y.order, run)?;
-    check_mark(words, y.order)
+    lblt_read::check_words(words, y.order, run)?;
+    check_mark_word(words, y.order)
 }
 
 // Solves A x = b for each of the columns of b, n numbers a column, in a layout that is no larger than its order.

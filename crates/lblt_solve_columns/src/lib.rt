@@ -55,7 +55,7 @@ fn reduce<S: Steps>(steps: S, y: Layout, a: &[f64], words: &[u32], b: &mut [f64]
 {
     let n = y.order;
     let mut k: usize = 0;
-    // A `while`: a block has one or two rows, as the record says.
+    // A `while`: a block has one or two rows, as the record says, so that no range goes over them.
     while k < n {
         k = reduce_block(steps, y, a, words, b, k);
     }
@@ -96,7 +96,7 @@ fn backward<S: Steps>(steps: S, y: Layout, a: &[f64], words: &[u32], b: &mut [f6
     ensures { b.new ≡ each_column y.order (S.columns steps) (backwards y.order words.now (backward_block y.order (load (lower y) a.now) words.now)) b.old }
 {
     let mut k = y.order;
-    // A `while`: a block has one or two rows, as the record says.
+    // A `while`: a block has one or two rows, as the record says, so that no range goes over them.
     while 0 < k {
         k = backward_block(steps, y, a, words, b, k);
     }

@@ -183,7 +183,7 @@ fn top_of(t: Triangle, one: f64, two: f64) -> Top
     }
 }
 
-// At row 0.
+// At row 0. The handheld has the same for itself: with one for both, its two calls take half as long again.
 fn choose_first(t: Triangle) -> Choice
     ensures { result ≡ choose 3 (matrix_of t) 0 }
 {

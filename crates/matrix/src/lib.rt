@@ -12,7 +12,8 @@ ghost use Rattle.answer.specs.Answer.{Done};
 
 use answer::{Answer, Refusal};
 
-// Where the lower triangle of a matrix stands: `order` rows and columns in a room of room·room numbers, or, packed, of room·(room + 1)/2.
+// Where the lower triangle of a matrix stands: `order` rows and columns in a room of room·room numbers, or, packed, of room·(room + 1)/2. A flag and no enum: the
+// definitions of specs/ speak of both kinds by it, and `offset` works with it without a branch.
 #[derive(Clone, Copy)]
 pub struct Layout {
     pub order: usize,
@@ -46,7 +47,7 @@ impl Layout {
     {
         Layout {
             order: n,
-            room: room,
+            room,
             packed: false,
         }
     }

@@ -113,7 +113,7 @@ fn fault(words: &[u32], n: usize) -> Option<usize>
     ensures { result ≡ fault_found n words.now }
 {
     let mut k: usize = 0;
-    // A `loop`: a block has one or two rows, as the record says, and the first that breaks the rule ends it.
+    // A `loop`: a block has one or two rows, as the record says, so that no range goes over them, and the first that breaks the rule ends it.
     loop {
         if n <= k {
             break None;

@@ -48,10 +48,7 @@ pub fn factor(a: &mut [f64], r: &mut [u32]) -> Outcome {
     let factored = handheld::factor(columns(*a));
     *a = numbers(factored.matrix);
     *r = words(factored.pivots);
-    Outcome {
-        answer: 0,
-        value: 0,
-    }
+    Outcome::done(0)
 }
 
 pub fn solve(a: &[f64], b: &mut [f64], r: &[u32]) -> Outcome {

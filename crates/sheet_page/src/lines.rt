@@ -73,16 +73,10 @@ impl<'a> Page<'a> {
         self.bits(leaf::to_bits(det));
     }
 
-    // An answer that is done has code and place 0.
     pub fn refusal(&mut self, r: Answer)
         ensures { Wrote self.old (refusal_of r) self.new }
     {
-        match r {
-            Ok(()) => self.pair_line(b"refused\t", 0, 0),
-            Err(refusal) => {
-                let code = usize::from(refusal.code());
-                self.pair_line(b"refused\t", code, refusal.place() as usize);
-            }
-        }
+        let code = usize::from(answer::code(r));
+        self.pair_line(b"refused\t", code, answer::place(r) as usize);
     }
 }

@@ -1,9 +1,9 @@
 -- The promise of `first_twin_since` fixes its answer, and its number tells the three kinds of answer apart. Assumes nothing.
-use Rattle.std.proofs.Common.{◌≡◌, ℕ, ◌+◌, ◌/◌, ◌%◌, ◌<◌, List, Float, Option, Some, None, Ok, Err, IsOkAnd, sym, refl, ap, ◌∙◌, subst, arith}
+use Rattle.std.proofs.Common.{◌≡◌, ℕ, ◌+◌, ◌/◌, ◌%◌, ◌<◌, List, Float, Option, Some, None, Ok, Err, Result, IsOkAnd, sym, refl, ap, ◌∙◌, subst, arith}
 use borrow.Author.Tests.{eqb-false}
 use Rattle.answer.specs.declared.Refusal.{Refusal}
 use Rattle.answer.specs.Answer.{Answer, is_done}
-use Rattle.answer.specs.Number.{refusal_code, refusal_place}
+use Rattle.answer.specs.Number.{refusal_code, code_of, place_of, number_of}
 use Rattle.answer.proofs.Done.{done_by_code}
 use Rattle.matrix.specs.Matrix.{Matrix}
 use Rattle.matrix.specs.declared.Layout.{Layout}
@@ -70,8 +70,8 @@ pub pair_number : (p q : ℕ) → p < 4096
     → (twin_number (Ok (Some (record { first = p; second = q }))) / 4096 ≡ 4096 + q) × (twin_number (Ok (Some (record { first = p; second = q }))) % 4096 ≡ p)
 pair_number p q below = (omega arith, omega arith)
 
-pub pair_above : (p q : ℕ) (r : Refusal) → refusal_place r < 4096 → refusal_code r < 4096 → twin_number (Err r) < twin_number (Ok (Some (record { first = p; second = q })))
-pair_above p q r place code = omega arith
+pub pair_above : {A : Type 0} (p q : ℕ) (a : Result A Refusal) → place_of a < 4096 → code_of a < 4096 → number_of a < twin_number (Ok (Some (record { first = p; second = q })))
+pair_above p q a place code = omega arith
 
 pub refusal_above : (r : Refusal) → twin_number (Ok None) < twin_number (Err r)
 refusal_above r = omega (arith, eqb-false (refusal_code r) 0 (sym (done_by_code {A = Unit {0}} (Err r))))

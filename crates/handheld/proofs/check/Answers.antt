@@ -15,5 +15,5 @@ returns-in_err-check c = λ run.
 pub returns : goal.returns
 unfolding record_of
 returns c = λ run.
-    c.check_mark.ensures
+    c.check_mark_word.ensures
     ∙ check_answers (numbers_of c.args.matrix) c.args.side.row (ap length c.of_columns.ensures) (ap length c.of_column.ensures) c.args.p run Done c.in_ok-check.ensures

@@ -13,20 +13,20 @@ returns-in_err-check_list c =
     rw (handed_on _ c.from_residual-in_err-check_list.ensures.1)
     (list_answers c.args.y c.args.columns c.args.run c.args.a.now c.args.words.now c.args.b.now c.args.benches.now c.in_ok-check_sides.ensures c.in_err-check_list.ensures)
 
-pub check_record-requires : goal.check_record-requires
-check_record-requires c = sides_small c.args.y c.args.columns c.args.a.now c.args.b.now c.in_ok-check_sides.ensures
+pub check_words-requires : goal.check_words-requires
+check_words-requires c = sides_small c.args.y c.args.columns c.args.a.now c.args.b.now c.in_ok-check_sides.ensures
 
-pub returns-in_err-check_record : goal.returns-in_err-check_record
-returns-in_err-check_record c =
-    rw (handed_on _ c.from_residual-in_err-check_record.ensures.1)
-    (words_answer c.args.y c.args.columns c.args.run c.args.a.now c.args.words.now c.args.b.now c.args.benches.now c.in_ok-check_sides.ensures c.in_ok-check_list.ensures c.in_err-check_record.ensures)
+pub returns-in_err-check_words : goal.returns-in_err-check_words
+returns-in_err-check_words c =
+    rw (handed_on _ c.from_residual-in_err-check_words.ensures.1)
+    (words_answer c.args.y c.args.columns c.args.run c.args.a.now c.args.words.now c.args.b.now c.args.benches.now c.in_ok-check_sides.ensures c.in_ok-check_list.ensures c.in_err-check_words.ensures)
 
-pub check_mark-requires : goal.check_mark-requires
-check_mark-requires c =
+pub check_mark_word-requires : goal.check_mark_word-requires
+check_mark_word-requires c =
     words_accepted c.args.y.order c.args.run c.args.words.now
-    (sides_small c.args.y c.args.columns c.args.a.now c.args.b.now c.in_ok-check_sides.ensures) c.in_ok-check_record.ensures
+    (sides_small c.args.y c.args.columns c.args.a.now c.args.b.now c.in_ok-check_sides.ensures) c.in_ok-check_words.ensures
 
 pub returns : goal.returns
 returns c =
     mark_answers c.args.y c.args.columns c.args.run c.args.a.now c.args.words.now c.args.b.now c.args.benches.now
-    c.in_ok-check_sides.ensures c.in_ok-check_list.ensures c.in_ok-check_record.ensures c.check_mark.ensures
+    c.in_ok-check_sides.ensures c.in_ok-check_list.ensures c.in_ok-check_words.ensures c.check_mark_word.ensures

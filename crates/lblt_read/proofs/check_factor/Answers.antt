@@ -13,10 +13,10 @@ returns-in_err-check c =
     rw (handed_on _ c.from_residual.ensures.1)
     (sym (joined_refused (size_tests c.args.y 0 (length c.args.a.now)) (word_tests c.args.y.order c.args.run c.args.words.now) Done (sym c.in_err-check.ensures)))
 
-pub check_record-requires : goal.check_record-requires
-check_record-requires c = order_small c.args.y c.args.a.now c.in_ok-check.ensures
+pub check_words-requires : goal.check_words-requires
+check_words-requires c = order_small c.args.y c.args.a.now c.in_ok-check.ensures
 
 pub returns : goal.returns
 returns c =
-    c.check_record.ensures
+    c.check_words.ensures
     ∙ sym (joined_passed (size_tests c.args.y 0 (length c.args.a.now)) (word_tests c.args.y.order c.args.run c.args.words.now) Done (sym c.in_ok-check.ensures))

@@ -9,25 +9,25 @@ returns-in_err-check_sides c =
     rw (handed_on _ c.from_residual.ensures.1)
     (sides_refuse (full c.args.n) _ _ _ _ (rw c.full-y.ensures at c.in_err-check_sides.ensures))
 
-pub check_record-requires : goal.check_record-requires
-check_record-requires c =
+pub check_words-requires : goal.check_words-requires
+check_words-requires c =
     sides_small (full c.args.n) c.args.n c.args.a.now c.args.d.now (rw c.full-y.ensures at c.in_ok-check_sides.ensures)
 
-pub returns-in_err-check_record : goal.returns-in_err-check_record
-returns-in_err-check_record c =
-    rw (handed_on _ c.from_residual-in_err-check_record.ensures.1)
-    (words_refuse (full c.args.n) _ _ _ _ (rw c.full-y.ensures at c.in_ok-check_sides.ensures) c.in_err-check_record.ensures)
+pub returns-in_err-check_words : goal.returns-in_err-check_words
+returns-in_err-check_words c =
+    rw (handed_on _ c.from_residual-in_err-check_words.ensures.1)
+    (words_refuse (full c.args.n) _ _ _ _ (rw c.full-y.ensures at c.in_ok-check_sides.ensures) c.in_err-check_words.ensures)
 
 pub fill-requires-clause-readable : goal.fill-requires-clause-readable
 fill-requires-clause-readable c =
     rw c.full-y.ensures
-    (fills_readable (full c.args.n) _ c.args.a.now _ c.args.d.now (rw c.full-y.ensures at c.in_ok-check_sides.ensures) c.in_ok-check_record.ensures)
+    (fills_readable (full c.args.n) _ c.args.a.now _ c.args.d.now (rw c.full-y.ensures at c.in_ok-check_sides.ensures) c.in_ok-check_words.ensures)
 
 pub fill-requires-clause-squared : goal.fill-requires-clause-squared
 fill-requires-clause-squared c =
     rw c.full-y.ensures
-    (fills_squared (full c.args.n) _ c.args.a.now _ c.args.d.now (rw c.full-y.ensures at c.in_ok-check_sides.ensures) c.in_ok-check_record.ensures)
+    (fills_squared (full c.args.n) _ c.args.a.now _ c.args.d.now (rw c.full-y.ensures at c.in_ok-check_sides.ensures) c.in_ok-check_words.ensures)
 
 pub returns : goal.returns
 returns c =
-    fills (full c.args.n) _ _ _ _ (rw c.full-y.ensures at c.in_ok-check_sides.ensures) c.in_ok-check_record.ensures (rw c.full-y.ensures at c.fill.ensures)
+    fills (full c.args.n) _ _ _ _ (rw c.full-y.ensures at c.in_ok-check_sides.ensures) c.in_ok-check_words.ensures (rw c.full-y.ensures at c.fill.ensures)

@@ -14,22 +14,22 @@ returns-in_err-check_sides c =
     (solve_refused c.args.y c.args.columns c.args.run c.args.a.now c.args.words.now c.args.b.now
     (sym (joined_refused (side_tests c.args.y c.args.columns c.args.a.now c.args.b.now) (word_tests c.args.y.order c.args.run c.args.words.now) Done (sym c.in_err-check_sides.ensures))))
 
-pub check_record-requires : goal.check_record-requires
-check_record-requires c = sides_small c.args.y c.args.columns c.args.a.now c.args.b.now c.in_ok-check_sides.ensures
+pub check_words-requires : goal.check_words-requires
+check_words-requires c = sides_small c.args.y c.args.columns c.args.a.now c.args.b.now c.in_ok-check_sides.ensures
 
-pub returns-in_err-check_record : goal.returns-in_err-check_record
-returns-in_err-check_record c =
-    rw (handed_on _ c.from_residual-in_err-check_record.ensures.1)
+pub returns-in_err-check_words : goal.returns-in_err-check_words
+returns-in_err-check_words c =
+    rw (handed_on _ c.from_residual-in_err-check_words.ensures.1)
     (solve_refused c.args.y c.args.columns c.args.run c.args.a.now c.args.words.now c.args.b.now
-    (columns_answers c.args.y c.args.columns c.args.run c.args.a.now c.args.words.now c.args.b.now c.in_ok-check_sides.ensures c.in_err-check_record.ensures))
+    (columns_answers c.args.y c.args.columns c.args.run c.args.a.now c.args.words.now c.args.b.now c.in_ok-check_sides.ensures c.in_err-check_words.ensures))
 
-pub check_mark-requires : goal.check_mark-requires
-check_mark-requires c =
+pub check_mark_word-requires : goal.check_mark_word-requires
+check_mark_word-requires c =
     words_accepted c.args.y.order c.args.run c.args.words.now
-    (sides_small c.args.y c.args.columns c.args.a.now c.args.b.now c.in_ok-check_sides.ensures) c.in_ok-check_record.ensures
+    (sides_small c.args.y c.args.columns c.args.a.now c.args.b.now c.in_ok-check_sides.ensures) c.in_ok-check_words.ensures
 
 pub returns : goal.returns
 returns c =
     solve_answers c.args.y c.args.columns c.args.run c.args.a.now c.args.words.now c.args.b.now
-    (columns_answers c.args.y c.args.columns c.args.run c.args.a.now c.args.words.now c.args.b.now c.in_ok-check_sides.ensures c.in_ok-check_record.ensures)
-    c.check_mark.ensures
+    (columns_answers c.args.y c.args.columns c.args.run c.args.a.now c.args.words.now c.args.b.now c.in_ok-check_sides.ensures c.in_ok-check_words.ensures)
+    c.check_mark_word.ensures

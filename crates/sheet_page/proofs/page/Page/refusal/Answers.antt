@@ -4,12 +4,7 @@ use Rattle.sheet_page.specs.Page.{refusal_of}
 use Rattle.sheet_page.proofs.Wrote.{wrote_same}
 use Rattle.sheet_page.proofs.page.Page.refusal.Goals as goal
 
-pub returns-in-Ok : goal.returns-in-Ok
+pub returns : goal.returns
 unfolding refusal_of
-returns-in-Ok c = rw c.in-Ok.is c.pair_line.ensures
-
-pub returns-in-Err : goal.returns-in-Err
-unfolding refusal_of
-returns-in-Err c =
-    rw c.in-Err.is
-    (wrote_same (ap₂ (λ (code place : ℕ). bytes "refused\t" ++ (field code tab ++ field place lf)) (c.from-code.ensures ∙ c.code.ensures) c.place.ensures) c.pair_line-in-Err.ensures)
+returns c =
+    wrote_same (ap₂ (λ (code place : ℕ). bytes "refused\t" ++ (field code tab ++ field place lf)) (c.from-code.ensures ∙ c.code.ensures) c.place.ensures) c.pair_line.ensures

@@ -1,8 +1,8 @@
--- `check_record`: the record's length, then its rule, then its run number.
+-- `check_words`: the record's length, then its rule, then its run number.
 use Rattle.std.proofs.Common.{sym, ◌∙◌}
 use Rattle.answer.proofs.Done.{handed_on}
 use Rattle.lblt_read.proofs.Admitted.{record_short, record_broken, record_other, record_expected}
-use Rattle.lblt_read.proofs.check_record.Goals as goal
+use Rattle.lblt_read.proofs.check_words.Goals as goal
 
 pub returns-then-words : goal.returns-then-words
 returns-then-words c = record_short c.args.n c.args.run c.args.words.now (λ e. c.if-words.true (e ∙ sym c.words.ensures))
