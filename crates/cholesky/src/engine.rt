@@ -95,18 +95,22 @@ fn subtract<const W: usize>(y: Layout, a: &mut [f64], r: usize, j: usize, k: usi
     strips::axpy(a, y.start(j), r, y.order, columns);
 }
 
-// The rows from r on of column j, less what the columns before it take: four at a time, then the others.
+// The rows from r on of column j, less what the columns before it take: four at a time, then the others. A `while`: a turn takes four columns or one. With `for`
+// in its place the compiler prepares a whole column's places before the first turn, and a strip of few rows takes up to 1.4 times as long.
 fn update(y: Layout, a: &mut [f64], r: usize, j: usize)
     requires laid { Laid y a.old }
     requires reach { Reach y r j }
     ensures { Leaves y a.old a.new (updates r j (load (lower y) a.old)) }
 {
-    let others = j - j % 4;
-    for k in (0..others).step_by(4) {
-        subtract::<4>(y, a, r, j, k);
-    }
-    for k in others..j {
-        subtract::<1>(y, a, r, j, k);
+    let mut k: usize = 0;
+    while k < j {
+        if k + 4 <= j {
+            subtract::<4>(y, a, r, j, k);
+            k += 4;
+        } else {
+            subtract::<1>(y, a, r, j, k);
+            k += 1;
+        }
     }
 }
 
