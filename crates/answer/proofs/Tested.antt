@@ -1,4 +1,5 @@
 -- The laws of a list of tests.
+--   tests_refuse no test answers that all is done
 --   tested_all   all tests hold: the answer is what comes after them
 --   tested_at    a test fails and those before it hold: the answer is its refusal
 --   tested_join  one list after another
@@ -7,6 +8,8 @@
 --   tested_fixed refused: the answer does not hang on what comes after
 --   tested_passed, tested_refused  by the answer of the tests alone: what comes after answers, or it does not count
 --   joined_passed, joined_refused  the same of further tests
+--   tested_then  the answer of further tests where the first are passed, else theirs: that of both lists
+--   then_done    done: the first are passed, and the further ones too
 -- Assumes nothing.
 use Rattle.std.specs.Prelude.{◌≡◌, Bool, true, false, cond, List, [], ◌∷◌, ◌++◌, ◌⊎◌, Result, Ok, Err}
 use mathlib.Core.Path.{refl, sym, ◌∙◌, ap}
@@ -35,6 +38,14 @@ Each P (t ∷ tests) = P t.refusal × Each P tests
 pub each_join : (P : Refusal → Type 0) (tests more : List Test) → Each P tests → Each P more → Each P (tests ++ more)
 each_join P [] more each rest = rest
 each_join P (t ∷ tests) more each rest = (each.0, each_join P tests more each.1 rest)
+
+-- no test answers that all is done
+abbrev pub Refusals : List Test → Type 0
+Refusals = Each (λ r. is_done {A = Unit {0}} (Err r) ≡ false)
+
+pub tests_refuse : (tests : List Test) → Refusals tests
+tests_refuse [] = tt
+tests_refuse (t ∷ tests) = (refl, tests_refuse tests)
 
 pub tested_all : {A : Type 0} (tests : List Test) (r : Result A Refusal) → AllHold tests → tested tests r ≡ r
 unfolding tested
@@ -117,6 +128,14 @@ joined_passed tests more r passed = tested_join tests more r ∙ tested_passed t
 
 pub joined_refused : {A : Type 0} (tests more : List Test) (r : Result A Refusal) {refusal : Refusal} → tested tests Done ≡ Err refusal → tested (tests ++ more) r ≡ Err refusal
 joined_refused tests more r refused = tested_join tests more r ∙ tested_refused tests (tested more r) refused
+
+pub tested_then : (tests more : List Test) {s r : Answer} → s ≡ tested tests Done → r ≡ cond (is_done s) (tested more Done) s → r ≡ tested (tests ++ more) Done
+tested_then tests more {s = Ok tt} first then = then ∙ sym (joined_passed tests more Done (sym first))
+tested_then tests more {s = Err refusal} first then = then ∙ sym (joined_refused tests more Done (sym first))
+
+pub then_done : {A : Type 0} (s t : Result A Refusal) {r : Result A Refusal} → r ≡ cond (is_done s) t s → is_done r ≡ true → (is_done s ≡ true) × (is_done t ≡ true)
+then_done (Ok x) t then done = (refl, ap is_done (sym then) ∙ done)
+then_done (Err refusal) t then done = absurd (true≢false (sym done ∙ ap is_done then))
 
 -- ---- what is left behind
 

@@ -1,2 +1,3 @@
+pub mod NoNan
 pub mod Choices
 pub mod Range

@@ -1,7 +1,8 @@
 -- What the tests of a reader answer, and what they tell where it goes on.
 --     record_short … columns_many     a law for each way out
 --     words_accepted … columns_done   what is known where all tests hold
---     sides_refuse … fills            what `d` and `l_permuted` answer and leave
+--     words_refuse … columns_refuse   no test answers that all is done
+--     sides_refused … fills           what `d` and `l_permuted` answer and leave
 use Rattle.std.proofs.Common.{◌≡◌, true, false, List, [], ◌∷◌, ◌++◌, ℕ, ◌*◌, ◌≤◌, ◌<◌, eqb, Float, length, Err, refl, sym, ap, ◌∙◌, arith, le-leb, leb-true, eq-eqb, ne_eqb, eqb-true}
 use Rattle.std.proofs.lemmas.Bool.{lt-leb}
 use Rattle.answer.specs.declared.Refusal.{Refusal}
@@ -9,7 +10,7 @@ use Rattle.answer.specs.declared.Refusal.TheVariants.{OutOfRange, SliceLength, O
 use Rattle.answer.specs.Answer.{Answer, Done, is_done}
 use Rattle.answer.specs.Refusals.{Test, ◌otherwise◌, tested}
 use Rattle.answer.proofs.Done.{done_is}
-use Rattle.answer.proofs.Tested.{tested_all, tested_join, tested_passed, tested_refused, joined_passed, joined_refused, all_hold, leaving_done, leaving_refused}
+use Rattle.answer.proofs.Tested.{Refusals, tests_refuse, tested_all, tested_join, tested_passed, tested_refused, joined_passed, joined_refused, all_hold, leaving_done, leaving_refused}
 use Rattle.matrix.specs.declared.Layout.{Layout}
 use Rattle.matrix.specs.Matrix.{Matrix}
 use Rattle.matrix.specs.Layouts.{Fills}
@@ -156,18 +157,29 @@ columns_done y columns run a words b passed =
       long = known.long;
     }
 
+-- ---- no test of a reader answers that all is done
+
+pub words_refuse : (n run : ℕ) (words : List ℕ) → Refusals (word_tests n run words)
+words_refuse n run words = tests_refuse (word_tests n run words)
+
+pub sides_refuse : (y : Layout) (columns : ℕ) (a b : List Float) → Refusals (side_tests y columns a b)
+sides_refuse y columns a b = tests_refuse (side_tests y columns a b)
+
+pub columns_refuse : (y : Layout) (columns run : ℕ) (a : List Float) (words : List ℕ) (b : List Float) → Refusals (column_tests y columns run a words b)
+columns_refuse y columns run a words b = tests_refuse (column_tests y columns run a words b)
+
 -- ---- a matrix M of the order, to be filled in
 
 module _ (y : Layout) (run : ℕ) (a : List Float) (words : List ℕ) (l : List Float) where
   refuses : {M : Matrix} {fault : Refusal} → Err fault ≡ tested (column_tests y y.order run a words l) Done → LbltFilled y run a words M l (Err fault) l
   refuses is = record { answer = is; left = leaving_refused refl refl }
 
-  pub sides_refuse : {M : Matrix} {fault : Refusal} → Err fault ≡ tested (side_tests y y.order a l) Done → LbltFilled y run a words M l (Err fault) l
-  sides_refuse is = refuses (sym (joined_refused (side_tests y y.order a l) (word_tests y.order run words) Done (sym is)))
+  pub sides_refused : {M : Matrix} {fault : Refusal} → Err fault ≡ tested (side_tests y y.order a l) Done → LbltFilled y run a words M l (Err fault) l
+  sides_refused is = refuses (sym (joined_refused (side_tests y y.order a l) (word_tests y.order run words) Done (sym is)))
 
   module _ (sized : Done ≡ tested (side_tests y y.order a l) Done) where
-    pub words_refuse : {M : Matrix} {fault : Refusal} → Err fault ≡ tested (word_tests y.order run words) Done → LbltFilled y run a words M l (Err fault) l
-    words_refuse is = refuses (columns_answers y y.order run a words l sized is)
+    pub words_refused : {M : Matrix} {fault : Refusal} → Err fault ≡ tested (word_tests y.order run words) Done → LbltFilled y run a words M l (Err fault) l
+    words_refused is = refuses (columns_answers y y.order run a words l sized is)
 
     module _ (read : Done ≡ tested (word_tests y.order run words) Done) where
       passed : Done ≡ tested (column_tests y y.order run a words l) Done

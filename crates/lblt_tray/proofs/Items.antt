@@ -2,6 +2,7 @@
 --     item_laid, item_factored     its slices fit, so that its factor is done
 --     one_solved                   an item's parts, lent out of the tray and back
 --     more_before                  one item more
+--     each_solved                  all items
 use mathlib.Core.List.{List, ◌++◌}
 use mathlib.Core.Logic.{⊎_elim}
 use mathlib.Core.Path.{◌≡◌, refl, sym, ap, subst, ◌∙◌}
@@ -21,7 +22,7 @@ use Rattle.pivots.specs.Words.{words_of}
 use Rattle.lblt.specs.Factor.{Factored}
 use Rattle.lblt.specs.inner.Engine.{Filled}
 use Rattle.lblt.proofs.Done.{done}
-use Rattle.lblt_tray.specs.Tray.{ItemSolved, ItemAt, matrix_at, record_at, side_at}
+use Rattle.lblt_tray.specs.Tray.{ItemSolved, ItemAt, matrix_at, record_at, side_at, EachSolved}
 use Rattle.lblt_tray.specs.inner.Engine.{Item, Trayed, OneSolved, SolvedBefore}
 
 -- ---- one item
@@ -106,3 +107,6 @@ module _ {n : ℕ} {a : List Float} {words : List ℕ} {b : List Float} {runs an
         earlier i lower =
             let apart : i ≡ t → ⊥ = λ (e : i ≡ t). omega arith in
             rw (o.matrices.others i apart, o.records.others i apart, o.sides.others i apart, o.others i apart) (s.before i lower)
+
+    pub each_solved : {count : ℕ} → count ≤ t → EachSolved n count a words b runs answers a₁ words₁ b₁ answers₁
+    each_solved all = record { matrices = s.matrices; records = s.records; sides = s.sides; answered = s.answered; items = λ i less. s.before i (omega arith) }

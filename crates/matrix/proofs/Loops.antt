@@ -1,5 +1,5 @@
 -- The laws of loops.
---   for_none for_one for_two             no turn, one, two
+--   for_none for_one for_two for_four    no turn, one, two, four
 --   for_more for_first for_at            the last turn, the first, one in between
 --   for_join                             one loop after another
 --   for_shift                            turns counted from m on
@@ -42,6 +42,9 @@ next lo k f s e =
 
 pub for_two : {S : Type 0} (lo : ℕ) (f : ℕ → S → S) (s : S) → for lo (lo + 2) f s ≡ f (lo + 1) (f lo s)
 for_two lo f s = next lo 1 f s (for_one lo f s)
+
+pub for_four : {S : Type 0} (lo : ℕ) (f : ℕ → S → S) (s : S) → for lo (lo + 4) f s ≡ f (lo + 3) (f (lo + 2) (f (lo + 1) (f lo s)))
+for_four lo f s = next lo 3 f s (next lo 2 f s (for_two lo f s))
 
 -- one loop after another
 pub for_join : {S : Type 0} (lo mid hi : ℕ) (f : ℕ → S → S) (s : S) → lo ≤ mid → mid ≤ hi → for mid hi f (for lo mid f s) ≡ for lo hi f s

@@ -1,6 +1,7 @@
 pub mod Unique
 pub mod Lists
 pub mod Runs
+pub mod Refused
 pub mod FactorPlaces
 pub mod RulePlaces
 pub mod ReaderPlaces
