@@ -2,7 +2,7 @@
 ghost use Rattle.std.specs.Prelude.{◌≡◌, ◌+◌, ◌<◌};
 ghost use Rattle.matrix.specs.Grid.{load, Holds};
 ghost use Rattle.matrix.specs.Layouts.{lower, square, Fills, Laid};
-ghost use Rattle.pivots.specs.Blocks.{by_size, forwards};
+ghost use Rattle.pivots.specs.Blocks.{by_size, rows_of, forwards};
 ghost use Rattle.lblt_solve_columns.specs.Column.{block_determinant};
 ghost use Rattle.lblt_read.specs.Diagonal.{determinant_of, diagonal_two, diagonal_block, d_of};
 ghost use Rattle.lblt_solve_columns.specs.inner.Engine.{Readable};
@@ -21,16 +21,17 @@ fn block_determinant(y: Layout, a: &[f64], k: usize) -> f64
     matrix::get(y, a, k, k) * matrix::get(y, a, k + 1, k + 1) - d21 * d21
 }
 
-// The determinant of the block at row k.
-fn determinant_at(y: Layout, a: &[f64], words: &[u32], k: usize) -> f64
+// The determinant of the block at row k, and how many rows the block has.
+fn determinant_at(y: Layout, a: &[f64], words: &[u32], k: usize) -> (f64, usize)
     requires laid { Laid y a.now }
     requires block_at { BlockAt y.order words.now k }
-    ensures { result ≡ by_size words.now k (load (lower y) a.now k k) (block_determinant (load (lower y) a.now) k) }
+    ensures determinant { result.0 ≡ by_size words.now k (load (lower y) a.now k k) (block_determinant (load (lower y) a.now) k) }
+    ensures rows { result.1 ≡ rows_of words.now k }
 {
     if pivots::size(words, k) == 1 {
-        matrix::get(y, a, k, k)
+        (matrix::get(y, a, k, k), 1)
     } else {
-        block_determinant(y, a, k)
+        (block_determinant(y, a, k), 2)
     }
 }
 
@@ -42,8 +43,9 @@ pub fn product(y: Layout, a: &[f64], words: &[u32]) -> f64
     let mut k = 0;
     // A `while`: a block has one or two rows, as the record says, so that no range goes over them.
     while k < y.order {
-        x *= determinant_at(y, a, words, k);
-        k += pivots::size(words, k);
+        let (determinant, rows) = determinant_at(y, a, words, k);
+        x *= determinant;
+        k += rows;
     }
     x
 }
