@@ -44,7 +44,9 @@ pub fn clear(a: &mut [f64], at: usize, lo: usize, hi: usize)
     requires at_in_bounds { hi + at ≤ length a.old }
     ensures { Strip at lo hi zero_at a.old a.new }
 {
-    a[lo + at..hi + at].fill(0.0);
+    for i in lo..hi {
+        a[i + at] = 0.0;
+    }
 }
 
 // Rows lo to hi of the column at `to`: those of the column of b at `from`.
@@ -54,5 +56,7 @@ pub fn copy(b: &[f64], a: &mut [f64], from: usize, to: usize, lo: usize, hi: usi
     requires to_in_bounds { hi + to ≤ length a.old }
     ensures { Strip to lo hi (row_at b.now from) a.old a.new }
 {
-    a[lo + to..hi + to].copy_from_slice(&b[lo + from..hi + from]);
+    for i in lo..hi {
+        a[i + to] = b[i + from];
+    }
 }

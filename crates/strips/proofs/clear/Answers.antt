@@ -1,8 +1,7 @@
 -- `clear` meets its contract. Assumes nothing.
-use Rattle.std.proofs.Common.{rules}
-use Rattle.std.proofs.lemmas.List.{places}
-use Rattle.strips.proofs.Strips.{strip_part}
+use mathlib.Core.Path.{refl}
+use Rattle.strips.proofs.Strips.{strip_more}
 use Rattle.strips.proofs.clear.Goals as goal
 
-pub returns : goal.returns
-returns c = strip_part c.args.a.now _ c.requires.lo_le_hi c.requires.at_in_bounds (let e = c.fill.ensures.len in search (rules, places)) (λ i from upto. let e = c.fill.ensures in search (rules, places))
+pub loop-i-preserved : goal.loop-i-preserved
+loop-i-preserved c = strip_more _ c.loop-i.invariant c.loop-i-test.true c.requires.at_in_bounds refl
