@@ -1,7 +1,10 @@
 -- The fingerprints of rows: twin rows have one fingerprint, and column after column brings its entries to the fingerprints. Assumes nothing.
-use Rattle.std.proofs.Common.{◌≡◌, ℕ, ◌+◌, ◌-◌, ◌*◌, ◌/◌, ◌<◌, ◌≤◌, false, eqb, List, length, get_or, set, take, drop, replicate, sym, refl, ap, ◌∙◌, subst, ap₂, ⊎_elim, true≢false, eq-or-lt_of_le, ne_of_gt, ne_of_lt, arith, length-set, length-drop, get_or-set_other, get_or-set_same}
+use Rattle.std.proofs.Common.{◌≡◌, ℕ, ◌+◌, ◌-◌, ◌*◌, ◌/◌, ◌%◌, ◌^◌, ◌<◌, ◌≤◌, false, eqb, List, length, get_or, set, take, drop, replicate, sym, refl, ap, ◌∙◌, subst, ap₂, ⊎_elim, true≢false, eq-or-lt_of_le, ne_of_gt, ne_of_lt, arith, length-set, length-drop, get_or-set_other, get_or-set_same}
+use Rattle.std.proofs.lemmas.Nat.{mod-pow-add, shl-shr, or_shifted}
 use Rattle.std.proofs.lemmas.List.{get_or-take, get_or-drop, length-take-le}
 use Rattle.std.specs.List.{IsAnyAnswer}
+use Rattle.std.specs.Int.{w64, rotate_left}
+use Rattle.std.specs.Int.RustNames.{bit_or}
 use borrow.Author.Tests.{eqb-false}
 use native.Mathlib.Decide.{dec_lt}
 use lib.ListN.{get_or-replicate}
@@ -10,8 +13,16 @@ use Rattle.matrix.specs.Matrix.{Matrix}
 use Rattle.matrix.proofs.Loops.{for_none, for_more, for_same}
 use Rattle.twins.specs.Twins.{symmetric, Twins}
 use Rattle.twins.specs.inner.Search.{Told}
-use Rattle.twins.specs.inner.Fingerprints.{mixed, mix_entry, fingerprint_of, Cleared, Fingerprinted, Apart, OthersPassed, Brought}
+use Rattle.twins.specs.inner.Fingerprints.{turned, mixed, mix_entry, fingerprint_of, Cleared, Fingerprinted, Apart, OthersPassed, Brought}
 use Rattle.twins.proofs.Clauses.{at_lower, at_upper}
+
+-- 64 bits turned by a rotation
+pub turned_left : (x : ℕ) → x < 2 ^ 64 → rotate_left w64 x 23 ≡ turned x
+unfolding turned
+turned_left x small =
+    let low : x * 2 ^ 23 % 2 ^ 23 ≡ 0 = omega arith in
+    let high : x * 2 ^ 23 % 2 ^ 64 ≡ x % 2 ^ 41 * 2 ^ 23 = omega (arith, mod-pow-add (x * 2 ^ 23) 41 23, shl-shr x 23, low) in
+    ap (λ (b : ℕ). bit_or b (x / 2 ^ 41)) high ∙ or_shifted (x % 2 ^ 41) 23 (x / 2 ^ 41) (omega arith)
 
 one_fingerprint : (n : ℕ) (M : Matrix) (p q : ℕ) → Twins n M p q → fingerprint_of n M p ≡ fingerprint_of n M q
 unfolding fingerprint_of mix_entry

@@ -57,15 +57,14 @@ fn entry_bits(y: Layout, a: &[f64], i: usize, j: usize) -> u64
     lower_bits(y, a, j, i)
 }
 
-#[tactic(auto, unfolding(crate::specs::inner::Fingerprints::turned, crate::specs::inner::Fingerprints::mixed))]
+#[tactic(auto, using(crate::proofs::Fingerprints::turned_left), unfolding(crate::specs::inner::Fingerprints::mixed))]
 fn mix(fingerprint: u64, bits: u64) -> u64
     ensures { result ≡ mixed fingerprint bits }
 {
     let thrice = fingerprint
         .wrapping_add(fingerprint)
         .wrapping_add(fingerprint);
-    let turned = thrice % 0x200_0000_0000 * 0x80_0000 + thrice / 0x200_0000_0000;
-    turned.wrapping_add(bits)
+    thrice.rotate_left(23).wrapping_add(bits)
 }
 
 // Column c brings entry (i, c) to row i at its place c and to row c at its place i. The rows before c are whole.
