@@ -1,17 +1,19 @@
--- What the check answers, by what is found: a law for each way out.
-use Rattle.std.specs.Prelude.{Err}
-use mathlib.Core.Bool.{cond, and-false}
+-- What the check answers, by what is found: a law for each way out. `rule_by`: the rule with another refusal answers by the check's place.
+use Rattle.std.specs.Prelude.{Result, Err}
+use mathlib.Core.Bool.{Bool, true, false, cond, and-false}
 use mathlib.Core.List.{List}
-use mathlib.Core.Path.{◌≡◌, sym, ◌∙◌}
+use mathlib.Core.Path.{◌≡◌, refl, sym, ◌∙◌}
 use Prim.Native.Nat.{ℕ, ◌-◌, ◌<◌, ◌≤◌}
 use native.Mathlib.Omega.{arith}
-use lib.Dec.{eqb}
+use lib.Dec.{eqb, leb}
 use borrow.Author.Tests.{eq-eqb, ne_eqb, le-leb, lt-leb}
+use Rattle.answer.specs.declared.Refusal.{Refusal}
 use Rattle.answer.specs.declared.Refusal.TheVariants.{BadRecord}
-use Rattle.answer.specs.Answer.{Done}
+use Rattle.answer.specs.Answer.{Done, is_done}
+use Rattle.answer.specs.Number.{place_of}
 use Rattle.pivots.specs.Words.{index_at, size_at, mark_at}
 use Rattle.answer.specs.Refusals.{tested}
-use Rattle.pivots.specs.Rule.{fault_of, own_pivot, checked}
+use Rattle.pivots.specs.Rule.{fault_of, own_pivot, sound_mark, rule_tests, checked}
 
 module _ (n : ℕ) (words : List ℕ) where
   pub row_broken : {row : ℕ} → row ≡ fault_of n words → row < n → Err (BadRecord row) ≡ checked n words
@@ -41,3 +43,19 @@ module _ (n : ℕ) (words : List ℕ) where
 
       pub mark_sound : size_at words (mark - 1) ≡ 1 → index_at words (mark - 1) ≡ mark - 1 → Done ≡ checked n words
       mark_sound one own = sym (by_its_row ∙ rw (one, eq-eqb (index_at words (mark - 1)) (mark - 1) own))
+
+  -- ---- with another refusal
+
+  pub rule_by
+      : {A : Type 0} (broken : ℕ → Refusal) (r : Result A Refusal)
+      → tested (rule_tests broken n words) r ≡ cond (is_done (checked n words)) r (Err (broken (place_of (checked n words))))
+  unfolding checked tested
+  rule_by {A} broken r = by (leb n (fault_of n words)) (sound_mark n words)
+    where
+      by : (rows mark : Bool)
+          → cond rows (cond mark r (Err (broken n))) (Err (broken (fault_of n words)))
+          ≡ cond (is_done (cond rows (cond mark Done (Err (BadRecord n))) (Err (BadRecord (fault_of n words))))) r
+          (Err (broken (place_of (cond rows (cond mark Done (Err (BadRecord n))) (Err (BadRecord (fault_of n words)))))))
+      by true true = refl
+      by true false = refl
+      by false mark = refl
