@@ -21,17 +21,17 @@ fn block_determinant(y: Layout, a: &[f64], k: usize) -> f64
     matrix::get(y, a, k, k) * matrix::get(y, a, k + 1, k + 1) - d21 * d21
 }
 
-// The determinant of the block at row k, and how many rows the block has.
+// The determinant of the block at row k, and the row after the block.
 fn determinant_at(y: Layout, a: &[f64], words: &[u32], k: usize) -> (f64, usize)
     requires laid { Laid y a.now }
     requires block_at { BlockAt y.order words.now k }
     ensures determinant { result.0 ≡ by_size words.now k (load (lower y) a.now k k) (block_determinant (load (lower y) a.now) k) }
-    ensures rows { result.1 ≡ rows_of words.now k }
+    ensures next { result.1 ≡ k + rows_of words.now k }
 {
     if pivots::size(words, k) == 1 {
-        (matrix::get(y, a, k, k), 1)
+        (matrix::get(y, a, k, k), k + 1)
     } else {
-        (block_determinant(y, a, k), 2)
+        (block_determinant(y, a, k), k + 2)
     }
 }
 
@@ -43,9 +43,9 @@ pub fn product(y: Layout, a: &[f64], words: &[u32]) -> f64
     let mut k = 0;
     // A `while`: a block has one or two rows, as the record says, so that no range goes over them.
     while k < y.order {
-        let (determinant, rows) = determinant_at(y, a, words, k);
+        let (determinant, next) = determinant_at(y, a, words, k);
         x *= determinant;
-        k += rows;
+        k = next;
     }
     x
 }
