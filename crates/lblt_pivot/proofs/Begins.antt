@@ -1,11 +1,10 @@
--- A loop over rows whose first row may have been done before it, and a loop in two parts. Assumes nothing.
+-- A loop over rows whose first row may have been done before it. Assumes nothing.
 use mathlib.Core.List.{List}
-use mathlib.Core.Path.{◌≡◌}
 use Prim.Native.Nat.{ℕ, ◌+◌, ◌<◌}
 use native.Mathlib.Omega.{arith}
 use lib.Ieee.{Float}
 use Rattle.matrix.specs.Matrix.{Matrix}
-use Rattle.matrix.specs.Grid.{Grid, Sound, load, Holds}
+use Rattle.matrix.specs.Grid.{Sound, load, Holds}
 use Rattle.matrix.specs.Layouts.{lower}
 use Rattle.matrix.specs.Loop.{for}
 use Rattle.matrix.specs.declared.Layout.{Layout}
@@ -26,7 +25,3 @@ module _ {y : Layout} {row : ℕ} {f : ℕ → Matrix → Matrix} {a : List Floa
   pub begun_all : {i : ℕ} {a' a'' : List Float} → Begun y row f a i a' → Holds (lower y) a' a'' (for i y.order f (load (lower y) a')) → Holds (lower y) a a'' (for row y.order f (load (lower y) a))
   begun_all {i} begun rest =
       holds_as (holds_then (λ (M : Matrix). for i y.order f M) begun.holds rest) (for_join row i y.order f (load (lower y) a) begun.from begun.upto)
-
--- the same turns and the same slice, under other names
-pub turned_at : {g : Grid} {lo hi : ℕ} {f : ℕ → Matrix → Matrix} {l₀ : List Float} {i i' : ℕ} {l l' : List Float} → i ≡ i' → l' ≡ l → Turned g lo hi f l₀ i l → Turned g lo hi f l₀ i' l'
-turned_at turn same t = rw (← turn, same) t

@@ -39,11 +39,13 @@ pub fn all<U: Update>(u: U, y: Layout, a: &mut [f64], first: usize)
     ensures { Holds (lower y) a.old a.new (for first y.order (U.column u y.order) (load (lower y) a.old)) }
 {
     let n = y.order;
-    let last = n - (n - first) % 2;
-    for j in (first..last).step_by(2) {
+    let mut j = first;
+    // A `while`: with a `for` over the pairs, LLVM ends the loop over their rows across a line of 32 bytes, and a factor takes up to a third longer.
+    while j + 1 < n {
         u.two(y, a, j);
+        j += 2;
     }
-    for j in last..n {
+    if j < n {
         u.one(y, a, j);
     }
 }
