@@ -1,8 +1,8 @@
 -- The laws of the engine's work on one column. Assumes nothing.
 use mathlib.Core.Path.{◌≡◌, refl, sym, ◌∙◌, ap, ap₂, subst}
-use mathlib.Core.List.{List}
+use mathlib.Core.List.{List, [], ◌∷◌}
 use mathlib.Core.Logic.{inl}
-use Prim.Native.Nat.{ℕ, ◌+◌, ◌-◌, ◌≤◌, ◌<◌}
+use Prim.Native.Nat.{ℕ, zero, suc, ◌+◌, ◌-◌, ◌≤◌, ◌<◌}
 use native.Mathlib.Omega.{arith}
 use lib.ListN.{length, get_or}
 use lib.Ieee.{Float, nan, neg}
@@ -35,6 +35,15 @@ source_elsewhere {y} {l} {r} {j} {k} {to} {s} laid reach before is at = record {
   within = column_inside laid (omega arith) is.start;
   beside = inl (let apart = columns_apart y k j before (omega (arith, laid.roomy.ordered, reach.column)) in omega (arith, is.start, reach.from, laid.roomy.ordered));
 }
+
+-- four columns from k on
+pub sourced_four : {y : Layout} {l : List Float} {j k : ℕ} {s t u v : Source} → Sourced y l j k s → Sourced y l j (k + 1) t → Sourced y l j (k + 2) u → Sourced y l j (k + 3) v
+    → (c : ℕ) (x : Source) → c < 4 → Sourced y l j (k + c) (get_or (s ∷ t ∷ u ∷ v ∷ []) c x)
+sourced_four {y} {l} {j} {k} {s} first second third fourth zero x below = let here : k ≡ k + 0 = omega arith in subst (λ (n : ℕ). Sourced y l j n s) here first
+sourced_four first second third fourth (suc zero) x below = second
+sourced_four first second third fourth (suc (suc zero)) x below = third
+sourced_four first second third fourth (suc (suc (suc zero))) x below = fourth
+sourced_four first second third fourth (suc (suc (suc (suc c)))) x below = absurd (omega arith)
 
 -- column k on its way to column j
 column_on : Layout → List Float → ℕ → ℕ → Source

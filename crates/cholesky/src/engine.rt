@@ -13,7 +13,6 @@ ghost use Rattle.cholesky.specs.inner.Engine.{Reach, Sourced, less_columns, Judg
 use crate::Floored;
 use answer::{Answer, Refusal};
 use matrix::Layout;
-use std::array;
 use strips::Source;
 
 // What stands for a diagonal that is let through, and how many columns used the floor there: 1 if it stood in, else 0.
@@ -74,24 +73,21 @@ fn source(y: Layout, a: &[f64], j: usize, k: usize) -> Source
     }
 }
 
-// The W columns from k on, and what they are multiplied by.
-fn sources<const W: usize>(y: Layout, a: &[f64], j: usize, k: usize) -> [Source; W]
-    requires laid { Laid y a.now }
-    requires k_bound { k + W ≤ j }
-    requires j_lt_order { j < y.order }
-    ensures { (c : ℕ) (s : _) → c < W → Sourced y a.now j (k + c) (slice_index_or result c s) }
-{
-    array::from_fn(|c| source(y, a, j, k + c))
-}
-
 // The rows from r on of column j, less what the W columns from k on take.
-fn subtract<const W: usize>(y: Layout, a: &mut [f64], r: usize, j: usize, k: usize)
+fn subtract<const W: usize>(
+    y: Layout,
+    a: &mut [f64],
+    r: usize,
+    j: usize,
+    k: usize,
+    columns: [Source; W],
+)
     requires laid { Laid y a.old }
     requires reach { Reach y r j }
     requires k_bound { k + W ≤ j }
+    requires sourced { (c : ℕ) (s : _) → c < W → Sourced y a.old j (k + c) (slice_index_or columns c s) }
     ensures { Leaves y a.old a.new (part r j (less_columns (load (lower y) a.old) j k (k + W)) (load (lower y) a.old)) }
 {
-    let columns: [Source; W] = sources(y, a, j, k);
     strips::axpy(a, y.start(j), r, y.order, columns);
 }
 
@@ -105,10 +101,17 @@ fn update(y: Layout, a: &mut [f64], r: usize, j: usize)
     let mut k: usize = 0;
     while k < j {
         if k + 4 <= j {
-            subtract::<4>(y, a, r, j, k);
+            let columns = [
+                source(y, a, j, k),
+                source(y, a, j, k + 1),
+                source(y, a, j, k + 2),
+                source(y, a, j, k + 3),
+            ];
+            subtract(y, a, r, j, k, columns);
             k += 4;
         } else {
-            subtract::<1>(y, a, r, j, k);
+            let columns = [source(y, a, j, k)];
+            subtract(y, a, r, j, k, columns);
             k += 1;
         }
     }

@@ -1,6 +1,7 @@
 -- `engine::update` meets its contract. Assumes nothing.
 use native.Mathlib.Omega.{arith}
-use Rattle.cholesky.proofs.Columns.{updating_none, updating_more, updating_all}
+use Rattle.cholesky.proofs.Parts.{leaves_laid}
+use Rattle.cholesky.proofs.Columns.{sourced_four, updating_none, updating_more, updating_all}
 use Rattle.cholesky.proofs.engine.update.Goals as goal
 
 pub loop-k-init : goal.loop-k-init
@@ -14,3 +15,12 @@ loop-k-preserved c = updating_more 1 c.loop-k.invariant c.requires.reach (omega 
 
 pub returns : goal.returns
 returns c = updating_all c.loop-k.invariant c.loop-k-test.false
+
+pub subtract-requires : goal.subtract-requires
+subtract-requires c = (
+  omega arith,
+  (
+    leaves_laid c.requires.laid c.loop-k.invariant.leaves,
+    (c.requires.reach, (omega arith, sourced_four c.source.ensures c.source-then-k-j.ensures c.source-then-k-j-2.ensures c.source-then-k-j-3.ensures)),
+  ),
+)
