@@ -148,6 +148,10 @@ updating_more {y} {r} {j} {l₀} {k} {l} {l'} w u reach room step =
     cell i c le lt (above h) = part_above r j (less_columns L j k next) L i c h ∙ was.at i c le lt ∙ part_above r j (updated M j k) M i c h ∙ sym (part_above r j (updated M j next) M i c h)
     cell i c le lt (beside h) = part_beside r j (less_columns L j k next) L i c h ∙ other i c le lt h ∙ sym (part_beside r j (updated M j next) M i c h)
 
+-- the same count of columns and the same slice, under other names
+pub updating_at : {y : Layout} {r j : ℕ} {l₀ : List Float} {k k' : ℕ} {l l' : List Float} → k ≡ k' → l' ≡ l → Updating y r j l₀ k l → Updating y r j l₀ k' l'
+updating_at count same u = rw (← count, same) u
+
 pub updating_all : {y : Layout} {r j : ℕ} {l₀ : List Float} {k : ℕ} {l : List Float} → Updating y r j l₀ k l → j ≤ k → Leaves y l₀ l (updates r j (load (lower y) l₀))
 unfolding updates
 updating_all {y} {r} {j} {l₀} {k} {l} u past = subst (λ (k : ℕ). Leaves y l₀ l (part r j (updated (load (lower y) l₀) j k) (load (lower y) l₀))) (omega arith) u.leaves

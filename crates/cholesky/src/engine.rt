@@ -91,29 +91,26 @@ fn subtract<const W: usize>(
     strips::axpy(a, y.start(j), r, y.order, columns);
 }
 
-// The rows from r on of column j, less what the columns before it take: four at a time, then the others. A `while`: a turn takes four columns or one. With `for`
-// in its place the compiler prepares a whole column's places before the first turn, and a strip of few rows takes up to 1.4 times as long.
+// The rows from r on of column j, less what the columns before it take: four at a time, then the others. The columns are written out, so that the compiler
+// keeps their places as single numbers: made by `array::from_fn`, they cost a strip of few rows up to 1.4 times its time.
 fn update(y: Layout, a: &mut [f64], r: usize, j: usize)
     requires laid { Laid y a.old }
     requires reach { Reach y r j }
     ensures { Leaves y a.old a.new (updates r j (load (lower y) a.old)) }
 {
-    let mut k: usize = 0;
-    while k < j {
-        if k + 4 <= j {
-            let columns = [
-                source(y, a, j, k),
-                source(y, a, j, k + 1),
-                source(y, a, j, k + 2),
-                source(y, a, j, k + 3),
-            ];
-            subtract(y, a, r, j, k, columns);
-            k += 4;
-        } else {
-            let columns = [source(y, a, j, k)];
-            subtract(y, a, r, j, k, columns);
-            k += 1;
-        }
+    let others = j - j % 4;
+    for k in (0..others).step_by(4) {
+        let columns = [
+            source(y, a, j, k),
+            source(y, a, j, k + 1),
+            source(y, a, j, k + 2),
+            source(y, a, j, k + 3),
+        ];
+        subtract(y, a, r, j, k, columns);
+    }
+    for k in others..j {
+        let columns = [source(y, a, j, k)];
+        subtract(y, a, r, j, k, columns);
     }
 }
 
