@@ -1,8 +1,8 @@
 -- The laws of the engine's work on one column. Assumes nothing.
 use mathlib.Core.Path.{◌≡◌, refl, sym, ◌∙◌, ap, ap₂, subst}
-use mathlib.Core.List.{List}
+use mathlib.Core.List.{List, [], ◌∷◌}
 use mathlib.Core.Logic.{inl}
-use Prim.Native.Nat.{ℕ, ◌+◌, ◌-◌, ◌≤◌, ◌<◌}
+use Prim.Native.Nat.{ℕ, zero, suc, ◌+◌, ◌-◌, ◌≤◌, ◌<◌}
 use native.Mathlib.Omega.{arith}
 use lib.ListN.{length, get_or}
 use lib.Ieee.{Float, nan, neg}
@@ -35,6 +35,15 @@ source_elsewhere {y} {l} {r} {j} {k} {to} {s} laid reach before is at = record {
   within = column_inside laid (omega arith) is.start;
   beside = inl (let apart = columns_apart y k j before (omega (arith, laid.roomy.ordered, reach.column)) in omega (arith, is.start, reach.from, laid.roomy.ordered));
 }
+
+-- four columns from k on
+pub sourced_four : {y : Layout} {l : List Float} {j k : ℕ} {s t u v : Source} → Sourced y l j k s → Sourced y l j (k + 1) t → Sourced y l j (k + 2) u → Sourced y l j (k + 3) v
+    → (c : ℕ) (x : Source) → c < 4 → Sourced y l j (k + c) (get_or (s ∷ t ∷ u ∷ v ∷ []) c x)
+sourced_four {y} {l} {j} {k} {s} first second third fourth zero x below = let here : k ≡ k + 0 = omega arith in subst (λ (n : ℕ). Sourced y l j n s) here first
+sourced_four first second third fourth (suc zero) x below = second
+sourced_four first second third fourth (suc (suc zero)) x below = third
+sourced_four first second third fourth (suc (suc (suc zero))) x below = fourth
+sourced_four first second third fourth (suc (suc (suc (suc c)))) x below = absurd (omega arith)
 
 -- column k on its way to column j
 column_on : Layout → List Float → ℕ → ℕ → Source
@@ -138,6 +147,10 @@ updating_more {y} {r} {j} {l₀} {k} {l} {l'} w u reach room step =
         (part_in r j (less_columns L j k next) L i from ∙ row i from lt ∙ sym (part_in r j (updated M j next) M i from))
     cell i c le lt (above h) = part_above r j (less_columns L j k next) L i c h ∙ was.at i c le lt ∙ part_above r j (updated M j k) M i c h ∙ sym (part_above r j (updated M j next) M i c h)
     cell i c le lt (beside h) = part_beside r j (less_columns L j k next) L i c h ∙ other i c le lt h ∙ sym (part_beside r j (updated M j next) M i c h)
+
+-- the same count of columns and the same slice, under other names
+pub updating_at : {y : Layout} {r j : ℕ} {l₀ : List Float} {k k' : ℕ} {l l' : List Float} → k ≡ k' → l' ≡ l → Updating y r j l₀ k l → Updating y r j l₀ k' l'
+updating_at count same u = rw (← count, same) u
 
 pub updating_all : {y : Layout} {r j : ℕ} {l₀ : List Float} {k : ℕ} {l : List Float} → Updating y r j l₀ k l → j ≤ k → Leaves y l₀ l (updates r j (load (lower y) l₀))
 unfolding updates

@@ -13,7 +13,6 @@ ghost use Rattle.cholesky.specs.inner.Engine.{Reach, Sourced, less_columns, Judg
 use crate::Floored;
 use answer::{Answer, Refusal};
 use matrix::Layout;
-use std::array;
 use strips::Source;
 
 // What stands for a diagonal that is let through, and how many columns used the floor there: 1 if it stood in, else 0.
@@ -74,43 +73,44 @@ fn source(y: Layout, a: &[f64], j: usize, k: usize) -> Source
     }
 }
 
-// The W columns from k on, and what they are multiplied by.
-fn sources<const W: usize>(y: Layout, a: &[f64], j: usize, k: usize) -> [Source; W]
-    requires laid { Laid y a.now }
-    requires k_bound { k + W ≤ j }
-    requires j_lt_order { j < y.order }
-    ensures { (c : ℕ) (s : _) → c < W → Sourced y a.now j (k + c) (slice_index_or result c s) }
-{
-    array::from_fn(|c| source(y, a, j, k + c))
-}
-
 // The rows from r on of column j, less what the W columns from k on take.
-fn subtract<const W: usize>(y: Layout, a: &mut [f64], r: usize, j: usize, k: usize)
+fn subtract<const W: usize>(
+    y: Layout,
+    a: &mut [f64],
+    r: usize,
+    j: usize,
+    k: usize,
+    columns: [Source; W],
+)
     requires laid { Laid y a.old }
     requires reach { Reach y r j }
     requires k_bound { k + W ≤ j }
+    requires sourced { (c : ℕ) (s : _) → c < W → Sourced y a.old j (k + c) (slice_index_or columns c s) }
     ensures { Leaves y a.old a.new (part r j (less_columns (load (lower y) a.old) j k (k + W)) (load (lower y) a.old)) }
 {
-    let columns: [Source; W] = sources(y, a, j, k);
     strips::axpy(a, y.start(j), r, y.order, columns);
 }
 
-// The rows from r on of column j, less what the columns before it take: four at a time, then the others. A `while`: a turn takes four columns or one. With `for`
-// in its place the compiler prepares a whole column's places before the first turn, and a strip of few rows takes up to 1.4 times as long.
+// The rows from r on of column j, less what the columns before it take: four at a time, then the others. The columns are written out, so that the compiler
+// keeps their places as single numbers: made by `array::from_fn`, they cost a strip of few rows up to 1.4 times its time.
 fn update(y: Layout, a: &mut [f64], r: usize, j: usize)
     requires laid { Laid y a.old }
     requires reach { Reach y r j }
     ensures { Leaves y a.old a.new (updates r j (load (lower y) a.old)) }
 {
-    let mut k: usize = 0;
-    while k < j {
-        if k + 4 <= j {
-            subtract::<4>(y, a, r, j, k);
-            k += 4;
-        } else {
-            subtract::<1>(y, a, r, j, k);
-            k += 1;
-        }
+    let others = j - j % 4;
+    for k in (0..others).step_by(4) {
+        let columns = [
+            source(y, a, j, k),
+            source(y, a, j, k + 1),
+            source(y, a, j, k + 2),
+            source(y, a, j, k + 3),
+        ];
+        subtract(y, a, r, j, k, columns);
+    }
+    for k in others..j {
+        let columns = [source(y, a, j, k)];
+        subtract(y, a, r, j, k, columns);
     }
 }
 

@@ -12,11 +12,11 @@ axpy-requires g c = (
     c.requires.reach.upto,
     (
       column_inside c.requires.laid c.requires.reach.column c.start.ensures,
-      λ k s below. let w : k < g.row.W = search rules in source_elsewhere c.requires.laid c.requires.reach (omega arith) (c.sources-columns.ensures k s w) c.start.ensures,
+      λ k s below. let w : k < g.row.W = search rules in source_elsewhere c.requires.laid c.requires.reach (omega arith) (c.requires.sourced k s w) c.start.ensures,
     ),
   ),
 )
 
 pub returns : goal.returns
 returns g c =
-    subtract_leaves c.requires.laid c.args.k g.row.W c.sources-columns.result c.requires.reach c.requires.k_bound c.start.ensures (search rules) c.sources-columns.ensures c.axpy.ensures
+    subtract_leaves c.requires.laid c.args.k g.row.W c.args.columns c.requires.reach c.requires.k_bound c.start.ensures (search rules) c.requires.sourced c.axpy.ensures

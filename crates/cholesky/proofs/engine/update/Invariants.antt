@@ -1,10 +1,10 @@
 -- `engine::update` meets its contract. Assumes nothing.
-use Prim.Native.Nat.{◌-◌}
+use Rattle.std.proofs.Common.{◌≡◌, ◌%◌}
 use Rattle.cholesky.proofs.Columns.{Updating}
 use Rattle.cholesky.proofs.engine.update.Given as goal
 
 abbrev pub invariant-loop-k : goal.invariant-loop-k
-invariant-loop-k l = Updating l.y l.r l.j l.initial.a l.k l.a
+invariant-loop-k l = record { fours : l.k % 4 ≡ 0; updating : Updating l.y l.r l.j l.initial.a l.k l.a }
 
-abbrev pub decreases-loop-k : goal.decreases-loop-k
-decreases-loop-k l = l.j - l.k
+abbrev pub invariant-loop-k-2 : goal.invariant-loop-k-2
+invariant-loop-k-2 l = Updating l.y l.r l.j l.fn.a l.k l.a
